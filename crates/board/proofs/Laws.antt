@@ -1,0 +1,81 @@
+-- What a user of the layout relies on, for every size and both parities: ids and places undo each other, ids are exactly
+-- 0 to count − 1, no two places share one, and a marker has four corners exactly off the rim. Assumes nothing.
+use mathlib.Core.Path.{_≡_, sym, ap, _∙_}
+use mathlib.Core.Bool.{Bool}
+use Prim.Native.Nat.{ℕ, suc, _+_, _-_, _*_, _≤_, _<_}
+use native.Mathlib.Omega.{arith}
+use lib.Dec.{ltb, ltb→lt}
+use lib.Ieee.Fits.{and-l, and-r}
+use Rattle.board.specs.declared.Numbered.{Numbered}
+use Rattle.board.specs.declared.Numbered.the-variants as numbered
+use Rattle.board.specs.declared.Located.the-variants as located
+use Rattle.board.specs.declared.Surrounding.the-variants as surrounding
+use Rattle.board.specs.Numbering.{numberAt, placeOf, total}
+use Rattle.board.specs.Layout.{holds, inner, squareOf, allFour, around, fourCorners}
+use Rattle.board.proofs.Places.{Place, number-has, place-of-number, number-of-place, placed, unplaced, number-below, numbers-differ}
+use Rattle.board.proofs.Surroundings.{OffRim, off-rim}
+
+-- ---- ids
+pub record Numbering (t : ℕ → ℕ → Bool) (w h : ℕ) : Type 0 where
+  -- the place of an id and the id at a place undo each other
+  pub place-of : (i j id : ℕ) → numberAt t w h i j ≡ numbered.Id id → placeOf t w h id ≡ located.At i j
+  pub id-of : (i j id : ℕ) → placeOf t w h id ≡ located.At i j → numberAt t w h i j ≡ numbered.Id id
+  -- the ids are exactly 0 to count − 1
+  pub below : (i j id : ℕ) → numberAt t w h i j ≡ numbered.Id id → id < total t w h
+  pub known : (id : ℕ) → id < total t w h → Place t w h id
+  pub unknown : (id : ℕ) → total t w h ≤ id → placeOf t w h id ≡ located.Absent
+  -- no two places share an id
+  pub once : (i j i' j' id : ℕ) → numberAt t w h i j ≡ numbered.Id id → numberAt t w h i' j' ≡ numbered.Id id → (i ≡ i') × (j ≡ j')
+
+numbering : (t : ℕ → ℕ → Bool) (w h : ℕ) → Numbering t w h
+numbering t w h =
+    record {
+      place-of = λ i j id. place-of-number t w h id i j;
+      id-of = λ i j id. number-of-place t w h id i j;
+      below = λ i j id e. number-below t w h id i j (number-has t w h i j id e);
+      known = placed t w h;
+      unknown = unplaced t w h;
+      once = numbers-differ t w h;
+    }
+
+-- marker ids and squares; corner ids and board corners
+pub markers : (p rows cols : ℕ) → Numbering (holds p) cols rows
+markers p rows cols = numbering (holds p) cols rows
+
+pub corners : (rows cols : ℕ) → Numbering inner cols rows
+corners rows cols = numbering inner cols rows
+
+-- ---- the four corners of a marker on square (i, j)
+each-four : (x y z u : Numbered) (a b c d : ℕ) → allFour x y z u ≡ surrounding.Corners a b c d → (x ≡ numbered.Id a) × (y ≡ numbered.Id b) × (z ≡ numbered.Id c) × (u ≡ numbered.Id d)
+each-four (numbered.Id k) (numbered.Id l) (numbered.Id m) (numbered.Id n) a b c d e = (cc, cc, cc, cc)
+each-four (numbered.Id k) (numbered.Id l) (numbered.Id m) numbered.Absent a b c d e = let z : _≡_ {A = ℕ} 0 1 = cc in absurd (omega arith)
+each-four (numbered.Id k) (numbered.Id l) numbered.Absent u a b c d e = let z : _≡_ {A = ℕ} 0 1 = cc in absurd (omega arith)
+each-four (numbered.Id k) numbered.Absent z u a b c d e = let n : _≡_ {A = ℕ} 0 1 = cc in absurd (omega arith)
+each-four numbered.Absent y z u a b c d e = let n : _≡_ {A = ℕ} 0 1 = cc in absurd (omega arith)
+
+pub record Four (rows cols i j a b c d : ℕ) : Type 0 where
+  pub top-left : numberAt inner cols rows i j ≡ numbered.Id a
+  pub top-right : numberAt inner cols rows (suc i) j ≡ numbered.Id b
+  pub bottom-right : numberAt inner cols rows (suc i) (suc j) ≡ numbered.Id c
+  pub bottom-left : numberAt inner cols rows i (suc j) ≡ numbered.Id d
+
+module _ (p rows cols id i j : ℕ) (square : squareOf p rows cols id ≡ located.At i j) where
+  -- where there are four, they are the inner corners of the marker's square
+  pub four-are : (a b c d : ℕ) → fourCorners p rows cols id ≡ surrounding.Corners a b c d → Four rows cols i j a b c d
+  four-are a b c d e =
+      let corner = numberAt inner cols rows in
+      let f = each-four (corner i j) (corner (suc i) j) (corner (suc i) (suc j)) (corner i (suc j)) a b c d (sym (ap (around rows cols) square) ∙ e) in
+      record { top-left = f .0; top-right = f .1; bottom-right = f .2; bottom-left = f .3 }
+
+  -- and the square is off the rim
+  pub four-off-rim : (a b c d : ℕ) → fourCorners p rows cols id ≡ surrounding.Corners a b c d → OffRim rows cols i j
+  four-off-rim a b c d e =
+      let f = four-are a b c d e in
+      let first = number-has inner cols rows i j a (f .top-left) in
+      let third = number-has inner cols rows (suc i) (suc j) c (f .bottom-right) in
+      let y = first .passes in
+      record { left = ltb→lt 0 i (and-l (ltb 0 i) (ltb 0 j) y); top = ltb→lt 0 j (and-r (ltb 0 i) (ltb 0 j) y); right = third .column; bottom = third .row }
+
+  -- off the rim there are four
+  pub off-rim-four : OffRim rows cols i j → fourCorners p rows cols id ≡ surrounding.Corners ((j - 1) * (cols - 1) + (i - 1)) ((j - 1) * (cols - 1) + (i - 1) + 1) ((j - 1) * (cols - 1) + (i - 1) + (cols - 1) + 1) ((j - 1) * (cols - 1) + (i - 1) + (cols - 1))
+  off-rim-four o = ap (around rows cols) square ∙ off-rim rows cols i j o

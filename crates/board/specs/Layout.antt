@@ -1,0 +1,73 @@
+-- The layout of a ChArUco board, from OpenCV's ChArUco documents and document 01, Board. Squares (i, j): column i rightward, row j downward.
+use Prim.Native.Nat.{ℕ, suc, _+_, _%_}
+use mathlib.Core.Bool.{Bool, _&&_}
+use lib.IntN.{ℤ, pos}
+use lib.Dec.{ltb, eqb}
+use lib.Ieee.{Float, binary32, mul, ofInt}
+use Rattle.board.specs.declared.Numbered.{Numbered}
+use Rattle.board.specs.declared.Numbered.the-variants as numbered
+use Rattle.board.specs.declared.Located.{Located}
+use Rattle.board.specs.declared.Located.the-variants as located
+use Rattle.board.specs.declared.ObjectPoint.{ObjectPoint}
+use Rattle.board.specs.declared.ObjectPoint.the-variants as object
+use Rattle.board.specs.declared.Surrounding.{Surrounding}
+use Rattle.board.specs.declared.Surrounding.the-variants as surrounding
+use Rattle.board.specs.Numbering.{numberAt, numberAtℤ, total, placeOf}
+
+-- The squares that hold markers: those whose i + j has the parity p. On today's boards it is odd.
+abbrev pub holds : ℕ → ℕ → ℕ → Bool
+holds p i j = eqb ((i + j) % 2) p
+
+abbrev pub odd : ℕ
+odd = 1
+
+-- Markers are numbered row by row from 0.
+abbrev pub markerCount : ℕ → ℕ → ℕ → ℕ
+markerCount p rows cols = total (holds p) cols rows
+
+abbrev pub markerAt : ℕ → ℕ → ℕ → ℤ → ℤ → Numbered
+markerAt p rows cols = numberAtℤ (holds p) cols rows
+
+abbrev pub squareOf : ℕ → ℕ → ℕ → ℕ → Located
+squareOf p rows cols id = placeOf (holds p) cols rows id
+
+-- Corner (i, j) is the top left corner of square (i, j). The inner corners are those with 1 ≤ i < cols and 1 ≤ j < rows;
+-- they are numbered row by row from 0.
+abbrev pub inner : ℕ → ℕ → Bool
+inner i j = ltb 0 i && ltb 0 j
+
+abbrev pub cornerCount : ℕ → ℕ → ℕ
+cornerCount rows cols = total inner cols rows
+
+abbrev pub cornerAt : ℕ → ℕ → ℤ → ℤ → Numbered
+cornerAt rows cols = numberAtℤ inner cols rows
+
+abbrev pub cornerOf : ℕ → ℕ → ℕ → Located
+cornerOf rows cols id = placeOf inner cols rows id
+
+-- the point of inner corner (i, j) in the board's plane: f32 products
+abbrev pub pointOf : Float → Located → ObjectPoint
+pointOf size (located.At i j) =
+    object.At (mul binary32 (ofInt binary32 (pos i)) size) (mul binary32 (ofInt binary32 (pos j)) size)
+pointOf size located.Absent = object.Absent
+
+abbrev pub objectPoint : ℕ → ℕ → Float → ℕ → ObjectPoint
+objectPoint rows cols size id = pointOf size (cornerOf rows cols id)
+
+-- the four corners of a square: top left, top right, bottom right, bottom left, where each is an inner corner
+abbrev pub allFour : Numbered → Numbered → Numbered → Numbered → Surrounding
+allFour (numbered.Id a) (numbered.Id b) (numbered.Id c) (numbered.Id d) = surrounding.Corners a b c d
+allFour (numbered.Id a) (numbered.Id b) (numbered.Id c) numbered.Absent = surrounding.Absent
+allFour (numbered.Id a) (numbered.Id b) numbered.Absent d = surrounding.Absent
+allFour (numbered.Id a) numbered.Absent c d = surrounding.Absent
+allFour numbered.Absent b c d = surrounding.Absent
+
+abbrev pub around : ℕ → ℕ → Located → Surrounding
+around rows cols (located.At i j) =
+    let corner = numberAt inner cols rows in
+    allFour (corner i j) (corner (suc i) j) (corner (suc i) (suc j)) (corner i (suc j))
+around rows cols located.Absent = surrounding.Absent
+
+-- those of a marker's square
+abbrev pub fourCorners : ℕ → ℕ → ℕ → ℕ → Surrounding
+fourCorners p rows cols id = around rows cols (squareOf p rows cols id)

@@ -1,0 +1,3 @@
+pub mod Numbering
+pub mod Layout
+pub mod Questions

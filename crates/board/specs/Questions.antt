@@ -1,0 +1,59 @@
+-- Document 01, "The questions asked": the board's questions, 1 to 8 in order. The first no ends them with its refusal.
+use Prim.Native.Nat.{ℕ, _*_, _^_}
+use mathlib.Core.Bool.{Bool, true, false, _&&_}
+use mathlib.Core.List.{List, [], _∷_}
+use lib.Dec.{leb, ltb}
+use lib.ListN.{length}
+use lib.Ieee.{Float, binary32, ofBits, lt, le}
+use lib.Ieee.Scale.{finite}
+use Rattle.refusal.specs.declared.Refusal.{Refusal}
+use Rattle.refusal.specs.declared.Refusal.the-variants as refusal
+use Rattle.board.specs.declared.CharucoBoardSpec.{CharucoBoardSpec}
+use Rattle.board.specs.declared.Board.{Board}
+use Rattle.board.specs.declared.NewBoard.{NewBoard}
+use Rattle.board.specs.declared.NewBoard.the-variants as new
+use Rattle.board.specs.Layout.{markerCount, odd}
+
+-- a yes goes on to the next question
+abbrev pub ask : Bool → Refusal → NewBoard → NewBoard
+ask true refused next = next
+ask false refused next = new.Refused refused
+
+-- Are rows and cols at least 2?
+abbrev pub sizeAnswer : ℕ → ℕ → Bool
+sizeAnswer rows cols = leb 2 rows && leb 2 cols
+
+-- Is cell_size finite and above 0?
+abbrev pub cellSizeAnswer : Float → Bool
+cellSizeAnswer x = finite x && lt (ofBits binary32 0) x
+
+-- Is marker_size_rel finite, above 0, at most 1? (1 is the f32 3F800000.)
+abbrev pub markerSizeAnswer : Float → Bool
+markerSizeAnswer x = cellSizeAnswer x && le x (ofBits binary32 0x3F800000)
+
+-- Are rows and cols at most 32, border at most 4, bits 1 to 8, codes at most 1,024?
+abbrev pub rangeAnswer : CharucoBoardSpec → ℕ → Bool
+rangeAnswer s codes =
+    leb (s .rows) 32 && (leb (s .cols) 32 && (leb (s .«border_bits») 4 && (leb 1 (s .bits) && (leb (s .bits) 8 && leb codes 1024))))
+
+-- Is every code below 2^(bits²)?
+abbrev pub codesAnswer : ℕ → List ℕ → Bool
+codesAnswer bits [] = true
+codesAnswer bits (code ∷ codes) = ltb code (2 ^ (bits * bits)) && codesAnswer bits codes
+
+-- the board of a specification that no question refuses
+abbrev pub boardOf : CharucoBoardSpec → Board
+boardOf s =
+    record { rows = s .rows; cols = s .cols; bits = s .bits; «border_bits» = s .«border_bits»; «cell_size» = s .«cell_size»; «marker_size_rel» = s .«marker_size_rel» }
+
+unfoldable pub newBoard : CharucoBoardSpec → List ℕ → NewBoard
+newBoard s codes =
+    ask (sizeAnswer (s .rows) (s .cols)) refusal.InvalidSize
+    (ask (cellSizeAnswer (s .«cell_size»)) refusal.InvalidCellSize
+    (ask (markerSizeAnswer (s .«marker_size_rel»)) refusal.InvalidMarkerSizeRel
+    (ask (leb 1 (s .«border_bits»)) refusal.InvalidBorderBits
+    (ask (ltb 0 (length codes)) refusal.EmptyDictionary
+    (ask (rangeAnswer s (length codes)) refusal.BoardOutOfRange
+    (ask (leb (markerCount odd (s .rows) (s .cols)) (length codes)) (refusal.NotEnoughDictionaryCodes (markerCount odd (s .rows) (s .cols)) (length codes))
+    (ask (codesAnswer (s .bits) codes) refusal.CodeOutOfRange
+    (new.Made (boardOf s)))))))))

@@ -1,0 +1,164 @@
+// The ChArUco board (board.rs): the questions 1 to 8, and the layout as formulas on a board value.
+// Leans on `refusal` and `floats`.
+ghost use mathlib.Core.Path.{_≡_};
+ghost use Rattle.board.specs.Layout.{odd, markerCount, markerAt, squareOf, cornerCount, cornerAt, cornerOf, objectPoint, fourCorners};
+ghost use Rattle.board.specs.Questions.{newBoard};
+
+mod layout;
+mod questions;
+
+use refusal::Refusal;
+
+// What a board is asked for. `bits` is the side of its codes.
+pub struct CharucoBoardSpec {
+    pub rows: u32,
+    pub cols: u32,
+    pub bits: u32,
+    pub border_bits: u32,
+    pub cell_size: f32,
+    pub marker_size_rel: f32,
+}
+
+// A board that passed the questions. Its methods accept every board value all the same.
+pub struct Board {
+    pub rows: u8,
+    pub cols: u8,
+    pub bits: u8,
+    pub border_bits: u8,
+    pub cell_size: f32,
+    pub marker_size_rel: f32,
+}
+
+pub enum NewBoard {
+    Made(Board),
+    Refused(Refusal),
+}
+
+// The id of a marker or of a corner.
+pub enum Numbered {
+    Id(u32),
+    Absent,
+}
+
+// A square or a board corner.
+pub enum Located {
+    At { i: u32, j: u32 },
+    Absent,
+}
+
+pub enum ObjectPoint {
+    At { x: f32, y: f32 },
+    Absent,
+}
+
+// The ids of the four inner corners around a marker.
+pub enum Surrounding {
+    Corners {
+        top_left: u32,
+        top_right: u32,
+        bottom_right: u32,
+        bottom_left: u32,
+    },
+    Absent,
+}
+
+impl Board {
+    // A board from its specification and codes, or the first question that is answered with no.
+    pub fn new(spec: CharucoBoardSpec, codes: &[u64]) -> NewBoard
+        ensures { λ r. ⌜ r ≡ newBoard spec (now (codes .entry)) ⌝ }
+    {
+        if !questions::size(spec.rows, spec.cols) {
+            return NewBoard::Refused(Refusal::InvalidSize);
+        }
+        if !questions::cell_size(spec.cell_size) {
+            return NewBoard::Refused(Refusal::InvalidCellSize);
+        }
+        if !questions::marker_size_rel(spec.marker_size_rel) {
+            return NewBoard::Refused(Refusal::InvalidMarkerSizeRel);
+        }
+        if spec.border_bits < 1 {
+            return NewBoard::Refused(Refusal::InvalidBorderBits);
+        }
+        if codes.len() == 0 {
+            return NewBoard::Refused(Refusal::EmptyDictionary);
+        }
+        if !questions::range(spec, codes.len()) {
+            return NewBoard::Refused(Refusal::BoardOutOfRange);
+        }
+        let board = questions::board_of(spec);
+        let needed = board.marker_count();
+        let available = codes.len() as u32;
+        if available < needed {
+            return NewBoard::Refused(Refusal::NotEnoughDictionaryCodes { needed, available });
+        }
+        if !questions::codes(board.bits, codes) {
+            return NewBoard::Refused(Refusal::CodeOutOfRange);
+        }
+        NewBoard::Made(board)
+    }
+
+    pub fn marker_count(self) -> u32
+        ensures { λ r. ⌜ r ≡ markerCount odd (self .rows) (self .cols) ⌝ }
+    {
+        layout::marker_count(self.rows, self.cols)
+    }
+
+    // The marker on square (i, j).
+    pub fn marker_id_at(self, i: i32, j: i32) -> Numbered
+        ensures { λ r. ⌜ r ≡ markerAt odd (self .rows) (self .cols) i j ⌝ }
+    {
+        layout::marker_id(
+            self.rows,
+            self.cols,
+            layout::clip(i, self.cols),
+            layout::clip(j, self.rows),
+        )
+    }
+
+    // The square of a marker.
+    pub fn marker_position(self, id: u32) -> Located
+        ensures { λ r. ⌜ r ≡ squareOf odd (self .rows) (self .cols) id ⌝ }
+    {
+        layout::marker_square(self.rows, self.cols, id)
+    }
+
+    // The inner corner at board corner (i, j).
+    pub fn charuco_corner_id_from_board_corner(self, i: i32, j: i32) -> Numbered
+        ensures { λ r. ⌜ r ≡ cornerAt (self .rows) (self .cols) i j ⌝ }
+    {
+        layout::corner_id(
+            self.rows,
+            self.cols,
+            layout::clip(i, self.cols),
+            layout::clip(j, self.rows),
+        )
+    }
+
+    // How many inner corners there are.
+    pub fn corner_count(self) -> u32
+        ensures { λ r. ⌜ r ≡ cornerCount (self .rows) (self .cols) ⌝ }
+    {
+        layout::corner_count(self.rows, self.cols)
+    }
+
+    // The board corner of an inner corner's id.
+    pub fn board_corner(self, id: u32) -> Located
+        ensures { λ r. ⌜ r ≡ cornerOf (self .rows) (self .cols) id ⌝ }
+    {
+        layout::corner_place(self.rows, self.cols, id)
+    }
+
+    // The point of an inner corner in the board's plane.
+    pub fn charuco_object_xy(self, id: u32) -> ObjectPoint
+        ensures { λ r. ⌜ r ≡ objectPoint (self .rows) (self .cols) (self .«cell_size») id ⌝ }
+    {
+        layout::object_point(self.rows, self.cols, self.cell_size, id)
+    }
+
+    // The four inner corners around a marker: none for a marker on the rim or an unknown one.
+    pub fn marker_surrounding_charuco_corners(self, id: u32) -> Surrounding
+        ensures { λ r. ⌜ r ≡ fourCorners odd (self .rows) (self .cols) id ⌝ }
+    {
+        layout::surrounding(self.rows, self.cols, id)
+    }
+}

@@ -1,0 +1,75 @@
+// The answers to the questions 1 to 8 of document 01 that are more than one comparison, and the board that passed them.
+ghost use mathlib.Core.Path.{_≡_};
+ghost use Prim.Native.Nat.{_≤_};
+ghost use Rattle.board.specs.Questions.{sizeAnswer, cellSizeAnswer, markerSizeAnswer, rangeAnswer, codesAnswer, boardOf};
+use super::Board;
+use super::CharucoBoardSpec;
+
+pub fn size(rows: u32, cols: u32) -> bool
+    ensures { λ r. ⌜ r ≡ sizeAnswer rows cols ⌝ }
+{
+    2 <= rows && 2 <= cols
+}
+
+pub fn cell_size(x: f32) -> bool
+    ensures { λ r. ⌜ r ≡ cellSizeAnswer x ⌝ }
+{
+    floats::is_finite(x) && 0.0 < x
+}
+
+pub fn marker_size_rel(x: f32) -> bool
+    ensures { λ r. ⌜ r ≡ markerSizeAnswer x ⌝ }
+{
+    cell_size(x) && x <= 1.0
+}
+
+pub fn range(spec: CharucoBoardSpec, codes: usize) -> bool
+    ensures { λ r. ⌜ r ≡ rangeAnswer spec codes ⌝ }
+{
+    if 32 < spec.rows {
+        return false;
+    }
+    if 32 < spec.cols {
+        return false;
+    }
+    if 4 < spec.border_bits {
+        return false;
+    }
+    if spec.bits < 1 {
+        return false;
+    }
+    if 8 < spec.bits {
+        return false;
+    }
+    codes <= 1024
+}
+
+// Is every code below 2^(bits²)?
+pub fn codes(bits: u8, codes: &[u64]) -> bool
+    requires { ⌜ (1 ≤ bits) × (bits ≤ 8) ⌝ }
+    ensures { λ r. ⌜ r ≡ codesAnswer bits (now (codes .entry)) ⌝ }
+{
+    let top = (bits as u64) * (bits as u64) - 1;
+    let mut k = 0;
+    while k < codes.len() {
+        if codes[k] >> top > 1 {
+            return false;
+        }
+        k += 1;
+    }
+    true
+}
+
+pub fn board_of(spec: CharucoBoardSpec) -> Board
+    requires { ⌜ (spec .rows ≤ 32) × (spec .cols ≤ 32) × (spec .bits ≤ 8) × (spec .«border_bits» ≤ 4) ⌝ }
+    ensures { λ r. ⌜ r ≡ boardOf spec ⌝ }
+{
+    Board {
+        rows: spec.rows as u8,
+        cols: spec.cols as u8,
+        bits: spec.bits as u8,
+        border_bits: spec.border_bits as u8,
+        cell_size: spec.cell_size,
+        marker_size_rel: spec.marker_size_rel,
+    }
+}

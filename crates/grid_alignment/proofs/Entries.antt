@@ -1,0 +1,84 @@
+-- The entries of the turns' matrices: their size, what they make of a point, and the least point of the turned unit square.
+-- Assumes nothing.
+use mathlib.Core.Path.{_≡_, refl, ap₂}
+use Prim.Native.Nat.{ℕ, zero, suc, _+_, _*_, _≤_, _<_}
+use native.Mathlib.Omega.{arith}
+use lib.IntN.{ℤ, pos, negsuc, negℤ, natAbs, _+ℤ_, _*ℤ_}
+use Rattle.integers.proofs.Parts.{plus, minus, ext, add-is, mul-is, plus-neg, minus-neg, abs-neg}
+use Rattle.integers.proofs.Words.{word}
+use Rattle.grid_alignment.specs.declared.Coord.{Coord}
+use Rattle.grid_alignment.specs.declared.Matrix.{Matrix}
+use Rattle.grid_alignment.specs.Alignment.{point, sends, matrixOf, least, lowest}
+
+-- what holds at each turn
+pub each : (P : ℕ → Type 0) → P 0 → P 1 → P 2 → P 3 → (r : ℕ) → r < 4 → P r
+each P a b c d zero h = a
+each P a b c d (suc zero) h = b
+each P a b c d (suc (suc zero)) h = c
+each P a b c d (suc (suc (suc zero))) h = d
+each P a b c d (suc (suc (suc (suc r)))) h = absurd (omega arith)
+
+-- ---- the entries as factors
+abbrev pub Small : Matrix → Type 0
+Small m =
+    ((natAbs (word (m .a)) ≤ 1) × (natAbs (word (m .b)) ≤ 1))
+    × ((natAbs (word (m .c)) ≤ 1) × (natAbs (word (m .d)) ≤ 1))
+
+pub entries-small : (r : ℕ) → Small (matrixOf r)
+unfolding matrixOf
+entries-small zero = omega arith
+entries-small (suc zero) = omega arith
+entries-small (suc (suc zero)) = omega arith
+entries-small (suc (suc (suc r))) = omega arith
+
+-- a x + b y is z
+combination : (a b x y z : ℤ) → plus z + (plus a * minus x + minus a * plus x + (plus b * minus y + minus b * plus y)) ≡ minus z + (plus a * plus x + minus a * minus x + (plus b * plus y + minus b * minus y)) → a *ℤ x +ℤ b *ℤ y ≡ z
+combination a b x y z h =
+    ext (a *ℤ x +ℤ b *ℤ y) z (omega (arith, mul-is a x, mul-is b y, add-is (a *ℤ x) (b *ℤ y)))
+
+-- what the entries, each read from a word, make of a point
+abbrev pub combined : Matrix → ℤ → ℤ → Coord
+combined m x y =
+    point (word (m .a) *ℤ x +ℤ word (m .b) *ℤ y) (word (m .c) *ℤ x +ℤ word (m .d) *ℤ y)
+
+pub combined-is : (r : ℕ) (x y : ℤ) → combined (matrixOf r) x y ≡ sends r (point x y)
+unfolding matrixOf sends plus minus
+combined-is zero x y =
+    ap₂ point (combination (pos 1) (pos 0) x y x (omega arith)) (combination (pos 0) (pos 1) x y y (omega arith))
+combined-is (suc zero) x y =
+    ap₂ point (combination (pos 0) (pos 1) x y y (omega arith))
+    (combination (negsuc 0) (pos 0) x y (negℤ x) (omega (arith, plus-neg x, minus-neg x)))
+combined-is (suc (suc zero)) x y =
+    ap₂ point (combination (negsuc 0) (pos 0) x y (negℤ x) (omega (arith, plus-neg x, minus-neg x)))
+    (combination (pos 0) (negsuc 0) x y (negℤ y) (omega (arith, plus-neg y, minus-neg y)))
+combined-is (suc (suc (suc r))) x y =
+    ap₂ point (combination (pos 0) (negsuc 0) x y (negℤ y) (omega (arith, plus-neg y, minus-neg y)))
+    (combination (pos 1) (pos 0) x y x (omega arith))
+
+-- a turn makes no coordinate larger
+pub sends-small : (r n : ℕ) (p : Coord) → natAbs (p .u) ≤ n → natAbs (p .v) ≤ n → (natAbs (sends r p .u) ≤ n) × (natAbs (sends r p .v) ≤ n)
+unfolding sends
+sends-small zero n p hu hv = (hu, hv)
+sends-small (suc zero) n p hu hv = (hv, rw abs-neg hu)
+sends-small (suc (suc zero)) n p hu hv = (rw abs-neg hu, rw abs-neg hv)
+sends-small (suc (suc (suc r))) n p hu hv = (rw abs-neg hv, hu)
+
+-- ---- the least point of the turned unit square, from the entries
+abbrev pub minima : Matrix → Coord
+minima m =
+    point (word (least (word (m .a)) (pos 0)) +ℤ word (least (word (m .b)) (pos 0)))
+    (word (least (word (m .c)) (pos 0)) +ℤ word (least (word (m .d)) (pos 0)))
+
+pub minima-is : (r : ℕ) → minima (matrixOf r) ≡ lowest 1 r
+unfolding matrixOf lowest
+minima-is zero = refl
+minima-is (suc zero) = refl
+minima-is (suc (suc zero)) = refl
+minima-is (suc (suc (suc r))) = refl
+
+pub lowest-small : (r : ℕ) → (natAbs (lowest 1 r .u) ≤ 1) × (natAbs (lowest 1 r .v) ≤ 1)
+unfolding lowest
+lowest-small zero = omega arith
+lowest-small (suc zero) = omega arith
+lowest-small (suc (suc zero)) = omega arith
+lowest-small (suc (suc (suc r))) = omega arith

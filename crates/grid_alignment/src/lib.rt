@@ -1,0 +1,106 @@
+// Quarter turns of the grid (grid_alignment.rs; `rotate_gc_top_left` of emit.rs). A grid point comes as two i16, as the record
+// holds it; results are i32, as the Rust's `Coord`. Leans on `integers`, and for the laws of codes on `matcher`.
+ghost use mathlib.Core.Path.{_≡_};
+ghost use Prim.Native.Nat.{_%_, _^_, _≤_};
+ghost use lib.IntN.{natAbs};
+ghost use Rattle.grid_alignment.specs.Alignment.{point, sends, matrixOf, applied, corner, cornerAlignment, rectCorners};
+
+pub struct Coord {
+    pub u: i32,
+    pub v: i32,
+}
+
+// A turn and a translation: of cells or of corners.
+pub struct GridAlignment {
+    pub turn: u8,
+    pub tx: i32,
+    pub ty: i32,
+}
+
+// (u, v) goes to (a u + b v, c u + d v).
+pub struct Matrix {
+    pub a: i32,
+    pub b: i32,
+    pub c: i32,
+    pub d: i32,
+}
+
+const TURNS: [[i32; 4]; 4] = [[1, 0, 0, 1], [0, 1, -1, 0], [-1, 0, 0, -1], [0, -1, 1, 0]];
+
+pub fn turn_matrix(turn: u8) -> Matrix
+    ensures { λ r. ⌜ r ≡ matrixOf (turn % 4) ⌝ }
+{
+    let r = (turn % 4) as usize;
+    let row = TURNS[r];
+    Matrix {
+        a: row[0],
+        b: row[1],
+        c: row[2],
+        d: row[3],
+    }
+}
+
+pub fn turned(turn: u8, u: i16, v: i16) -> Coord
+    ensures { λ r. ⌜ r ≡ sends (turn % 4) (point u v) ⌝ }
+{
+    let m = turn_matrix(turn);
+    Coord {
+        u: integers::combine(m.a, m.b, u, v),
+        v: integers::combine(m.c, m.d, u, v),
+    }
+}
+
+impl GridAlignment {
+    // Where the alignment puts a grid point.
+    pub fn apply(self, u: i16, v: i16) -> Coord
+        requires { ⌜ (natAbs (self .tx) ≤ 2 ^ 30) × (natAbs (self .ty) ≤ 2 ^ 30) ⌝ }
+        ensures { λ r. ⌜ r ≡ applied self (point u v) ⌝ }
+    {
+        let p = turned(self.turn, u, v);
+        Coord {
+            u: p.u + self.tx,
+            v: p.v + self.ty,
+        }
+    }
+
+    // The alignment of the corners, from that of the cells.
+    pub fn cell_to_corner_alignment(self) -> GridAlignment
+        requires { ⌜ (natAbs (self .tx) ≤ 2 ^ 30) × (natAbs (self .ty) ≤ 2 ^ 30) ⌝ }
+        ensures { λ r. ⌜ r ≡ cornerAlignment self ⌝ }
+    {
+        let m = turn_matrix(self.turn);
+        let ou = integers::min(m.a, 0) + integers::min(m.b, 0);
+        let ov = integers::min(m.c, 0) + integers::min(m.d, 0);
+        GridAlignment {
+            turn: self.turn,
+            tx: self.tx - ou,
+            ty: self.ty - ov,
+        }
+    }
+}
+
+// The corner of a cell that a turn makes its top left one.
+pub fn rotate_gc_top_left(u: i16, v: i16, turn: u8) -> Coord
+    ensures { λ r. ⌜ r ≡ corner (turn % 4) (point u v) ⌝ }
+{
+    let x = u as i32;
+    let y = v as i32;
+    let rot = turn % 4;
+    match rot {
+        0 => Coord { u: x, v: y },
+        1 => Coord { u: x + 1, v: y },
+        2 => Coord { u: x + 1, v: y + 1 },
+        _ => Coord { u: x, v: y + 1 },
+    }
+}
+
+// The corners of a cell in the rectified picture, where a cell is `px_per_cell` wide: top left, top right, bottom right,
+// bottom left.
+pub fn cell_rect_corners_at(u: i16, v: i16, px_per_cell: f32) -> [[f32; 2]; 4]
+    ensures { λ r. ⌜ r ≡ rectCorners u v «px_per_cell» ⌝ }
+{
+    let x0 = u as f32 * px_per_cell;
+    let y0 = v as f32 * px_per_cell;
+    let s = px_per_cell;
+    [[x0, y0], [x0 + s, y0], [x0 + s, y0 + s], [x0, y0 + s]]
+}

@@ -1,0 +1,131 @@
+-- The laws of turned codes, for every side and any number of turns. Assumes nothing.
+use mathlib.Core.Path.{_≡_, refl, sym, ap, _∙_}
+use Prim.Native.Nat.{ℕ, zero, suc, _+_, _*_, _%_, _^_, _≤_, _<_}
+use native.Mathlib.Nat.{mod-lt, mod-mod, suc-mod, suc-add, zero-add, mod-eq-of-lt, div-lt-iff-lt-mul, div-add-mod', mul-le-mul, lt-of-lt-of-le}
+use native.Mathlib.Omega.{arith}
+use lib.Dec.{lit<}
+use lib.Arith.{digits-lt, digits-div, digits-mod}
+use lib.Pow.{pow-mono, shl-exact}
+use Rattle.matcher.specs.declared.Place.{Place}
+use Rattle.matcher.specs.Codes.{bit, fromBits, placeOf, indexOf, source, sourceBit, turnedBit, turned}
+use Rattle.matcher.proofs.Bits.{bit-small, from-ext, from-below, bit-from, from-bits}
+
+-- a place of a code of side n
+pub record Inside (n : ℕ) (p : Place) : Type 0 where
+  pub column : p .x < n
+  pub row : p .y < n
+
+same : {a b c d : ℕ} → a ≡ c → b ≡ d → _≡_ {A = Place} (record { x = a; y = b }) (record { x = c; y = d })
+same p q = λ i. record { x = p i; y = q i }
+
+side-pos : (n k : ℕ) → k < n * n → 0 < n
+side-pos zero k h = absurd (omega arith)
+side-pos (suc n) k h = omega arith
+
+pub place-inside : (n k : ℕ) → k < n * n → Inside n (placeOf n k)
+place-inside n k h =
+    record { column = mod-lt k (side-pos n k h); row = div-lt-iff-lt-mul (side-pos n k h) .1 h }
+
+pub index-below : (n : ℕ) (p : Place) → Inside n p → indexOf n p < n * n
+index-below n p h = digits-lt (h .row) (h .column)
+
+pub place-index : (n : ℕ) (p : Place) → Inside n p → placeOf n (indexOf n p) ≡ p
+place-index n p h = same (digits-mod (p .y) (h .column)) (digits-div (p .y) (h .column))
+
+pub source-inside : (n r : ℕ) (p : Place) → Inside n p → Inside n (source n r p)
+unfolding source
+source-inside n zero p h = h
+source-inside n (suc zero) p h = omega (arith, h .column, h .row)
+source-inside n (suc (suc zero)) p h = omega (arith, h .column, h .row)
+source-inside n (suc (suc (suc r))) p h = omega (arith, h .column, h .row)
+
+-- one more turn
+step : (n r : ℕ) (p : Place) → Inside n p → source n (suc r % 4) p ≡ source n 1 (source n (r % 4) p)
+unfolding source
+step n r p h = ap (λ (m : ℕ). source n m p) (suc-mod r 4) ∙ go (r % 4) (mod-lt r (lit< tt))
+  where
+    go : (m : ℕ) → m < 4 → source n (suc m % 4) p ≡ source n 1 (source n m p)
+    go zero l = refl
+    go (suc zero) l = refl
+    go (suc (suc zero)) l = same refl (omega (arith, h .column))
+    go (suc (suc (suc zero))) l = same refl (omega (arith, h .row))
+    go (suc (suc (suc (suc m)))) l = absurd (omega arith)
+
+sources : (n r s : ℕ) (p : Place) → Inside n p → source n (r % 4) (source n (s % 4) p) ≡ source n ((r + s) % 4) p
+unfolding source
+sources n zero s p h = ap (λ (m : ℕ). source n (m % 4) p) (sym (zero-add s))
+sources n (suc r) s p h =
+    step n r (source n (s % 4) p) (source-inside n (s % 4) p h) ∙ ap (source n 1) (sources n r s p h)
+    ∙ sym (step n (r + s) p h) ∙ ap (λ (m : ℕ). source n (m % 4) p) (sym (suc-add r s))
+
+pub source-bit-below : (n r k : ℕ) → k < n * n → sourceBit n r k < n * n
+source-bit-below n r k h = index-below n (source n r (placeOf n k)) (source-inside n r (placeOf n k) (place-inside n k h))
+
+source-bits : (n r s k : ℕ) → k < n * n → sourceBit n (r % 4) (sourceBit n (s % 4) k) ≡ sourceBit n ((r + s) % 4) k
+source-bits n r s k h =
+    let p = placeOf n k in
+    let i = place-inside n k h in
+    ap (λ (q : Place). indexOf n (source n (r % 4) q)) (place-index n (source n (s % 4) p) (source-inside n (s % 4) p i))
+    ∙ ap (indexOf n) (sources n r s p i)
+
+-- document 01's sentence: bit y × n + x of the turned code is bit sy × n + sx of the code
+pub bit-turned : (n r c k : ℕ) → k < n * n → bit (turned n r c) k ≡ turnedBit n r c k
+bit-turned n r c k h = bit-from (turnedBit n r c) (λ j. bit-small c (sourceBit n (r % 4) j)) (n * n) k h
+
+-- turning keeps the range
+pub bits-below : (n r c k : ℕ) → fromBits (turnedBit n r c) k < 2 ^ k
+bits-below n r c k = from-below (turnedBit n r c) (λ j. bit-small c (sourceBit n (r % 4) j)) k
+
+pub turned-below : (n r c : ℕ) → turned n r c < 2 ^ (n * n)
+turned-below n r c = bits-below n r c (n * n)
+
+-- turning by r and then by s is turning by r + s, where four turns are none
+pub turned-turned : (n r s c : ℕ) → turned n s (turned n r c) ≡ turned n (r + s) c
+turned-turned n r s c =
+    from-ext (turnedBit n s (turned n r c)) (turnedBit n (r + s) c) (n * n)
+    (λ k h. bit-turned n r c (sourceBit n (s % 4) k) (source-bit-below n (s % 4) k h) ∙ ap (bit c) (source-bits n r s k h))
+
+pub turns-mod : (n r c : ℕ) → turned n (r % 4) c ≡ turned n r c
+turns-mod n r c = ap (λ (m : ℕ). fromBits (λ k. bit c (sourceBit n m k)) (n * n)) (mod-mod r 4)
+
+-- no turn leaves a code of the side as it is
+pub turned-none : (n c : ℕ) → c < 2 ^ (n * n) → turned n 0 c ≡ c
+unfolding source
+turned-none n c h =
+    from-ext (turnedBit n 0 c) (bit c) (n * n) (λ k l. ap (bit c) (div-add-mod' k n)) ∙ from-bits c (n * n) ∙ mod-eq-of-lt h
+
+-- and so do four
+pub four-turns : (n c : ℕ) → c < 2 ^ (n * n) → turned n 1 (turned n 1 (turned n 1 (turned n 1 c))) ≡ c
+four-turns n c h =
+    turned-turned n 1 1 (turned n 1 (turned n 1 c)) ∙ turned-turned n 1 2 (turned n 1 c) ∙ turned-turned n 1 3 c
+    ∙ turned-none n c h
+
+-- ---- in a word of 64 bits: row y, column x of a code whose side is at most 8
+module _ (code n turns x y : ℕ) (small : n ≤ 8) (row : y < n) (column : x < n) where
+  abbrev here : Place
+  here = record { x = x; y = y }
+
+  pub rank-small : y * n + x < 64
+  rank-small = lt-of-lt-of-le (digits-lt row column) (mul-le-mul small small)
+
+  -- the place that its bit is read from
+  pub source-here : indexOf n (source n (turns % 4) here) ≡ sourceBit n (turns % 4) (y * n + x)
+  source-here = ap (λ (p : Place). indexOf n (source n (turns % 4) p)) (sym (place-index n here (record { column = column; row = row })))
+
+  pub source-small : indexOf n (source n (turns % 4) here) < 64
+  source-small =
+      lt-of-lt-of-le (index-below n (source n (turns % 4) here) (source-inside n (turns % 4) here (record { column = column; row = row }))) (mul-le-mul small small)
+
+  -- the sum that adds its bit
+  pub next-bit : fromBits (turnedBit n turns code) (y * n + x) + bit code (indexOf n (source n (turns % 4) here)) * 2 ^ (y * n + x) % 2 ^ 64 ≡ fromBits (turnedBit n turns code) (y * n + (x + 1))
+  unfolding fromBits
+  next-bit =
+      let k = y * n + x in
+      let past : y * n + (x + 1) ≡ suc k = omega arith in
+      ap (λ (b : ℕ). fromBits (turnedBit n turns code) k + bit code b * 2 ^ k % 2 ^ 64) source-here
+      ∙ ap (λ (b : ℕ). fromBits (turnedBit n turns code) k + b) (shl-exact 1 k 64 (bit-small code (sourceBit n (turns % 4) k)) (omega (arith, rank-small)))
+      ∙ ap (fromBits (turnedBit n turns code)) (sym past)
+
+  pub next-below : fromBits (turnedBit n turns code) (y * n + (x + 1)) < 2 ^ 64
+  next-below =
+      lt-of-lt-of-le (bits-below n turns code (y * n + (x + 1))) (pow-mono {j = 64} (omega (arith, rank-small)))

@@ -1,0 +1,75 @@
+-- The one number by which each answer of the library is told.
+use Prim.Native.Nat.{ℕ, zero, suc, _+_, _*_}
+use mathlib.Core.List.{[]}
+use lib.ListN.{getD}
+use lib.IntN.{ℤ}
+use lib.Ieee.{Float, nan}
+use Rattle.grid_alignment.specs.declared.Coord.{Coord}
+use Rattle.grid_alignment.specs.Alignment.{point, cornerAlignment, rectCorners}
+use Rattle.refusal.specs.Numbers.{numberOf, valuesOf}
+use Rattle.board.specs.declared.CharucoBoardSpec.{CharucoBoardSpec}
+use Rattle.board.specs.declared.NewBoard.{NewBoard}
+use Rattle.board.specs.declared.NewBoard.the-variants as new
+use Rattle.board.specs.declared.Numbered.{Numbered}
+use Rattle.board.specs.declared.Numbered.the-variants as numbered
+use Rattle.board.specs.declared.Located.{Located}
+use Rattle.board.specs.declared.Located.the-variants as located
+use Rattle.board.specs.declared.ObjectPoint.{ObjectPoint}
+use Rattle.board.specs.declared.ObjectPoint.the-variants as object
+use Rattle.board.specs.declared.Surrounding.{Surrounding}
+use Rattle.board.specs.declared.Surrounding.the-variants as surrounding
+
+-- 2^64 − 1
+abbrev pub absent : ℕ
+absent = 18446744073709551615
+
+-- axis 0 is u, every other one v
+abbrev pub axisOf : Coord → ℕ → ℤ
+axisOf p zero = p .u
+axisOf p (suc k) = p .v
+
+-- the translation of the corners' alignment, from that of the cells'
+abbrev pub cornerTranslation : ℕ → ℤ → ℤ → Coord
+cornerTranslation turn tx ty =
+    let a = cornerAlignment (record { turn = turn; tx = tx; ty = ty }) in
+    point (a .tx) (a .ty)
+
+abbrev pub rectCorner : ℤ → ℤ → Float → ℕ → ℕ → Float
+rectCorner u v px k axis = getD (getD (rectCorners u v px) k []) axis nan
+
+-- what a new board is asked for
+abbrev pub asked : ℕ → ℕ → ℕ → ℕ → Float → Float → CharucoBoardSpec
+asked rows cols bits border size marker =
+    record { rows = rows; cols = cols; bits = bits; «border_bits» = border; «cell_size» = size; «marker_size_rel» = marker }
+
+-- 0 for a board that is made, else the number of its refusal
+abbrev pub answerNumber : NewBoard → ℕ
+answerNumber (new.Made board) = 0
+answerNumber (new.Refused refusal) = numberOf refusal
+
+-- the values that a refusal gives
+abbrev pub answerValue : NewBoard → ℕ → ℕ
+answerValue (new.Made board) k = 0
+answerValue (new.Refused refusal) k = getD (valuesOf refusal) k 0
+
+abbrev pub idWord : Numbered → ℕ
+idWord (numbered.Id n) = n
+idWord numbered.Absent = absent
+
+abbrev pub placeWord : Located → ℕ
+placeWord (located.At i j) = j * 65536 + i
+placeWord located.Absent = absent
+
+-- axis 0 is x, every other one y
+abbrev pub axisOfPoint : ObjectPoint → ℕ → Float
+axisOfPoint (object.At x y) zero = x
+axisOfPoint (object.At x y) (suc k) = y
+axisOfPoint object.Absent axis = nan
+
+-- corners 0 to 3 are top left, top right, bottom right, bottom left
+abbrev pub cornerWord : Surrounding → ℕ → ℕ
+cornerWord (surrounding.Corners a b c d) zero = a
+cornerWord (surrounding.Corners a b c d) (suc zero) = b
+cornerWord (surrounding.Corners a b c d) (suc (suc zero)) = c
+cornerWord (surrounding.Corners a b c d) (suc (suc (suc k))) = d
+cornerWord surrounding.Absent k = absent

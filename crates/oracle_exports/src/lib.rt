@@ -1,0 +1,305 @@
+// The C functions by which the Rust oracle asks our library, one number each. For tests only.
+// Every function accepts every number. Leans on `refusal`, `matcher`, `grid_alignment` and `board`, and for a proof on
+// `integers`.
+ghost use mathlib.Core.Path.{_≡_};
+ghost use Prim.Native.Nat.{_%_};
+ghost use Rattle.matcher.specs.Codes.{turnedWord, differing};
+ghost use Rattle.grid_alignment.specs.Alignment.{point, sends, corner};
+ghost use Rattle.board.specs.Layout.{odd, markerCount, markerAt, squareOf, cornerAt, cornerOf, objectPoint, fourCorners};
+ghost use Rattle.board.specs.Questions.{newBoard};
+ghost use Rattle.oracle_exports.specs.Words.{axisOf, cornerTranslation, rectCorner, asked, answerNumber, answerValue, idWord, placeWord, axisOfPoint, cornerWord};
+use board::Board;
+use board::CharucoBoardSpec;
+use board::Located;
+use board::NewBoard;
+use board::Numbered;
+use board::ObjectPoint;
+use board::Surrounding;
+use grid_alignment::Coord;
+use grid_alignment::GridAlignment;
+
+// Says that there is no id and no place.
+const ABSENT: u64 = 18446744073709551615;
+
+#[no_mangle]
+pub extern "C" fn oracle_rotate_code_u64(code: u64, n: u8, turn: u8) -> u64
+    ensures { λ r. ⌜ r ≡ turnedWord n turn code ⌝ }
+{
+    matcher::rotate_code_u64(code, n, turn)
+}
+
+#[no_mangle]
+pub extern "C" fn oracle_differing_bits(a: u64, b: u64) -> u32
+    ensures { λ r. ⌜ r ≡ differing 64 a b ⌝ }
+{
+    matcher::differing_bits(a, b)
+}
+
+// Axis 0 is u, every other one v.
+fn along(p: Coord, axis: u8) -> i32
+    ensures { λ r. ⌜ r ≡ axisOf p axis ⌝ }
+{
+    if axis == 0 {
+        return p.u;
+    }
+    p.v
+}
+
+#[no_mangle]
+pub extern "C" fn oracle_turned(turn: u8, u: i16, v: i16, axis: u8) -> i32
+    ensures { λ r. ⌜ r ≡ axisOf (sends (turn % 4) (point u v)) axis ⌝ }
+{
+    along(grid_alignment::turned(turn, u, v), axis)
+}
+
+#[no_mangle]
+pub extern "C" fn oracle_corner_translation(turn: u8, tx: i16, ty: i16, axis: u8) -> i32
+    ensures { λ r. ⌜ r ≡ axisOf (cornerTranslation turn tx ty) axis ⌝ }
+{
+    let cells = GridAlignment {
+        turn,
+        tx: tx as i32,
+        ty: ty as i32,
+    };
+    let corners = cells.cell_to_corner_alignment();
+    along(
+        Coord {
+            u: corners.tx,
+            v: corners.ty,
+        },
+        axis,
+    )
+}
+
+// Corners 0 to 3 are top left, top right, bottom right, bottom left.
+#[no_mangle]
+pub extern "C" fn oracle_cell_rect_corner(u: i16, v: i16, px: f32, corner: u8, axis: u8) -> f32
+    ensures { λ r. ⌜ r ≡ rectCorner u v px (corner % 4) (axis % 2) ⌝ }
+{
+    let corners = grid_alignment::cell_rect_corners_at(u, v, px);
+    let k = (corner % 4) as usize;
+    let a = (axis % 2) as usize;
+    corners[k][a]
+}
+
+fn asked_board(
+    rows: u32,
+    cols: u32,
+    bits: u32,
+    border_bits: u32,
+    cell_size: f32,
+    marker_size_rel: f32,
+    codes: &[u64],
+) -> NewBoard
+    ensures { λ r. ⌜ r ≡ newBoard (asked rows cols bits «border_bits» «cell_size» «marker_size_rel») (now (codes .entry)) ⌝ }
+{
+    let spec = CharucoBoardSpec {
+        rows,
+        cols,
+        bits,
+        border_bits,
+        cell_size,
+        marker_size_rel,
+    };
+    Board::new(spec, codes)
+}
+
+fn number_of(answer: NewBoard) -> u32
+    ensures { λ r. ⌜ r ≡ answerNumber answer ⌝ }
+{
+    match answer {
+        NewBoard::Made(_) => 0,
+        NewBoard::Refused(refusal) => refusal.number(),
+    }
+}
+
+// The value at place `k` of those that the answer gives.
+fn value_of(answer: NewBoard, k: usize) -> u32
+    ensures { λ r. ⌜ r ≡ answerValue answer k ⌝ }
+{
+    match answer {
+        NewBoard::Made(_) => 0,
+        NewBoard::Refused(refusal) => refusal.value(k),
+    }
+}
+
+// 0 for a board that is made, else the number of its refusal.
+#[no_mangle]
+pub extern "C" fn oracle_board_new(
+    rows: u32,
+    cols: u32,
+    bits: u32,
+    border_bits: u32,
+    cell_size: f32,
+    marker_size_rel: f32,
+    codes: &[u64],
+) -> u32
+    ensures { λ r. ⌜ r ≡ answerNumber (newBoard (asked rows cols bits «border_bits» «cell_size» «marker_size_rel») (now (codes .entry))) ⌝ }
+{
+    number_of(asked_board(
+        rows,
+        cols,
+        bits,
+        border_bits,
+        cell_size,
+        marker_size_rel,
+        codes,
+    ))
+}
+
+#[no_mangle]
+pub extern "C" fn oracle_board_needed(
+    rows: u32,
+    cols: u32,
+    bits: u32,
+    border_bits: u32,
+    cell_size: f32,
+    marker_size_rel: f32,
+    codes: &[u64],
+) -> u32
+    ensures { λ r. ⌜ r ≡ answerValue (newBoard (asked rows cols bits «border_bits» «cell_size» «marker_size_rel») (now (codes .entry))) 0 ⌝ }
+{
+    value_of(
+        asked_board(
+            rows,
+            cols,
+            bits,
+            border_bits,
+            cell_size,
+            marker_size_rel,
+            codes,
+        ),
+        0,
+    )
+}
+
+#[no_mangle]
+pub extern "C" fn oracle_board_available(
+    rows: u32,
+    cols: u32,
+    bits: u32,
+    border_bits: u32,
+    cell_size: f32,
+    marker_size_rel: f32,
+    codes: &[u64],
+) -> u32
+    ensures { λ r. ⌜ r ≡ answerValue (newBoard (asked rows cols bits «border_bits» «cell_size» «marker_size_rel») (now (codes .entry))) 1 ⌝ }
+{
+    value_of(
+        asked_board(
+            rows,
+            cols,
+            bits,
+            border_bits,
+            cell_size,
+            marker_size_rel,
+            codes,
+        ),
+        1,
+    )
+}
+
+// A board by its size. The layout depends on nothing else but the cells' size.
+fn board_of(rows: u8, cols: u8, cell_size: f32) -> Board
+    ensures { λ r. ⌜ (r .rows ≡ rows) × (r .cols ≡ cols) × (r .«cell_size» ≡ «cell_size») ⌝ }
+{
+    Board {
+        rows,
+        cols,
+        bits: 1,
+        border_bits: 1,
+        cell_size,
+        marker_size_rel: 1.0,
+    }
+}
+
+fn id_word(n: Numbered) -> u64
+    ensures { λ r. ⌜ r ≡ idWord n ⌝ }
+{
+    match n {
+        Numbered::Id(id) => id as u64,
+        Numbered::Absent => ABSENT,
+    }
+}
+
+// j × 65536 + i. Both are below 256, so neither hides the other.
+fn place_word(place: Located) -> u64
+    ensures { λ r. ⌜ r ≡ placeWord place ⌝ }
+{
+    match place {
+        Located::At { i, j } => (j as u64) * 65536 + (i as u64),
+        Located::Absent => ABSENT,
+    }
+}
+
+#[no_mangle]
+pub extern "C" fn oracle_marker_count(rows: u8, cols: u8) -> u64
+    ensures { λ r. ⌜ r ≡ markerCount odd rows cols ⌝ }
+{
+    board_of(rows, cols, 1.0).marker_count() as u64
+}
+
+#[no_mangle]
+pub extern "C" fn oracle_marker_id_at(rows: u8, cols: u8, i: i32, j: i32) -> u64
+    ensures { λ r. ⌜ r ≡ idWord (markerAt odd rows cols i j) ⌝ }
+{
+    id_word(board_of(rows, cols, 1.0).marker_id_at(i, j))
+}
+
+#[no_mangle]
+pub extern "C" fn oracle_marker_position(rows: u8, cols: u8, id: u32) -> u64
+    ensures { λ r. ⌜ r ≡ placeWord (squareOf odd rows cols id) ⌝ }
+{
+    place_word(board_of(rows, cols, 1.0).marker_position(id))
+}
+
+#[no_mangle]
+pub extern "C" fn oracle_corner_id(rows: u8, cols: u8, i: i32, j: i32) -> u64
+    ensures { λ r. ⌜ r ≡ idWord (cornerAt rows cols i j) ⌝ }
+{
+    id_word(board_of(rows, cols, 1.0).charuco_corner_id_from_board_corner(i, j))
+}
+
+#[no_mangle]
+pub extern "C" fn oracle_corner_position(rows: u8, cols: u8, id: u32) -> u64
+    ensures { λ r. ⌜ r ≡ placeWord (cornerOf rows cols id) ⌝ }
+{
+    place_word(board_of(rows, cols, 1.0).board_corner(id))
+}
+
+// NaN for an unknown id.
+#[no_mangle]
+pub extern "C" fn oracle_object_xy(rows: u8, cols: u8, cell_size: f32, id: u32, axis: u8) -> f32
+    ensures { λ r. ⌜ r ≡ axisOfPoint (objectPoint rows cols «cell_size» id) axis ⌝ }
+{
+    let point = board_of(rows, cols, cell_size).charuco_object_xy(id);
+    match point {
+        ObjectPoint::At { x, y } => { if axis == 0 { x } else { y } }
+        ObjectPoint::Absent => 0.0 / 0.0,
+    }
+}
+
+// Corners 0 to 3 are top left, top right, bottom right, bottom left.
+#[no_mangle]
+pub extern "C" fn oracle_surrounding_corner(rows: u8, cols: u8, marker: u32, corner: u8) -> u64
+    ensures { λ r. ⌜ r ≡ cornerWord (fourCorners odd rows cols marker) (corner % 4) ⌝ }
+{
+    let around = board_of(rows, cols, 1.0).marker_surrounding_charuco_corners(marker);
+    match around {
+        Surrounding::Corners {
+            top_left,
+            top_right,
+            bottom_right,
+            bottom_left,
+        } => {
+            let k = corner % 4;
+            match k {
+                0 => top_left as u64,
+                1 => top_right as u64,
+                2 => bottom_right as u64,
+                _ => bottom_left as u64,
+            }
+        }
+        Surrounding::Absent => ABSENT,
+    }
+}

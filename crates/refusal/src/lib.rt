@@ -1,0 +1,91 @@
+// Every entry's refusals in one enum: the questions of document 01 that can be answered with no.
+// A variant has the Rust's error name where the Rust has one (board.rs, board_match/mod.rs).
+// `specs/Numbers.antt` gives each its number and values. Leans on `floats`.
+ghost use mathlib.Core.Path.{_≡_};
+ghost use lib.ListN.{getD};
+ghost use Rattle.refusal.specs.Numbers.{numberOf, valuesOf};
+
+pub enum Refusal {
+    // The board.
+    InvalidSize,
+    InvalidCellSize,
+    InvalidMarkerSizeRel,
+    InvalidBorderBits,
+    EmptyDictionary,
+    BoardOutOfRange,
+    NotEnoughDictionaryCodes { needed: u32, available: u32 },
+    CodeOutOfRange,
+    // Match.
+    SettingsNotFinite,
+    InvalidTable,
+    NoCells,
+    CellsOutOfRange,
+    InvalidSample,
+    ListTooShort,
+    TranslationWindow,
+    Margin { margin: f32 },
+    NoMarkers,
+    // The corner entry, the link entry, the cells entry, the record.
+    CornersOutOfRange,
+    TooManyLinks,
+    TooManyCells,
+    InvalidRecord,
+}
+
+impl Refusal {
+    // Document 01's number of the question that was answered with no.
+    pub fn number(self) -> u32
+        ensures { λ r. ⌜ r ≡ numberOf self ⌝ }
+    {
+        match self {
+            Refusal::InvalidSize => 1,
+            Refusal::InvalidCellSize => 2,
+            Refusal::InvalidMarkerSizeRel => 3,
+            Refusal::InvalidBorderBits => 4,
+            Refusal::EmptyDictionary => 5,
+            Refusal::BoardOutOfRange => 6,
+            Refusal::NotEnoughDictionaryCodes {
+                needed: _,
+                available: _,
+            } => 7,
+            Refusal::CodeOutOfRange => 8,
+            Refusal::SettingsNotFinite => 9,
+            Refusal::InvalidTable => 10,
+            Refusal::NoCells => 11,
+            Refusal::CellsOutOfRange => 12,
+            Refusal::InvalidSample => 13,
+            Refusal::ListTooShort => 14,
+            Refusal::TranslationWindow => 15,
+            Refusal::Margin { margin: _ } => 16,
+            Refusal::NoMarkers => 17,
+            Refusal::CornersOutOfRange => 18,
+            Refusal::TooManyLinks => 19,
+            Refusal::TooManyCells => 20,
+            Refusal::InvalidRecord => 21,
+        }
+    }
+
+    // The value at place `k` of those that the refusal gives, 0 past the last.
+    pub fn value(self, k: usize) -> u32
+        ensures { λ r. ⌜ r ≡ getD (valuesOf self) k 0 ⌝ }
+    {
+        match self {
+            Refusal::NotEnoughDictionaryCodes { needed, available } => {
+                if k == 0 {
+                    return needed;
+                }
+                if k == 1 {
+                    return available;
+                }
+                0
+            }
+            Refusal::Margin { margin } => {
+                if k == 0 {
+                    return floats::to_bits(margin);
+                }
+                0
+            }
+            _ => 0,
+        }
+    }
+}

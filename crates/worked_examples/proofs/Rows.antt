@@ -1,0 +1,19 @@
+-- The proved table: each row computes. Assumes nothing.
+use mathlib.Core.Path.{refl}
+use Rattle.matcher.specs.Codes.{fromBits, source}
+use Rattle.grid_alignment.specs.Alignment.{sends, lowest}
+use Rattle.board.specs.Numbering.{count, numberAt, numberAtℤ, search}
+use Rattle.worked_examples.specs.Table.{Table}
+
+pub table : Table
+unfolding fromBits source sends lowest count numberAt numberAtℤ search
+table =
+    record {
+      P1 = (refl, refl);
+      P2 = (refl, refl, refl, refl);
+      P3 = (refl, refl, refl, refl);
+      P4 = (refl, refl, refl, refl);
+      P5 = (refl, refl, refl, refl);
+      P6 = (refl, refl, refl, refl);
+      P7 = (refl, refl, refl, refl);
+    }

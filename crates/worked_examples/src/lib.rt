@@ -1,0 +1,1 @@
+// Document 01's proved table, P1 to P12: `specs/Table.antt` states the rows and `proofs/Rows.antt` proves them. No code.

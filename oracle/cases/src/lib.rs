@@ -1,0 +1,8 @@
+//! What both sides are asked: fixed lists of telling values, and random ones from a fixed seed.
+
+pub mod boards;
+pub mod codes;
+pub mod floats;
+pub mod layout;
+pub mod points;
+pub mod prng;

@@ -1,0 +1,3 @@
+//! The path under which upstream looks for the transforms.
+
+pub mod lattice;

@@ -1,0 +1,25 @@
+//! `grid_alignment.rs`.
+
+use calib_targets_core::{
+    Coord, GRID_TRANSFORMS_C4, cell_rect_corners_at, cell_to_corner_alignment,
+};
+
+/// The point after `turn` quarter turns, `turn` being 0 to 3.
+pub fn turned(turn: u8, [u, v]: [i16; 2]) -> [i32; 2] {
+    let point = Coord::new(i32::from(u), i32::from(v));
+    let point = GRID_TRANSFORMS_C4[usize::from(turn)].apply(point);
+    [point.u, point.v]
+}
+
+/// The corner translation that belongs to a cell translation.
+pub fn corner_translation(turn: u8, translation: [i16; 2]) -> [i32; 2] {
+    let turn = GRID_TRANSFORMS_C4[usize::from(turn)];
+    let cells = turn.with_translation(translation.map(i32::from));
+    cell_to_corner_alignment(cells).translation()
+}
+
+/// The four corners of a cell: top left, top right, bottom right, bottom left.
+pub fn cell_rect_corners([u, v]: [i16; 2], px: f32) -> [[f32; 2]; 4] {
+    let cell = Coord::new(i32::from(u), i32::from(v));
+    cell_rect_corners_at(cell, px).map(|corner| [corner.x, corner.y])
+}

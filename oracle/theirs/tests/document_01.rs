@@ -1,0 +1,65 @@
+//! The examples that document 01 gives for these modules (P1 to P7), asked of the upstream Rust. They also hold the
+//! stand-ins to that paper, above all the table of quarter turns, which is not in the given upstream text.
+
+use theirs::{Board, corner_translation, rotate_code, turned};
+
+fn board(rows: u8, cols: u8) -> Board {
+    Board::new(rows, cols, 1.0)
+}
+
+fn squares(board: &Board) -> Vec<[u64; 2]> {
+    (0..).map_while(|id| board.marker_position(id)).collect()
+}
+
+#[test]
+fn p1_p2_markers() {
+    assert_eq!(squares(&board(2, 2)), [[1, 0], [0, 1]]);
+    assert_eq!(squares(&board(3, 3)), [[1, 0], [0, 1], [2, 1], [1, 2]]);
+}
+
+#[test]
+fn p3_corners() {
+    let board = board(4, 5);
+    assert_eq!(board.corner_id(1, 1), Some(0));
+    assert_eq!(board.corner_id(4, 3), Some(11));
+    assert_eq!(board.corner_id(5, 3), None);
+    assert_eq!(board.corner_id(0, 1), None);
+}
+
+#[test]
+fn p4_p5_turned_codes() {
+    assert_eq!(
+        [0, 1, 2, 3].map(|turn| rotate_code(1, 2, turn)),
+        [1, 2, 8, 4]
+    );
+    assert_eq!(
+        [0, 1, 2, 3].map(|turn| rotate_code(2, 3, turn)),
+        [2, 32, 128, 8]
+    );
+}
+
+#[test]
+fn p6_corner_translations() {
+    assert_eq!(
+        [0, 1, 2, 3].map(|turn| corner_translation(turn, [5, 7])),
+        [[5, 7], [5, 8], [6, 8], [6, 7]]
+    );
+}
+
+#[test]
+fn p7_surrounding_corners() {
+    let board = board(4, 5);
+    assert_eq!(board.surrounding_corners(3), Some([1, 2, 6, 5]));
+    assert_eq!(board.surrounding_corners(2), None);
+    assert_eq!(board.surrounding_corners(10), None);
+    assert!(board.marker_position(2).is_some());
+    assert!(board.marker_position(10).is_none());
+}
+
+#[test]
+fn quarter_turns() {
+    assert_eq!(
+        [0, 1, 2, 3].map(|turn| turned(turn, [3, 8])),
+        [[3, 8], [8, -3], [-3, -8], [-8, 3]]
+    );
+}

@@ -1,0 +1,3 @@
+fn main() {
+    upstream_text::declare(&[("board", "crates/calib-targets-charuco/src/board.rs")]);
+}

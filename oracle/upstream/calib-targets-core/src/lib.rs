@@ -1,0 +1,9 @@
+//! Upstream's `grid_alignment.rs`, and the names that other upstream files look for in this crate.
+
+include!(concat!(env!("OUT_DIR"), "/grid_alignment.rs"));
+
+pub use grid_alignment::{
+    cell_rect_corners_at, cell_to_corner_alignment, GridAlignment, GridTransform,
+    GRID_TRANSFORMS_C4, GRID_TRANSFORMS_D4,
+};
+pub use projective_grid::Coord;
