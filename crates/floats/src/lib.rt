@@ -1,7 +1,9 @@
-// What the library asks of an f32, and its bits, on every pattern and every value. Leans on nothing.
+// What the library asks of an f32, and its bits, on every pattern and every value. What its sums and products are off by is in
+// `proofs/`, in whole numbers of `specs/Units.antt`. Leans on `integers`.
 ghost use mathlib.Core.Path.{_≡_};
 ghost use lib.Ieee.{binary32, nanBits, ofBits, toBits};
 ghost use lib.Ieee.Scale.{finite};
+ghost use Rattle.floats.specs.Units.{clamp01};
 
 // Neither infinite nor NaN: strictly between the two infinities.
 pub fn is_finite(x: f32) -> bool
@@ -18,6 +20,13 @@ fn is_nan_pattern(bits: u32) -> bool
     ensures { λ r. ⌜ r ≡ nanBits binary32 bits ⌝ }
 {
     0x7F80_0000 < bits % 0x8000_0000
+}
+
+// The exponent's field is not all ones.
+pub fn is_finite_pattern(bits: u32) -> bool
+    ensures { λ r. ⌜ r ≡ finite (ofBits binary32 bits) ⌝ }
+{
+    bits % 0x8000_0000 < 0x7F80_0000
 }
 
 // The value of a pattern. All patterns of a NaN are one value.
@@ -38,4 +47,17 @@ pub fn to_bits(x: f32) -> u32
         return f32::to_bits(x);
     }
     0x7FC0_0000
+}
+
+// To 0.0 from below and to 1.0 from above. NaN stays NaN.
+pub fn clamp01(x: f32) -> f32
+    ensures { λ r. ⌜ r ≡ clamp01 x ⌝ }
+{
+    if x < 0.0 {
+        return 0.0;
+    }
+    if 1.0 < x {
+        return 1.0;
+    }
+    x
 }

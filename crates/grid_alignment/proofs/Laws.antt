@@ -169,7 +169,7 @@ code-turn n r q h =
 pub code-turned : (n r c : ℕ) (q : Place) → Inside n q → bit (turned n r c) (indexOf n q) ≡ bit c (indexOf n (source n (r % 4) q))
 code-turned n r c q h =
     bit-turned n r c (indexOf n q) (index-below n q h)
-    ∙ ap (λ (p : Place). bit c (indexOf n (source n (r % 4) p))) (place-index n q h)
+    ∙ ap (λ (p : Place). bit c (indexOf n (source n (r % 4) p))) (place-index n q (h .column))
 
 -- and the code's bit at a place is the turned code's bit at the place that the turns left of four give
 pub code-back : (n r c : ℕ) (q : Place) → Inside n q → bit c (indexOf n q) ≡ bit (turned n r c) (indexOf n (source n ((4 - r % 4) % 4) q))

@@ -1,3 +1,4 @@
 pub mod Parts
+pub mod Distances
 pub mod Words
 pub mod Sums

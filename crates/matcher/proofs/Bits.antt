@@ -2,11 +2,11 @@
 use mathlib.Core.Path.{_≡_, refl, sym, ap, ap₂, _∙_}
 use mathlib.Core.Logic.{_⊎_, inl, inr}
 use Prim.Native.Nat.{ℕ, zero, suc, _+_, _-_, _*_, _/_, _%_, _^_, _≤_, _<_}
-use native.Mathlib.Nat.{mod-lt, mod-eq-of-lt, mul-le-mul-right, pow-suc, add-mul-div-right, add-mul-mod-self-right, mod-one, eq-or-lt-of-le, le-of-suc-le-suc}
-use native.Mathlib.Numerals.{one-add}
+use native.Mathlib.Nat.{mod-lt, mod-eq-of-lt, mul-le-mul-right, pow-suc, add-mul-div-right, add-mul-mod-self-right, mod-one, eq-or-lt-of-le, le-of-suc-le-suc, lt-of-lt-of-le}
+use native.Mathlib.Numerals.{one-add, add-one}
 use native.Mathlib.Omega.{arith}
 use lib.Dec.{lit<}
-use lib.Pow.{pow-pos, pow-add, high, mod-pow-add}
+use lib.Pow.{pow-pos, pow-add, pow-mono, shl-exact, high, mod-pow-add}
 use Rattle.matcher.specs.Codes.{bit, fromBits}
 
 -- every value is a bit
@@ -67,3 +67,11 @@ from-bits c (suc n) =
 pub bits-determine : (n a b : ℕ) → a < 2 ^ n → b < 2 ^ n → ((k : ℕ) → k < n → bit a k ≡ bit b k) → a ≡ b
 bits-determine n a b ha hb e =
     sym (mod-eq-of-lt ha) ∙ sym (from-bits a n) ∙ from-ext (bit a) (bit b) n e ∙ from-bits b n ∙ mod-eq-of-lt hb
+
+-- ---- a bit more in a word of 64 bits
+pub next-bit : (f : ℕ → ℕ) → Bits f → (k : ℕ) → k < 64 → fromBits f k + f k * 2 ^ k % 2 ^ 64 ≡ fromBits f (k + 1)
+unfolding fromBits
+next-bit f b k h = ap (λ (m : ℕ). fromBits f k + m) (shl-exact 1 k 64 (b k) (omega arith)) ∙ ap (fromBits f) (sym (add-one k))
+
+pub word-below : (f : ℕ → ℕ) → Bits f → (k : ℕ) → k ≤ 64 → fromBits f k < 2 ^ 64
+word-below f b k h = lt-of-lt-of-le (from-below f b k) (pow-mono {j = 64} h)

@@ -5,10 +5,9 @@ use native.Mathlib.Nat.{mod-lt, mod-mod, suc-mod, suc-add, zero-add, mod-eq-of-l
 use native.Mathlib.Omega.{arith}
 use lib.Dec.{lit<}
 use lib.Arith.{digits-lt, digits-div, digits-mod}
-use lib.Pow.{pow-mono, shl-exact}
 use Rattle.matcher.specs.declared.Place.{Place}
 use Rattle.matcher.specs.Codes.{bit, fromBits, placeOf, indexOf, source, sourceBit, turnedBit, turned}
-use Rattle.matcher.proofs.Bits.{bit-small, from-ext, from-below, bit-from, from-bits}
+use Rattle.matcher.proofs.Bits.{Bits, bit-small, from-ext, from-below, bit-from, from-bits, next-bit, word-below}
 
 -- a place of a code of side n
 pub record Inside (n : ℕ) (p : Place) : Type 0 where
@@ -29,8 +28,8 @@ place-inside n k h =
 pub index-below : (n : ℕ) (p : Place) → Inside n p → indexOf n p < n * n
 index-below n p h = digits-lt (h .row) (h .column)
 
-pub place-index : (n : ℕ) (p : Place) → Inside n p → placeOf n (indexOf n p) ≡ p
-place-index n p h = same (digits-mod (p .y) (h .column)) (digits-div (p .y) (h .column))
+pub place-index : (n : ℕ) (p : Place) → p .x < n → placeOf n (indexOf n p) ≡ p
+place-index n p h = same (digits-mod (p .y) h) (digits-div (p .y) h)
 
 pub source-inside : (n r : ℕ) (p : Place) → Inside n p → Inside n (source n r p)
 unfolding source
@@ -65,19 +64,19 @@ source-bits : (n r s k : ℕ) → k < n * n → sourceBit n (r % 4) (sourceBit n
 source-bits n r s k h =
     let p = placeOf n k in
     let i = place-inside n k h in
-    ap (λ (q : Place). indexOf n (source n (r % 4) q)) (place-index n (source n (s % 4) p) (source-inside n (s % 4) p i))
+    ap (λ (q : Place). indexOf n (source n (r % 4) q)) (place-index n (source n (s % 4) p) (source-inside n (s % 4) p i .column))
     ∙ ap (indexOf n) (sources n r s p i)
+
+turned-bits : (n r c : ℕ) → Bits (turnedBit n r c)
+turned-bits n r c k = bit-small c (sourceBit n (r % 4) k)
 
 -- document 01's sentence: bit y × n + x of the turned code is bit sy × n + sx of the code
 pub bit-turned : (n r c k : ℕ) → k < n * n → bit (turned n r c) k ≡ turnedBit n r c k
-bit-turned n r c k h = bit-from (turnedBit n r c) (λ j. bit-small c (sourceBit n (r % 4) j)) (n * n) k h
+bit-turned n r c k h = bit-from (turnedBit n r c) (turned-bits n r c) (n * n) k h
 
 -- turning keeps the range
-pub bits-below : (n r c k : ℕ) → fromBits (turnedBit n r c) k < 2 ^ k
-bits-below n r c k = from-below (turnedBit n r c) (λ j. bit-small c (sourceBit n (r % 4) j)) k
-
 pub turned-below : (n r c : ℕ) → turned n r c < 2 ^ (n * n)
-turned-below n r c = bits-below n r c (n * n)
+turned-below n r c = from-below (turnedBit n r c) (turned-bits n r c) (n * n)
 
 -- turning by r and then by s is turning by r + s, where four turns are none
 pub turned-turned : (n r s c : ℕ) → turned n s (turned n r c) ≡ turned n (r + s) c
@@ -110,22 +109,19 @@ module _ (code n turns x y : ℕ) (small : n ≤ 8) (row : y < n) (column : x < 
 
   -- the place that its bit is read from
   pub source-here : indexOf n (source n (turns % 4) here) ≡ sourceBit n (turns % 4) (y * n + x)
-  source-here = ap (λ (p : Place). indexOf n (source n (turns % 4) p)) (sym (place-index n here (record { column = column; row = row })))
+  source-here = ap (λ (p : Place). indexOf n (source n (turns % 4) p)) (sym (place-index n here column))
 
   pub source-small : indexOf n (source n (turns % 4) here) < 64
   source-small =
       lt-of-lt-of-le (index-below n (source n (turns % 4) here) (source-inside n (turns % 4) here (record { column = column; row = row }))) (mul-le-mul small small)
 
   -- the sum that adds its bit
-  pub next-bit : fromBits (turnedBit n turns code) (y * n + x) + bit code (indexOf n (source n (turns % 4) here)) * 2 ^ (y * n + x) % 2 ^ 64 ≡ fromBits (turnedBit n turns code) (y * n + (x + 1))
-  unfolding fromBits
-  next-bit =
+  pub next-turned-bit : fromBits (turnedBit n turns code) (y * n + x) + bit code (indexOf n (source n (turns % 4) here)) * 2 ^ (y * n + x) % 2 ^ 64 ≡ fromBits (turnedBit n turns code) (y * n + (x + 1))
+  next-turned-bit =
       let k = y * n + x in
-      let past : y * n + (x + 1) ≡ suc k = omega arith in
       ap (λ (b : ℕ). fromBits (turnedBit n turns code) k + bit code b * 2 ^ k % 2 ^ 64) source-here
-      ∙ ap (λ (b : ℕ). fromBits (turnedBit n turns code) k + b) (shl-exact 1 k 64 (bit-small code (sourceBit n (turns % 4) k)) (omega (arith, rank-small)))
-      ∙ ap (fromBits (turnedBit n turns code)) (sym past)
+      ∙ next-bit (turnedBit n turns code) (turned-bits n turns code) k rank-small
+      ∙ ap (fromBits (turnedBit n turns code)) (omega arith)
 
   pub next-below : fromBits (turnedBit n turns code) (y * n + (x + 1)) < 2 ^ 64
-  next-below =
-      lt-of-lt-of-le (bits-below n turns code (y * n + (x + 1))) (pow-mono {j = 64} (omega (arith, rank-small)))
+  next-below = word-below (turnedBit n turns code) (turned-bits n turns code) (y * n + (x + 1)) (omega (arith, rank-small))

@@ -1,7 +1,10 @@
 -- The one number by which each answer of the library is told.
-use Prim.Native.Nat.{ℕ, zero, suc, _+_, _*_}
-use mathlib.Core.List.{[]}
-use lib.ListN.{getD}
+use Prim.Native.Nat.{ℕ, zero, suc, _+_, _*_, _<_}
+use mathlib.Core.Path.{_≡_}
+use mathlib.Core.List.{List, []}
+use mathlib.Core.Bool.{Bool, true, false, _&&_}
+use lib.Dec.{leb, eqb}
+use lib.ListN.{getD, length}
 use lib.IntN.{ℤ}
 use lib.Ieee.{Float, nan}
 use Rattle.grid_alignment.specs.declared.Coord.{Coord}
@@ -18,6 +21,7 @@ use Rattle.board.specs.declared.ObjectPoint.{ObjectPoint}
 use Rattle.board.specs.declared.ObjectPoint.the-variants as object
 use Rattle.board.specs.declared.Surrounding.{Surrounding}
 use Rattle.board.specs.declared.Surrounding.the-variants as surrounding
+use Rattle.score_matrix.specs.Scores.{side}
 
 -- 2^64 − 1
 abbrev pub absent : ℕ
@@ -73,3 +77,20 @@ cornerWord (surrounding.Corners a b c d) (suc zero) = b
 cornerWord (surrounding.Corners a b c d) (suc (suc zero)) = c
 cornerWord (surrounding.Corners a b c d) (suc (suc (suc k))) = d
 cornerWord surrounding.Absent k = absent
+
+abbrev pub yesNo : Bool → ℕ
+yesNo true = 1
+yesNo false = 0
+
+-- a grid of this length has a row for each bit and border of a code that a word holds
+abbrev pub wholeGrid : ℕ → ℕ → ℕ → Bool
+wholeGrid n bits border = leb bits 8 && eqb n (side bits border * side bits border)
+
+abbrev pub either : {A : Type 0} → Bool → A → A → A
+either true a b = a
+either false a b = b
+
+-- a list after f of each code was written to the code's place in it
+pub record Written (f : ℕ → Float) (codes : List ℕ) (before after : List Float) : Type 0 where
+  pub long : length after ≡ length before
+  pub holds : (i : ℕ) → i < length codes → i < length before → getD after i nan ≡ f (getD codes i 0)

@@ -1,6 +1,6 @@
-// The C functions by which the Rust oracle asks our library, one number each. For tests only.
-// Every function accepts every number. Leans on `refusal`, `matcher`, `grid_alignment` and `board`, and for a proof on
-// `integers`.
+// The C functions by which the Rust oracle asks our library, for one number each or all scores of a cell. For tests only.
+// Every function accepts every number. Leans on `refusal`, `matcher`, `grid_alignment`, `board` and `score_matrix`, and for
+// proofs on `integers` and `floats`.
 ghost use mathlib.Core.Path.{_≡_};
 ghost use Prim.Native.Nat.{_%_};
 ghost use Rattle.matcher.specs.Codes.{turnedWord, differing};
@@ -17,6 +17,8 @@ use board::ObjectPoint;
 use board::Surrounding;
 use grid_alignment::Coord;
 use grid_alignment::GridAlignment;
+
+mod scores;
 
 // Says that there is no id and no place.
 const ABSENT: u64 = 18446744073709551615;
@@ -50,6 +52,13 @@ pub extern "C" fn oracle_turned(turn: u8, u: i16, v: i16, axis: u8) -> i32
     ensures { λ r. ⌜ r ≡ axisOf (sends (turn % 4) (point u v)) axis ⌝ }
 {
     along(grid_alignment::turned(turn, u, v), axis)
+}
+
+#[no_mangle]
+pub extern "C" fn oracle_rotate_gc_top_left(turn: u8, u: i16, v: i16, axis: u8) -> i32
+    ensures { λ r. ⌜ r ≡ axisOf (corner (turn % 4) (point u v)) axis ⌝ }
+{
+    along(grid_alignment::rotate_gc_top_left(u, v, turn), axis)
 }
 
 #[no_mangle]

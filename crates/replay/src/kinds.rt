@@ -1,9 +1,8 @@
 // The rows of each kind: the words are made arguments, our library is asked, and its answers are held to the words after them.
 ghost use mathlib.Core.Path.{_≡_};
-ghost use mathlib.Core.Bool.{true};
 ghost use lib.ListN.{length};
-ghost use Rattle.replay.specs.Rows.{BoardWords};
 use crate::layout;
+use crate::scores;
 use board::Board;
 use board::CharucoBoardSpec;
 use board::NewBoard;
@@ -13,8 +12,8 @@ use stored_rows::tally::Outcome;
 use stored_rows::values;
 use stored_rows::values::Coordinate;
 
-// How many words a row of a kind has. No row has 0: they stand for an unknown kind.
-fn words_of(kind: u64) -> usize {
+// How many words a row has, by its kind and the word after it. No row has 0: they stand for an unknown kind.
+fn words_of(kind: u64, second: u64) -> usize {
     match kind {
         1 => 5,
         2 => 11,
@@ -22,36 +21,48 @@ fn words_of(kind: u64) -> usize {
         4 => 6,
         5 => 6,
         6 => 12,
+        7 => 2 + scores::entry_count(second),
+        8 => 3,
+        9 => 5,
+        10 => 11,
         _ => 0,
     }
 }
 
-pub fn check(words: [u64; 32], count: usize) -> Outcome {
-    let kind = words[0];
-    if count != words_of(kind) {
-        return Outcome::Unread;
-    }
-    match kind {
+// A question out of range does not agree.
+fn agrees(words: [u64; 32]) -> bool {
+    match words[0] {
         1 => turned_code(words),
-        2 => layout::check(words),
+        2 => layout::agrees(words),
         3 => new_board(words),
         4 => corner_translation(words),
         5 => quarter_turn(words),
         6 => cell_corners(words),
-        _ => Outcome::Unread,
+        7 => scores::table_row(words),
+        8 => scores::null_score(words),
+        9 => scores::weight(words),
+        10 => scores::score(words),
+        _ => false,
     }
 }
 
-fn turned_code(words: [u64; 32]) -> Outcome {
+pub fn check(words: [u64; 32], count: usize) -> Outcome {
+    if count != words_of(words[0], words[1]) {
+        return Outcome::Unread;
+    }
+    tally::compared(agrees(words))
+}
+
+fn turned_code(words: [u64; 32]) -> bool {
     let side = words[2];
     let turn = words[3];
     if 0xFF < side {
-        return Outcome::Unread;
+        return false;
     }
     if 0xFF < turn {
-        return Outcome::Unread;
+        return false;
     }
-    tally::compared(matcher::rotate_code_u64(words[1], side as u8, turn as u8) == words[4])
+    matcher::rotate_code_u64(words[1], side as u8, turn as u8) == words[4]
 }
 
 // What the kinds 4 and 5 ask: a turn and two coordinates.
@@ -82,9 +93,9 @@ fn same_point(u: i32, v: i32, words: [u64; 32]) -> bool {
     values::same_signed(u, words[4]) && values::same_signed(v, words[5])
 }
 
-fn corner_translation(words: [u64; 32]) -> Outcome {
+fn corner_translation(words: [u64; 32]) -> bool {
     let TurnedPoint::At { turn, u, v } = turned_point(words) else {
-        return Outcome::Unread;
+        return false;
     };
     let cells = GridAlignment {
         turn,
@@ -92,15 +103,15 @@ fn corner_translation(words: [u64; 32]) -> Outcome {
         ty: v as i32,
     };
     let corners = cells.cell_to_corner_alignment();
-    tally::compared(same_point(corners.tx, corners.ty, words))
+    same_point(corners.tx, corners.ty, words)
 }
 
-fn quarter_turn(words: [u64; 32]) -> Outcome {
+fn quarter_turn(words: [u64; 32]) -> bool {
     let TurnedPoint::At { turn, u, v } = turned_point(words) else {
-        return Outcome::Unread;
+        return false;
     };
     let p = grid_alignment::turned(turn, u, v);
-    tally::compared(same_point(p.u, p.v, words))
+    same_point(p.u, p.v, words)
 }
 
 fn same_corners(corners: [[f32; 2]; 4], words: [u64; 32]) -> bool {
@@ -115,59 +126,33 @@ fn same_corners(corners: [[f32; 2]; 4], words: [u64; 32]) -> bool {
     true
 }
 
-fn cell_corners(words: [u64; 32]) -> Outcome {
+fn cell_corners(words: [u64; 32]) -> bool {
     let Coordinate::At(u) = values::coordinate_of(words[1]) else {
-        return Outcome::Unread;
+        return false;
     };
     let Coordinate::At(v) = values::coordinate_of(words[2]) else {
-        return Outcome::Unread;
+        return false;
     };
     let px = words[3];
     if 0xFFFF_FFFF < px {
-        return Outcome::Unread;
+        return false;
     }
     let corners = grid_alignment::cell_rect_corners_at(u, v, floats::from_bits(px as u32));
-    tally::compared(same_corners(corners, words))
+    same_corners(corners, words)
 }
 
-// The three answers about a new board.
-struct Answer {
-    number: u32,
-    needed: u32,
-    available: u32,
-}
-
-fn answer_of(board: NewBoard) -> Answer {
-    let NewBoard::Refused(refusal) = board else {
-        return Answer {
-            number: 0,
-            needed: 0,
-            available: 0,
-        };
-    };
-    Answer {
-        number: refusal.number(),
-        needed: refusal.value(0),
-        available: refusal.value(1),
-    }
-}
-
-fn same_answer(a: Answer, words: [u64; 32]) -> bool {
-    a.number as u64 == words[10] && a.needed as u64 == words[11] && a.available as u64 == words[12]
-}
-
-// Arguments of 32 bits, as the kind is, and no more codes than there is room for.
-fn is_board(words: [u64; 32]) -> bool
-    ensures { λ r. ⌜ (r ≡ true → BoardWords words) ⌝ }
+// The three answers about a new board: its number, and what is needed and available.
+fn answers_of(board: NewBoard) -> [u64; 3]
+    ensures { λ r. ⌜ 3 ≡ length r ⌝ }
 {
-    let mut k = 0;
-    while k < 7 {
-        if 0xFFFF_FFFF < words[k] {
-            return false;
-        }
-        k += 1;
-    }
-    words[7] <= 1025
+    let NewBoard::Refused(refusal) = board else {
+        return [0; 3];
+    };
+    [
+        refusal.number() as u64,
+        refusal.value(0) as u64,
+        refusal.value(1) as u64,
+    ]
 }
 
 // Zeros, but for `value` at `place` if there is such a place. The caller lends as many of them as there are codes.
@@ -181,9 +166,21 @@ fn code_list(place: u64, value: u64) -> [u64; 1025]
     codes
 }
 
-fn new_board(words: [u64; 32]) -> Outcome {
-    if !is_board(words) {
-        return Outcome::Unread;
+// The most that the kind, the six arguments of 32 bits and the count of codes may be: there is room for no more codes.
+const MOST: [u64; 8] = [
+    3,
+    0xFFFF_FFFF,
+    0xFFFF_FFFF,
+    0xFFFF_FFFF,
+    0xFFFF_FFFF,
+    0xFFFF_FFFF,
+    0xFFFF_FFFF,
+    1025,
+];
+
+fn new_board(words: [u64; 32]) -> bool {
+    if !values::within(words, MOST) {
+        return false;
     }
     let spec = CharucoBoardSpec {
         rows: words[1] as u32,
@@ -195,5 +192,6 @@ fn new_board(words: [u64; 32]) -> Outcome {
     };
     let count = words[7] as usize;
     let codes = code_list(words[8], words[9]);
-    tally::compared(same_answer(answer_of(Board::new(spec, &codes[..count])), words))
+    let answers = answers_of(Board::new(spec, &codes[..count]));
+    values::same_words(&answers, words, 10)
 }

@@ -1,8 +1,9 @@
 // Kind 2: the whole layout of a board, as counts and digests.
+ghost use mathlib.Core.Path.{_≡_};
+ghost use lib.ListN.{length};
 use crate::digest;
 use board::Board;
-use stored_rows::tally;
-use stored_rows::tally::Outcome;
+use stored_rows::values;
 
 // Places on a board and one beyond it on every side are counted from 0; their coordinates start at -1.
 fn coordinate(k: u16) -> i32 {
@@ -93,28 +94,33 @@ fn surroundings(board: Board) -> u32 {
     h
 }
 
-fn agrees(board: Board, words: [u64; 32]) -> bool {
-    words[4] == board.marker_count() as u64
-        && words[5] == markers(board) as u64
-        && words[6] == squares(board) as u64
-        && words[7] == board.corner_count() as u64
-        && words[8] == corners(board) as u64
-        && words[9] == points(board) as u64
-        && words[10] == surroundings(board) as u64
+// The answers in the order of a row.
+fn answers_of(board: Board) -> [u64; 7]
+    ensures { λ r. ⌜ 7 ≡ length r ⌝ }
+{
+    [
+        board.marker_count() as u64,
+        markers(board) as u64,
+        squares(board) as u64,
+        board.corner_count() as u64,
+        corners(board) as u64,
+        points(board) as u64,
+        surroundings(board) as u64,
+    ]
 }
 
-pub fn check(words: [u64; 32]) -> Outcome {
+pub fn agrees(words: [u64; 32]) -> bool {
     let rows = words[1];
     let cols = words[2];
     let cell_size = words[3];
     if 0xFF < rows {
-        return Outcome::Unread;
+        return false;
     }
     if 0xFF < cols {
-        return Outcome::Unread;
+        return false;
     }
     if 0xFFFF_FFFF < cell_size {
-        return Outcome::Unread;
+        return false;
     }
     let board = Board {
         rows: rows as u8,
@@ -124,5 +130,6 @@ pub fn check(words: [u64; 32]) -> Outcome {
         cell_size: floats::from_bits(cell_size as u32),
         marker_size_rel: 1.0,
     };
-    tally::compared(agrees(board, words))
+    let answers = answers_of(board);
+    values::same_words(&answers, words, 4)
 }

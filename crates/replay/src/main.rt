@@ -1,8 +1,12 @@
 // Asks our library again what the oracle asked the Rust (the file `stdin`), and prints how many answers agree.
-// Leans on `refusal`, `matcher`, `grid_alignment`, `board`, `stored_rows`, `io` and `libc`, and for a proof on `integers`.
+// Leans on `refusal`, `floats`, `matcher`, `grid_alignment`, `board`, `score_matrix`, `stored_rows`, `io` and `libc`, and for a
+// proof on `integers`.
+ghost use Prim.Native.Nat.{_<_};
+
 mod digest;
 mod kinds;
 mod layout;
+mod scores;
 
 use libc::STDIN_FILENO;
 use libc::STDOUT_FILENO;
@@ -115,17 +119,28 @@ fn print_line(name: &[u8], agreed: u64, asked: u64) {
     io::write_all(STDOUT_FILENO, b" agree\n");
 }
 
-fn print_tally(t: Tally) {
-    print_line(b"1 turned codes", t.agreed[1], t.asked[1]);
-    print_line(b"2 layouts", t.agreed[2], t.asked[2]);
-    print_line(b"3 new boards", t.agreed[3], t.asked[3]);
-    print_line(b"4 corner translations", t.agreed[4], t.asked[4]);
-    print_line(b"5 quarter turns", t.agreed[5], t.asked[5]);
-    print_line(b"6 cell corners", t.agreed[6], t.asked[6]);
+// Kind 0 stands for all rows.
+fn print_kind(name: &[u8], tally: Tally, kind: usize)
+    requires { ⌜ kind < 11 ⌝ }
+{
+    print_line(name, tally.agreed[kind], tally.asked[kind]);
+}
+
+fn print_tally(tally: Tally) {
+    print_kind(b"1 turned codes", tally, 1);
+    print_kind(b"2 layouts", tally, 2);
+    print_kind(b"3 new boards", tally, 3);
+    print_kind(b"4 corner translations", tally, 4);
+    print_kind(b"5 quarter turns", tally, 5);
+    print_kind(b"6 cell corners", tally, 6);
+    print_kind(b"7 table rows", tally, 7);
+    print_kind(b"8 null scores", tally, 8);
+    print_kind(b"9 weights", tally, 9);
+    print_kind(b"A scores", tally, 10);
     io::write_all(STDOUT_FILENO, b"rows not read: ");
-    io::print_decimal(STDOUT_FILENO, t.unread);
+    io::print_decimal(STDOUT_FILENO, tally.unread);
     io::write_all(STDOUT_FILENO, b"\n");
-    print_line(b"all", t.agreed[0], t.asked[0]);
+    print_kind(b"all", tally, 0);
 }
 
 fn main() {

@@ -1,5 +1,6 @@
 // Rows of stored answers: reading them byte by byte, what their words stand for, and how many agree. For the programs that
 // replay such rows. Leans on `floats`.
+pub mod greys;
 pub mod rows;
 pub mod tally;
 pub mod values;

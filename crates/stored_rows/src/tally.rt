@@ -16,8 +16,8 @@ pub fn compared(agrees: bool) -> Outcome {
 
 // Place k of a list counts the rows of kind k, and place 0 all rows, also those that are not read.
 pub struct Tally {
-    pub asked: [u64; 7],
-    pub agreed: [u64; 7],
+    pub asked: [u64; 11],
+    pub agreed: [u64; 11],
     pub unread: u64,
 }
 
@@ -32,22 +32,22 @@ fn more(count: u64) -> u64 {
 impl Tally {
     pub fn new() -> Tally {
         Tally {
-            asked: [0; 7],
-            agreed: [0; 7],
+            asked: [0; 11],
+            agreed: [0; 11],
             unread: 0,
         }
     }
 
-    // A kind above 6 has no place: its rows are not read.
+    // A kind above 10 has no place: its rows are not read.
     fn with_asked(mut self, kind: usize) -> Tally {
-        if kind < 7 {
+        if kind < 11 {
             self.asked[kind] = more(self.asked[kind]);
         }
         self
     }
 
     fn with_agreed(mut self, kind: usize) -> Tally {
-        if kind < 7 {
+        if kind < 11 {
             self.agreed[kind] = more(self.agreed[kind]);
         }
         self

@@ -1,4 +1,8 @@
 // What the words of a row stand for. A signed number stands as its 32 bits, an f32 as its 32 bits.
+ghost use mathlib.Core.Path.{_≡_};
+ghost use mathlib.Core.Bool.{true};
+ghost use Prim.Native.Nat.{_+_, _≤_};
+ghost use Rattle.stored_rows.specs.Rows.{AtMost};
 
 pub enum Coordinate {
     At(i16),
@@ -37,4 +41,32 @@ pub fn same_float(x: f32, w: u64) -> bool {
         return false;
     }
     floats::to_bits(x) == floats::to_bits(floats::from_bits(w as u32))
+}
+
+// Is none of the first eight words above the one at its place in `most`?
+pub fn within(words: [u64; 32], most: [u64; 8]) -> bool
+    ensures { λ r. ⌜ (r ≡ true → AtMost words most) ⌝ }
+{
+    let mut k = 0;
+    while k < 8 {
+        if most[k] < words[k] {
+            return false;
+        }
+        k += 1;
+    }
+    true
+}
+
+// Are the words from place `first` on those of `answers`?
+pub fn same_words(answers: &[u64], words: [u64; 32], first: usize) -> bool
+    requires { do ⌜ (← ⟦answers.len()⟧) + first ≤ 32 ⌝ }
+{
+    let mut k = 0;
+    while k < answers.len() {
+        if answers[k] != words[first + k] {
+            return false;
+        }
+        k += 1;
+    }
+    true
 }

@@ -1,7 +1,9 @@
 -- Document 01, "Proved table": its rows as statements about the definitions.
 use mathlib.Core.Path.{_≡_}
 use Prim.Native.Nat.{ℕ}
+use mathlib.Core.Bool.{true}
 use lib.IntN.{ℤ, pos}
+use lib.Ieee.{Float, binary32, ofBits, toBits}
 use Rattle.matcher.specs.Codes.{turned}
 use Rattle.grid_alignment.specs.declared.GridAlignment.{GridAlignment}
 use Rattle.grid_alignment.specs.Alignment.{cornerAlignment}
@@ -9,10 +11,28 @@ use Rattle.board.specs.declared.Numbered.the-variants as numbered
 use Rattle.board.specs.declared.Located.the-variants as located
 use Rattle.board.specs.declared.Surrounding.the-variants as surrounding
 use Rattle.board.specs.Layout.{odd, squareOf, cornerAt, fourCorners}
+use Rattle.score_matrix.specs.Scores.{nullScore}
+use Rattle.score_matrix.specs.Weights.{weight}
 
 -- an alignment
 abbrev pub align : ℕ → ℤ → ℤ → GridAlignment
 align turn tx ty = record { turn = turn; tx = tx; ty = ty }
+
+-- 0, 0.25, 0.5, 0.75 and 1 by their bits
+abbrev pub none : Float
+none = ofBits binary32 0
+
+abbrev pub quarter : Float
+quarter = ofBits binary32 0x3E800000
+
+abbrev pub half : Float
+half = ofBits binary32 0x3F000000
+
+abbrev pub threeQuarters : Float
+threeQuarters = ofBits binary32 0x3F400000
+
+abbrev pub whole : Float
+whole = ofBits binary32 0x3F800000
 
 pub record Table : Type 0 where
   -- 2 by 2 board: marker 0 at (1, 0), 1 at (0, 1)
@@ -37,3 +57,9 @@ pub record Table : Type 0 where
   pub P7 :
       (fourCorners odd 4 5 3 ≡ surrounding.Corners 1 2 6 5) × (squareOf odd 4 5 2 ≡ located.At 0 1) × (fourCorners odd 4 5 2 ≡ surrounding.Absent)
       × (squareOf odd 4 5 10 ≡ located.Absent)
+  -- null score, side 4: bits C1317218
+  pub P10 : toBits binary32 (nullScore 4) ≡ 0xC1317218
+  -- weights: fraction 0.25 over 0.5 is 0.5; 0.75 over 0.5 is 1; threshold 0 gives 1
+  pub P12 :
+      (weight half true quarter ≡ half) × (weight half true threeQuarters ≡ whole)
+      × ((fraction : Float) → weight none true fraction ≡ whole)

@@ -78,3 +78,53 @@ pub fn random_finite(prng: &mut Prng) -> f32 {
         }
     }
 }
+
+/// Border thresholds, all finite. Those up to 0 give every sampled cell the weight 1.
+pub const BORDER_THRESHOLDS: [f32; 20] = [
+    0.5,
+    0.0,
+    -0.0,
+    LEAST,
+    -LEAST,
+    SUBNORMAL,
+    f32::MIN_POSITIVE,
+    1e-30,
+    0.1,
+    0.25,
+    1.0 / 3.0,
+    1.0f32.next_down(),
+    1.0,
+    1.0f32.next_up(),
+    2.0,
+    1e30,
+    f32::MAX,
+    -0.5,
+    -1e30,
+    f32::MIN,
+];
+
+/// From 0 to 1, by which minus zero is among them.
+pub const FRACTIONS: [f32; 16] = [
+    0.0,
+    -0.0,
+    LEAST,
+    SUBNORMAL,
+    f32::MIN_POSITIVE,
+    1e-30,
+    0.1,
+    0.25,
+    1.0 / 3.0,
+    0.5f32.next_down(),
+    0.5,
+    0.5f32.next_up(),
+    0.75,
+    2.0 / 3.0,
+    1.0f32.next_down(),
+    1.0,
+];
+
+/// A fraction from 0 to 1, both included.
+pub fn random_fraction(prng: &mut Prng) -> f32 {
+    const STEPS: u64 = 1 << 24;
+    prng.below(STEPS + 1) as f32 / STEPS as f32
+}

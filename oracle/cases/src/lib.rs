@@ -1,8 +1,10 @@
 //! What both sides are asked: fixed lists of telling values, and random ones from a fixed seed.
 
 pub mod boards;
+pub mod cells;
 pub mod codes;
 pub mod floats;
 pub mod layout;
 pub mod points;
 pub mod prng;
+pub mod tables;

@@ -1,11 +1,14 @@
 //! Prints answers of the upstream Rust, one line each, for the program `replay`. Our library takes no part.
 
 mod alignments;
+mod cells;
 mod codes;
 mod digest;
 mod layout;
+mod likelihood;
 mod refusals;
 mod row;
+mod weights;
 
 use std::io::{self, BufWriter, Write};
 
@@ -19,6 +22,10 @@ fn main() -> io::Result<()> {
         alignments::translation_rows(),
         alignments::turn_rows(),
         alignments::corner_rows(),
+        likelihood::entry_rows(),
+        likelihood::null_score_rows(),
+        weights::rows(),
+        cells::rows(),
     ];
     for row in kinds.iter().flatten() {
         writeln!(out, "{row}")?;

@@ -1,7 +1,7 @@
-//! The examples that document 01 gives for these modules (P1 to P7), asked of the upstream Rust. They also hold the
-//! stand-ins to that paper, above all the table of quarter turns, which is not in the given upstream text.
+//! The examples that document 01 gives for these modules (P1 to P7, P10, P12), asked of the upstream Rust. They also
+//! hold the stand-ins to that paper, above all the table of quarter turns, which is not in the given upstream text.
 
-use theirs::{Board, corner_translation, rotate_code, turned};
+use theirs::{Board, cell_weight, corner_translation, null_score, rotate_code, turned};
 
 fn board(rows: u8, cols: u8) -> Board {
     Board::new(rows, cols, 1.0)
@@ -62,4 +62,17 @@ fn quarter_turns() {
         [0, 1, 2, 3].map(|turn| turned(turn, [3, 8])),
         [[3, 8], [8, -3], [-3, -8], [-8, 3]]
     );
+}
+
+#[test]
+fn p10_null_score() {
+    assert_eq!(null_score(4).to_bits(), 0xC131_7218);
+}
+
+#[test]
+fn p12_weights() {
+    assert_eq!(cell_weight(0.5, true, 0.25), 0.5);
+    assert_eq!(cell_weight(0.5, true, 0.75), 1.0);
+    assert_eq!(cell_weight(0.0, true, 0.25), 1.0);
+    assert_eq!(cell_weight(0.0, false, 0.25), 0.0);
 }

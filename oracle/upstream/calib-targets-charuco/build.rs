@@ -1,3 +1,12 @@
 fn main() {
-    upstream_text::declare(&[("board", "crates/calib-targets-charuco/src/board.rs")]);
+    upstream_text::declare(&[
+        ("alignment", "crates/calib-targets-charuco/src/alignment.rs"),
+        ("board", "crates/calib-targets-charuco/src/board.rs"),
+    ]);
+    upstream_text::declare_folder(
+        "board_match",
+        "crates/calib-targets-charuco/src/detector/board_match",
+        &["mod.rs", "emit.rs", "hypothesis.rs", "score_matrix.rs"],
+        "src/diagnostics.rs",
+    );
 }

@@ -1,6 +1,13 @@
 fn main() {
-    upstream_text::declare(&[(
-        "grid_alignment",
-        "crates/calib-targets-core/src/grid_alignment.rs",
-    )]);
+    upstream_text::declare(&[
+        (
+            "bit_likelihood",
+            "crates/calib-targets-core/src/bit_likelihood.rs",
+        ),
+        (
+            "grid_alignment",
+            "crates/calib-targets-core/src/grid_alignment.rs",
+        ),
+        ("image", "crates/calib-targets-core/src/image.rs"),
+    ]);
 }

@@ -10,17 +10,40 @@ use std::{env, fs};
 const VARIABLE: &str = "CALIB_TARGETS_SRC";
 const DEFAULT: &str = "../../shared/docs/src";
 
-/// Features that the upstream text asks about. All stay off.
+/// Features that the upstream text asks about. All stay off, unless a crate here turns one on.
 const UPSTREAM_FEATURES: &str = r#""diagnostics", "schemars", "tracing""#;
 
 /// Declares each file, given by its path below the upstream folder, as the module with the name beside it.
 pub fn declare(modules: &[(&str, &str)]) {
+    begin();
+    for (module, file) in modules {
+        if let Some(file) = found(&upstream_folder().join(file)) {
+            declare_one(module, &file);
+        }
+    }
+}
+
+/// Declares the `mod.rs` of an upstream folder as the module. A file of our own stands among its children, which
+/// come from the same folder as `mod.rs`; so the files, and ours under their name, are copied into one.
+pub fn declare_folder(module: &str, folder: &str, files: &[&str], ours: &str) {
+    begin();
+    let copies = folder_from_cargo("OUT_DIR").join(module);
+    fs::create_dir_all(&copies).expect(WRITABLE);
+    let upstream = upstream_folder().join(folder);
+    let theirs = files.iter().map(|file| upstream.join(file));
+    for file in theirs.chain([folder_from_cargo("CARGO_MANIFEST_DIR").join(ours)]) {
+        let Some(file) = found(&file) else { return };
+        let name = file.file_name().expect("a file has a name");
+        // Not `fs::copy`, by which a copy that may only be read could not be written again.
+        let text = fs::read(&file).expect("the file can be read");
+        fs::write(copies.join(name), text).expect(WRITABLE);
+    }
+    declare_one(module, &copies.join("mod.rs"));
+}
+
+fn begin() {
     println!("cargo::rerun-if-env-changed={VARIABLE}");
     println!("cargo::rustc-check-cfg=cfg(feature, values({UPSTREAM_FEATURES}))");
-    let folder = upstream_folder();
-    for (module, file) in modules {
-        declare_one(module, &folder.join(file));
-    }
 }
 
 /// A relative path counts from the folder of the workspace, two above that of the crate being built.
@@ -35,16 +58,25 @@ fn folder_from_cargo(variable: &str) -> PathBuf {
     PathBuf::from(env::var_os(variable).expect("cargo runs the build script"))
 }
 
-fn declare_one(module: &str, file: &Path) {
+const WRITABLE: &str = "cargo's folder can be written";
+
+/// The whole path of a file that the crate is built from.
+fn found(file: &Path) -> Option<PathBuf> {
     let Ok(file) = file.canonicalize() else {
         println!(
             "cargo::error={} is missing: set {VARIABLE} to the folder that holds upstream's crates/",
             file.display()
         );
-        return;
+        return None;
     };
     println!("cargo::rerun-if-changed={}", file.display());
-    let line = format!("#[path = {file:?}]\npub mod {module};\n");
+    Some(file)
+}
+
+/// The text may hold more than is used here.
+fn declare_one(module: &str, file: &Path) {
+    let line =
+        format!("#[allow(dead_code, unused_imports)]\n#[path = {file:?}]\npub mod {module};\n");
     let declaration = folder_from_cargo("OUT_DIR").join(format!("{module}.rs"));
-    fs::write(declaration, line).expect("cargo's folder can be written");
+    fs::write(declaration, line).expect(WRITABLE);
 }

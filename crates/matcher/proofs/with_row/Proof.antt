@@ -6,7 +6,7 @@ use native.Mathlib.Nat.{add-zero}
 use native.Mathlib.Omega.{arith}
 use Rattle.matcher.specs.declared.Place.{Place}
 use Rattle.matcher.specs.Codes.{fromBits, bit, indexOf, turnedBit}
-use Rattle.matcher.proofs.Turns.{rank-small, source-small, next-bit, next-below}
+use Rattle.matcher.proofs.Turns.{rank-small, source-small, next-turned-bit, next-below}
 use Rattle.matcher.proofs.with_row.Statement.{statement}
 use Rattle.matcher.proofs.with_row.Tie as tie
 
@@ -56,7 +56,7 @@ module _ (c : tie.After-source-place Inv-loop μ-loop) where
   sum : c .before .before .loop .sum + code / 2 ^ at % 2 * 2 ^ (y * n + x) % 2 ^ 64 ≡ fromBits (turnedBit n turn code) (y * n + (x + 1))
   sum =
       ap₂ (λ (s : ℕ) (p : Place). s + bit code (indexOf n p) * 2 ^ (y * n + x) % 2 ^ 64) (c .before .before .loop .inv .1) (c .source-place .ensures)
-      ∙ next-bit code n turn x y (start .pre .0) (start .pre .1) (c .before .loop-test .taken)
+      ∙ next-turned-bit code n turn x y (start .pre .0) (start .pre .1) (c .before .loop-test .taken)
 
   sum-fits : c .before .before .loop .sum + code / 2 ^ at % 2 * 2 ^ (y * n + x) % 2 ^ 64 < 2 ^ 64
   sum-fits = rw sum (next-below code n turn x y (start .pre .0) (start .pre .1) (c .before .loop-test .taken))

@@ -20,6 +20,12 @@ pub fn compare() -> Vec<Subject> {
             ours::corner_translation,
             theirs::corner_translation,
         ),
+        for_each_turn(
+            "corner that a turn makes top left",
+            &points,
+            ours::rotate_gc_top_left,
+            theirs::rotate_gc_top_left,
+        ),
         cell_corners(&points, &mut prng),
     ]
 }

@@ -4,6 +4,7 @@ mod alignments;
 mod codes;
 mod layout;
 mod refusals;
+mod scores;
 mod subject;
 
 use std::process::ExitCode;
@@ -14,6 +15,7 @@ fn main() -> ExitCode {
         layout::compare(),
         refusals::compare(),
         alignments::compare(),
+        scores::compare(),
     ]
     .concat();
     for subject in &subjects {

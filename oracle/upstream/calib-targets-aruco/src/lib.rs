@@ -1,7 +1,9 @@
-//! Upstream's `matcher.rs` over a stand-in for the dictionary, whose file is not given.
+//! Upstream's `matcher.rs` over stand-ins for the dictionary and for cells, whose files are not given.
 
+mod cells;
 mod dictionary;
 include!(concat!(env!("OUT_DIR"), "/matcher.rs"));
 
+pub use cells::{sample_cell, CellSamples, MarkerCell, MarkerDetection, ScanDecodeConfig};
 pub use dictionary::{resolve_dictionary, Dictionary};
 pub use matcher::{rotate_code_u64, Match, Matcher};

@@ -26,5 +26,4 @@ corner-translation-spec =
     (λ c. widened-fits _ (v-fits c))
     (λ c κs. omega (arith, widened-small (c .before .turn .given .0 .1 .0) (u-fits c), widened-small (c .before .turn .given .0 .1 .1 .0) (v-fits c)))
     (λ c κs. tt)
-    (λ c κs. tt)
     (λ c. tt))

@@ -1,6 +1,7 @@
--- `replay::kinds::new_board` is safe: `is_board` told that the words fit. Assumes nothing.
+-- `replay::kinds::new_board` is safe: `within` told that the words fit. Assumes nothing.
 use mathlib.Core.Path.{sym}
-use Prim.Native.Nat.{ℕ, _≤_, _<_}
+use mathlib.Core.List.{List, [], _∷_}
+use Prim.Native.Nat.{ℕ, _≤_}
 use native.Mathlib.Omega.{arith}
 use lib.Dec.{lit<}
 use lib.ListN.{length, getD}
@@ -9,19 +10,21 @@ use mir.Syntax.{w32}
 use mir.Val.{Fits}
 use borrow.Author.Needs.{needs}
 use borrow.Author.Tests.{not-false}
-use Rattle.replay.specs.Rows.{BoardWords}
+use Rattle.stored_rows.specs.Rows.{AtMost}
 use Rattle.replay.proofs.kinds.new_board.Statement.{statement}
 use Rattle.replay.proofs.kinds.new_board.Tie as tie
 
-module _ (c : tie.Else1) where
-  told : BoardWords (c .before .before .args .t1)
-  told = c .before .is-board .ensures (not-false _ (c .if1 .left))
+abbrev most : List ℕ
+most = 3 ∷ 0xFFFFFFFF ∷ 0xFFFFFFFF ∷ 0xFFFFFFFF ∷ 0xFFFFFFFF ∷ 0xFFFFFFFF ∷ 0xFFFFFFFF ∷ 1025 ∷ []
 
-  short : (k : ℕ) → k < 7 → Fits w32 (getD (c .before .before .args .t1) k 0)
-  short k h = record { fits = told .short k h }
+told : (c : tie.Else1) → AtMost (c .before .before .args .t1) most
+told c = c .before .within .ensures (not-false _ (c .if1 .left))
 
-within : (c : tie.After-code-list) → getD (c .before .before .before .before .before .args .t1) 7 0 ≤ length (c .code-list .result)
-within c = omega (arith, told (c .before .before .before) .few, c .code-list .ensures)
+short : {n : ℕ} → n ≤ 0xFFFFFFFF → Fits w32 n
+short h = record { fits = omega arith }
+
+room : (c : tie.After-code-list) → getD (c .before .before .before .before .before .args .t1) 7 0 ≤ length (c .code-list .result)
+room c = omega (arith, told (c .before .before .before) 7 (lit< tt), c .code-list .ensures)
 
 pub new-board-spec : {M : Type 1} → statement M
 new-board-spec =
@@ -30,27 +33,27 @@ new-board-spec =
     (λ c κs. tt)
     (λ c. tt)
     (λ c. search needs)
-    (λ c. short c 1 (lit< tt))
+    (λ c. short (told c 1 (lit< tt)))
     (λ c. search needs)
-    (λ c. short c 2 (lit< tt))
+    (λ c. short (told c 2 (lit< tt)))
     (λ c. search needs)
-    (λ c. short c 3 (lit< tt))
+    (λ c. short (told c 3 (lit< tt)))
     (λ c. search needs)
-    (λ c. short c 4 (lit< tt))
+    (λ c. short (told c 4 (lit< tt)))
     (λ c. search needs)
-    (λ c. short c 5 (lit< tt))
+    (λ c. short (told c 5 (lit< tt)))
     (λ c κs. tt)
     (λ c. search needs)
-    (λ c. short (c .before) 6 (lit< tt))
+    (λ c. short (told (c .before) 6 (lit< tt)))
     (λ c κs. tt)
     (λ c. search needs)
     (λ c. search needs)
     (λ c. search needs)
     (λ c κs. tt)
-    within
-    (λ c. sym (length-take-le _ _ (within (c .before))))
+    room
+    (λ c. sym (length-take-le _ _ (room (c .before))))
     (λ c κs. tt)
     (λ c κs. tt)
-    (λ c κs. tt)
-    (λ c κs. tt)
+    (λ c. search needs)
+    (λ c κs. search needs)
     (λ c. tt))

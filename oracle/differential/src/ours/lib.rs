@@ -1,6 +1,8 @@
 //! Our library as a Rust program calls it: the exported functions of the static library, and safe functions over them
 //! in the shapes of the crate `theirs`.
 
+pub mod scores;
+
 use cases::boards::{BoardAnswer, BoardArguments};
 
 // Every function is total: it accepts every number. So those that take numbers only are safe to call.
@@ -9,6 +11,7 @@ unsafe extern "C" {
     safe fn oracle_differing_bits(a: u64, b: u64) -> u32;
 
     safe fn oracle_turned(turn: u8, u: i16, v: i16, axis: u8) -> i32;
+    safe fn oracle_rotate_gc_top_left(turn: u8, u: i16, v: i16, axis: u8) -> i32;
     safe fn oracle_corner_translation(turn: u8, tx: i16, ty: i16, axis: u8) -> i32;
     safe fn oracle_cell_rect_corner(u: i16, v: i16, px: f32, corner: u8, axis: u8) -> f32;
 
@@ -65,6 +68,10 @@ pub fn differing_bits(a: u64, b: u64) -> u32 {
 
 pub fn turned(turn: u8, [u, v]: [i16; 2]) -> [i32; 2] {
     [0, 1].map(|axis| oracle_turned(turn, u, v, axis))
+}
+
+pub fn rotate_gc_top_left(turn: u8, [u, v]: [i16; 2]) -> [i32; 2] {
+    [0, 1].map(|axis| oracle_rotate_gc_top_left(turn, u, v, axis))
 }
 
 pub fn corner_translation(turn: u8, [tx, ty]: [i16; 2]) -> [i32; 2] {

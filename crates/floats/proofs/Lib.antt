@@ -1,0 +1,9 @@
+pub mod Values
+mod Grid
+pub mod Close
+pub mod Sums
+pub mod Products
+pub mod Compare
+pub mod Ranges
+pub mod Folds
+mod Examples

@@ -1,0 +1,82 @@
+-- Order and distance of whole numbers, as inequalities of their parts, so that `omega` reads them. Assumes nothing.
+use mathlib.Core.Path.{_≡_, sym, ap, _∙_}
+use Prim.Native.Nat.{ℕ, _+_, _*_, _≤_, _<_}
+use native.Mathlib.Nat.{le-trans, le-of-eq, mul-comm, mul-le-mul-right}
+use native.Mathlib.Omega.{arith}
+use lib.IntN.{ℤ, pos, natAbs, _+ℤ_, _-ℤ_, _*ℤ_, *ℤ-comm}
+use Rattle.integers.specs.Distance.{Within}
+use Rattle.integers.proofs.Parts.{plus, minus, Is, add-is, sub-is-parts, mul-is, abs-is, abs-mul, parts-le, ext}
+
+-- ---- the order
+abbrev pub Le : ℤ → ℤ → Type 0
+Le a b = plus a + minus b ≤ plus b + minus a
+
+abbrev pub Lt : ℤ → ℤ → Type 0
+Lt a b = plus a + minus b < plus b + minus a
+
+-- ---- |a − b| ≤ e
+pub record Near (a b : ℤ) (e : ℕ) : Type 0 where
+  pub above : plus a + minus b ≤ plus b + minus a + e
+  pub below : plus b + minus a ≤ plus a + minus b + e
+
+pub near→within : {a b : ℤ} {e : ℕ} → Near a b e → Within a b e
+near→within {a} {b} {e} h =
+    let s = sub-is-parts a b in
+    omega (arith, abs-is (a -ℤ b), parts-le (a -ℤ b) e (omega arith) (omega arith))
+
+pub within→near : {a b : ℤ} {e : ℕ} → Within a b e → Near a b e
+within→near {a} {b} {e} h =
+    let s = sub-is-parts a b in
+    let t = abs-is (a -ℤ b) in
+    record { above = omega arith; below = omega arith }
+
+pub near-refl : (a : ℤ) → Near a a 0
+near-refl a = record { above = omega arith; below = omega arith }
+
+pub near-wider : {a b : ℤ} {e d : ℕ} → e ≤ d → Near a b e → Near a b d
+near-wider l h = record { above = omega arith; below = omega arith }
+
+pub near-trans : {a b c : ℤ} {e d : ℕ} → Near a b e → Near b c d → Near a c (e + d)
+near-trans h k = record { above = omega arith; below = omega arith }
+
+pub near-add : {a b c d : ℤ} {e e' : ℕ} → Near a b e → Near c d e' → Near (a +ℤ c) (b +ℤ d) (e + e')
+near-add {a} {b} {c} {d} h k =
+    let x = add-is a c in
+    let y = add-is b d in
+    record { above = omega arith; below = omega arith }
+
+pub near-sub : {a b c d : ℤ} {e e' : ℕ} → Near a b e → Near c d e' → Near (a -ℤ c) (b -ℤ d) (e + e')
+near-sub {a} {b} {c} {d} h k =
+    let x = sub-is-parts a c in
+    let y = sub-is-parts b d in
+    record { above = omega arith; below = omega arith }
+
+-- ---- multiples
+pub scale-is : (a : ℤ) (w : ℕ) → Is (a *ℤ pos w) (plus a * w) (minus a * w)
+unfolding plus minus
+scale-is a w = omega (arith, mul-is a (pos w))
+
+pub scale-add : (w : ℕ) (a b : ℤ) → (a +ℤ b) *ℤ pos w ≡ a *ℤ pos w +ℤ b *ℤ pos w
+scale-add w a b =
+    let t = ap (λ (n : ℕ). n * w) (add-is a b) in
+    ext ((a +ℤ b) *ℤ pos w) (a *ℤ pos w +ℤ b *ℤ pos w)
+    (omega (arith, scale-is (a +ℤ b) w, scale-is a w, scale-is b w, add-is (a *ℤ pos w) (b *ℤ pos w)))
+
+-- ---- products
+pub sub-mul : (a b c : ℤ) → (a -ℤ b) *ℤ c ≡ a *ℤ c -ℤ b *ℤ c
+sub-mul a b c =
+    let s = sub-is-parts a b in
+    let p = ap (λ (n : ℕ). n * plus c) s in
+    let q = ap (λ (n : ℕ). n * minus c) s in
+    ext ((a -ℤ b) *ℤ c) (a *ℤ c -ℤ b *ℤ c)
+    (omega (arith, p, q, mul-is (a -ℤ b) c, mul-is a c, mul-is b c, sub-is-parts (a *ℤ c) (b *ℤ c)))
+
+pub near-mul-right : (c : ℤ) {a b : ℤ} {e : ℕ} → Near a b e → Near (a *ℤ c) (b *ℤ c) (e * natAbs c)
+near-mul-right c {a} {b} {e} h =
+    within→near (le-trans (le-of-eq (ap natAbs (sym (sub-mul a b c)) ∙ abs-mul (a -ℤ b) c)) (mul-le-mul-right (natAbs c) (near→within h)))
+
+pub near-mul-left : (w : ℤ) {a b : ℤ} {e : ℕ} → Near a b e → Near (w *ℤ a) (w *ℤ b) (natAbs w * e)
+near-mul-left w {a} {b} {e} h = rw (*ℤ-comm w a, *ℤ-comm w b, mul-comm (natAbs w) e) (near-mul-right w h)
+
+pub near-scale : (w : ℕ) {a b : ℤ} {e : ℕ} → Near a b e → Near (a *ℤ pos w) (b *ℤ pos w) (e * w)
+near-scale w h = near-mul-right (pos w) h

@@ -1,0 +1,50 @@
+-- What the bits of a code add, as a list holds it. Assumes nothing.
+use mathlib.Core.Path.{_≡_, ap, _∙_}
+use mathlib.Core.List.{List}
+use Prim.Native.Nat.{ℕ, zero, suc, _+_, _*_, _<_}
+use native.Mathlib.Nat.{add-zero}
+use native.Mathlib.Omega.{arith}
+use lib.ListN.{length, getD, set, length-set}
+use lib.Seq.{getD-set-same, getD-set-other}
+use lib.Ieee.{Float, nan}
+use borrow.Author.Count.{below-more}
+use Rattle.floats.specs.Units.{sumTo}
+use Rattle.floats.proofs.Folds.{sum-ext}
+use Rattle.matcher.specs.Codes.{bit}
+use Rattle.matcher.proofs.Bits.{bit-small}
+use Rattle.score_matrix.specs.Scores.{Samples, likelihood, term}
+use Rattle.score_matrix.specs.Likelihoods.{Holds, picked}
+
+-- one bit more is written
+module _ (table : List Float) (s : Samples) (k : ℕ) (l : List Float) (zeros ones : Float) (holds : Holds table s k l) (room : 2 * k + 1 < length l)
+    (z : zeros ≡ likelihood table s k 0) (o : ones ≡ likelihood table s k 1) where
+  abbrev written : List Float
+  written = set (set l (2 * k) zeros) (2 * k + 1) ones
+
+  earlier : (i : ℕ) → i < 2 * k → getD written i nan ≡ getD l i nan
+  earlier i h =
+      getD-set-other (set l (2 * k) zeros) (2 * k + 1) i ones nan (λ e. absurd (omega (arith, e)))
+      ∙ getD-set-other l (2 * k) i zeros nan (λ e. absurd (omega (arith, e)))
+
+  here : (getD written (2 * k) nan ≡ likelihood table s k 0) × (getD written (2 * k + 1) nan ≡ likelihood table s k 1)
+  here = (
+    getD-set-other (set l (2 * k) zeros) (2 * k + 1) (2 * k) ones nan (λ e. absurd (omega (arith, e))) ∙ getD-set-same l (2 * k) zeros nan (omega arith) ∙ z,
+    getD-set-same (set l (2 * k) zeros) (2 * k + 1) ones nan (rw length-set room) ∙ o,
+  )
+
+  pub holds-next : Holds table s (k + 1) written
+  holds-next =
+      below-more (λ j. (getD written (2 * j) nan ≡ likelihood table s j 0) × (getD written (2 * j + 1) nan ≡ likelihood table s j 1)) k
+      (λ j h. (earlier (2 * j) (omega arith) ∙ holds j h .0, earlier (2 * j + 1) (omega arith) ∙ holds j h .1)) here
+
+-- what is picked is what the score adds
+picked-term : (table : List Float) (s : Samples) (n : ℕ) (l : List Float) (code k : ℕ) → Holds table s n l → k < n → picked l code k ≡ term table s code k
+picked-term table s n l code k holds h = go (bit code k) (bit-small code k)
+  where
+    go : (b : ℕ) → b < 2 → getD l (2 * k + b) nan ≡ likelihood table s k b
+    go zero c = ap (λ (i : ℕ). getD l i nan) (add-zero (2 * k)) ∙ holds k h .0
+    go (suc zero) c = holds k h .1
+    go (suc (suc b)) c = absurd (omega arith)
+
+pub picked-score : (table : List Float) (s : Samples) (n : ℕ) (l : List Float) (code : ℕ) → Holds table s n l → sumTo (picked l code) n ≡ sumTo (term table s code) n
+picked-score table s n l code holds = sum-ext (picked l code) (term table s code) n (λ k h. picked-term table s n l code k holds h)

@@ -1,0 +1,112 @@
+// The score of one cell, and the code read from it. A grid is the cell's part of the caller's record.
+ghost use mathlib.Core.Path.{_≡_};
+ghost use Prim.Native.Nat.{ℕ, _+_, _*_, _<_, _≤_};
+ghost use lib.Dec.{ltb};
+ghost use Rattle.floats.specs.Units.{sumTo};
+ghost use Rattle.matcher.specs.Codes.{pick, placeOf};
+ghost use Rattle.score_matrix.specs.Scores.{samples, side, gridIndex, score as scoreOf, readCode};
+ghost use Rattle.score_matrix.specs.Likelihoods.{Holds, picked};
+use super::table;
+use matcher::Place;
+
+// Where the bit at `p` of a code stands in a grid.
+fn grid_index(bits: u64, border: u64, p: Place) -> usize
+    requires { ⌜ (bits ≤ 8) × (border ≤ 255) × (p .x < bits) × (p .y < bits) ⌝ }
+    ensures { λ r. ⌜ r ≡ gridIndex bits border p ⌝ }
+{
+    ((border + p.y) * (bits + 2 * border) + (border + p.x)) as usize
+}
+
+// The place of the bit after the one at `p`, row by row.
+fn next_place(bits: u64, p: Place) -> Place
+    requires { ⌜ (bits ≤ 8) × (p .x < bits) × (p .y < bits) ⌝ }
+    ensures { λ r. ⌜ ((k : ℕ) → p ≡ placeOf bits k → r ≡ placeOf bits (k + 1)) ⌝ }
+{
+    if p.x + 1 < bits {
+        return Place { x: p.x + 1, y: p.y };
+    }
+    Place { x: 0, y: p.y + 1 }
+}
+
+// What each bit of a code adds to the score of a cell: bit k adds entry 2k where it is 0, and entry 2k + 1 where it is 1.
+pub fn bit_likelihoods(
+    table: &[f32; 511],
+    grid: &[u8],
+    threshold: u8,
+    bits: u8,
+    border: u8,
+) -> [f32; 128]
+    requires { ⌜ bits ≤ 8 ⌝ }
+    requires { do ⌜ (← ⟦grid.len()⟧) ≡ side bits border * side bits border ⌝ }
+    ensures { λ r. ⌜ Holds (now (table .entry)) (samples bits border threshold (now (grid .entry))) (bits * bits) r ⌝ }
+{
+    let n = bits as u64;
+    let rim = border as u64;
+    let count = (n * n) as usize;
+    let mut likelihoods: [f32; 128] = [0.0; 128];
+    let mut p = Place { x: 0, y: 0 };
+    let mut k = 0;
+    while k < count {
+        let grey = grid[grid_index(n, rim, p)];
+        likelihoods[2 * k] = table::entry(table, grey, threshold);
+        likelihoods[2 * k + 1] = table::entry(table, threshold, grey);
+        p = next_place(n, p);
+        k += 1;
+    }
+    likelihoods
+}
+
+// The score of a turned code, from what its bits add.
+pub fn sum(likelihoods: &[f32; 128], bits: u8, code: u64) -> f32
+    requires { ⌜ bits ≤ 8 ⌝ }
+    ensures { λ r. ⌜ r ≡ sumTo (picked (now (likelihoods .entry)) code) (bits * bits) ⌝ }
+{
+    let n = (bits as usize) * (bits as usize);
+    let mut total: f32 = 0.0;
+    let mut rest = code;
+    let mut k = 0;
+    while k < n {
+        total = total + likelihoods[2 * k + (rest % 2) as usize];
+        rest = rest / 2;
+        k += 1;
+    }
+    total
+}
+
+// The score of one cell and one turned code.
+pub fn score(table: &[f32; 511], grid: &[u8], threshold: u8, bits: u8, border: u8, code: u64) -> f32
+    requires { ⌜ bits ≤ 8 ⌝ }
+    requires { do ⌜ (← ⟦grid.len()⟧) ≡ side bits border * side bits border ⌝ }
+    ensures { λ r. ⌜ r ≡ scoreOf (now (table .entry)) (samples bits border threshold (now (grid .entry))) code ⌝ }
+{
+    let likelihoods = bit_likelihoods(table, grid, threshold, bits, border);
+    sum(&likelihoods, bits, code)
+}
+
+fn below(grey: u8, threshold: u8) -> u64
+    ensures { λ r. ⌜ r ≡ pick (ltb grey threshold) 1 0 ⌝ }
+{
+    if grey < threshold {
+        return 1;
+    }
+    0
+}
+
+// The code read from a cell: a bit is 1 where grey is below the threshold.
+pub fn read_code(grid: &[u8], threshold: u8, bits: u8, border: u8) -> u64
+    requires { ⌜ bits ≤ 8 ⌝ }
+    requires { do ⌜ (← ⟦grid.len()⟧) ≡ side bits border * side bits border ⌝ }
+    ensures { λ r. ⌜ r ≡ readCode (samples bits border threshold (now (grid .entry))) ⌝ }
+{
+    let n = bits as u64;
+    let rim = border as u64;
+    let mut code: u64 = 0;
+    let mut p = Place { x: 0, y: 0 };
+    let mut k: u64 = 0;
+    while k < n * n {
+        code = code + (below(grid[grid_index(n, rim, p)], threshold) << k);
+        p = next_place(n, p);
+        k += 1;
+    }
+    code
+}

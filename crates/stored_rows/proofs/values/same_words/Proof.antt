@@ -1,0 +1,30 @@
+-- `stored_rows::values::same_words` is safe and ends. Assumes nothing.
+use Prim.Native.Nat.{_-_}
+use lib.ListN.{length}
+use borrow.Author.Needs.{needs}
+use Rattle.stored_rows.proofs.values.same_words.Statement.{statement}
+use Rattle.stored_rows.proofs.values.same_words.Tie as tie
+
+abbrev Inv-loop : tie.InvT-loop
+Inv-loop answers first words k₀ k = Unit {0}
+
+abbrev μ-loop : tie.MeasureT-loop
+μ-loop answers first words k₀ k = length answers - k
+
+pub same-words-spec : {M : Type 1} → statement M
+same-words-spec =
+    tie.close
+    (tie.spec
+    Inv-loop
+    μ-loop
+    (λ c. tt)
+    (λ c. search needs)
+    (λ c. search needs)
+    (λ c. search needs)
+    (λ c. search needs)
+    (λ c. search needs)
+    (λ c. tt)
+    (λ c. search needs)
+    (λ c. search needs)
+    (λ c. tt)
+    (λ c. tt))

@@ -1,0 +1,44 @@
+//! The likelihood table: what one bit of a cell adds to a score. `score_matrix.rs` has no such table; it works the
+//! values out for each bit anew. What stands here by document 01 alone is tested against it.
+
+use calib_targets_core::log_sigmoid;
+use cases::cells::Cell;
+use std::ops::RangeInclusive;
+
+/// Threshold less grey.
+const DIFFERENCES: RangeInclusive<i16> = -255..=255;
+
+pub const TABLE_LENGTH: usize = 511;
+
+/// Slope and floor of the table that our library holds; they are upstream's defaults.
+pub const BUILT_IN: [f32; 2] = [36.0, -6.0];
+
+/// Entry d + 255 is for the difference d: the operations of the Rust, in its order.
+pub fn likelihood_table([slope, floor]: [f32; 2]) -> [f32; TABLE_LENGTH] {
+    let slope_over_255 = slope / 255.0;
+    let mut table = [0.0; TABLE_LENGTH];
+    for (entry, d) in table.iter_mut().zip(DIFFERENCES) {
+        let signed = slope_over_255 * f32::from(d);
+        *entry = log_sigmoid(signed).max(floor);
+    }
+    table
+}
+
+/// Question 10, which is added: has the table 511 entries, each from -8 to 0?
+pub fn is_table(entries: &[f32]) -> bool {
+    entries.len() == TABLE_LENGTH && entries.iter().all(|entry| (-8.0..=0.0).contains(entry))
+}
+
+/// The score by the rule of document 01, for a table of any origin and a code that is already turned.
+pub fn score_by_table(table: &[f32; TABLE_LENGTH], cell: &Cell, code: u64) -> f32 {
+    let [bits, border] = [cell.bits, cell.border].map(usize::from);
+    let side = Cell::side(cell.bits, cell.border);
+    let mut score = 0.0;
+    for k in 0..bits * bits {
+        let grey = cell.grid[(border + k / bits) * side + border + k % bits];
+        let d = i16::from(cell.threshold) - i16::from(grey);
+        let d = if code >> k & 1 == 1 { d } else { -d };
+        score += table[(d + 255) as usize];
+    }
+    score
+}
