@@ -1,12 +1,12 @@
 -- The questions one by one: what is left of them after a yes, and what the range question tells. Assumes nothing.
 use mathlib.Core.Path.{_≡_, refl, ap}
-use mathlib.Core.Bool.{Bool, true, false, _&&_}
+use mathlib.Core.Bool.{Bool, true, false}
 use mathlib.Core.List.{List}
 use Prim.Native.Nat.{ℕ, _≤_}
-use native.Mathlib.Omega.{arith}
 use lib.Dec.{leb, ltb}
 use lib.ListN.{length}
 use borrow.Author.Tests.{leb-true}
+use Rattle.refusal.proofs.Questions.{both}
 use Rattle.refusal.specs.declared.Refusal.{Refusal}
 use Rattle.refusal.specs.declared.Refusal.the-variants as refusal
 use Rattle.board.specs.declared.CharucoBoardSpec.{CharucoBoardSpec}
@@ -57,10 +57,6 @@ pub record InRange (s : CharucoBoardSpec) (n : ℕ) : Type 0 where
   pub some-bits : 1 ≤ s .bits
   pub bits : s .bits ≤ 8
   pub codes : n ≤ 1024
-
-both : (a b : Bool) → (a && b) ≡ true → (a ≡ true) × (b ≡ true)
-both true b e = (refl, e)
-both false b e = (e, let z : _≡_ {A = ℕ} 0 1 = cc in absurd (omega arith))
 
 pub in-range : (s : CharucoBoardSpec) (n : ℕ) → rangeAnswer s n ≡ true → InRange s n
 in-range s n e =

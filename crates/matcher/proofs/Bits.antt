@@ -30,8 +30,8 @@ from-below f b (suc n) =
     omega (arith, from-below f b n, mul-le-mul-right (2 ^ n) h, pow-suc 2 n)
 
 -- what stands from place n up leaves the bits below n as they are
-above : (a b n k : ℕ) → k < n → bit (a + b * 2 ^ n) k ≡ bit a k
-above a b n k h =
+pub bit-under : (a b n k : ℕ) → k < n → bit (a + b * 2 ^ n) k ≡ bit a k
+bit-under a b n k h =
     ap (λ (m : ℕ). (a + m) / 2 ^ k % 2) split
     ∙ ap (λ (m : ℕ). m % 2) (add-mul-div-right a (b * 2 ^ (n - suc k) * 2) (pow-pos k))
     ∙ add-mul-mod-self-right (a / 2 ^ k) (b * 2 ^ (n - suc k)) 2
@@ -54,7 +54,7 @@ bit-from f b (suc n) k h = go (eq-or-lt-of-le (le-of-suc-le-suc h)) (bit-from f 
 
     go : (k ≡ n) ⊎ (k < n) → (k < n → bit (fromBits f n) k ≡ f k) → bit (fromBits f n + f n * 2 ^ n) k ≡ f k
     go (inl e) ih = rw e top
-    go (inr l) ih = above (fromBits f n) (f n) n k l ∙ ih l
+    go (inr l) ih = bit-under (fromBits f n) (f n) n k l ∙ ih l
 
 -- the bits 0 to n − 1 of a number
 pub from-bits : (c n : ℕ) → fromBits (bit c) n ≡ c % 2 ^ n

@@ -1,6 +1,6 @@
-// The C functions by which the Rust oracle asks our library, for one number each or all scores of a cell. For tests only.
-// Every function accepts every number. Leans on `refusal`, `matcher`, `grid_alignment`, `board` and `score_matrix`, and for
-// proofs on `integers` and `floats`.
+// The C functions by which the Rust oracle asks our library, for one number each, all scores of a cell, or a list of cells. For tests
+// only. Every function accepts every number and list. Leans on `refusal`, `matcher`, `grid_alignment`, `board`, `score_matrix`,
+// `shot_record` and `marker_sampling`, and for proofs on `integers` and `floats`.
 ghost use mathlib.Core.Path.{_≡_};
 ghost use Prim.Native.Nat.{_%_};
 ghost use Rattle.matcher.specs.Codes.{turnedWord, differing};
@@ -18,6 +18,8 @@ use board::Surrounding;
 use grid_alignment::Coord;
 use grid_alignment::GridAlignment;
 
+mod marker_cells;
+mod records;
 mod scores;
 
 // Says that there is no id and no place.

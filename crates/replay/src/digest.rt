@@ -1,16 +1,9 @@
-// The digest of a row of numbers.
-ghost use Prim.Native.Nat.{_^_, _≤_};
+// The digest of what a layout answers.
 use board::Located;
 use board::Numbered;
 use board::ObjectPoint;
 use board::Surrounding;
-
-// The digest `h` after one more number.
-fn after(h: u32, x: u64) -> u32
-    requires { ⌜ x ≤ 2 ^ 32 ⌝ }
-{
-    (((h as u64) * 65599 + x) % 4294967291) as u32
-}
+use stored_rows::digest::after;
 
 fn after_two(h: u32, x: u32, y: u32) -> u32 {
     after(after(h, x as u64), y as u64)

@@ -1,6 +1,9 @@
 // Rows of stored answers: reading them byte by byte, what their words stand for, and how many agree. For the programs that
-// replay such rows. Leans on `floats`.
+// replay such rows. Leans on `floats`, `io` and `libc`.
+pub mod digest;
 pub mod greys;
+pub mod input;
+pub mod print;
 pub mod rows;
 pub mod tally;
 pub mod values;

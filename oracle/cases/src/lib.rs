@@ -3,6 +3,7 @@
 pub mod boards;
 pub mod cells;
 pub mod codes;
+pub mod corner_lists;
 pub mod floats;
 pub mod layout;
 pub mod points;

@@ -4,6 +4,7 @@ mod alignments;
 mod board;
 mod codes;
 mod likelihood;
+mod marker_cells;
 mod refusals;
 mod scores;
 
@@ -11,6 +12,7 @@ pub use alignments::{cell_rect_corners, corner_translation, turned};
 pub use board::Board;
 pub use codes::{CodeMatch, CodeMatcher, rotate_code};
 pub use likelihood::{BUILT_IN, TABLE_LENGTH, is_table, likelihood_table, score_by_table};
+pub use marker_cells::{Labeled, marker_cells};
 pub use refusals::board_new;
 pub use scores::{
     BORDER_THRESHOLD, Samples, ScoreBoard, Scores, cell_weight, null_score, read_code,

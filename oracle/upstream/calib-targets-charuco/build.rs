@@ -2,6 +2,10 @@ fn main() {
     upstream_text::declare(&[
         ("alignment", "crates/calib-targets-charuco/src/alignment.rs"),
         ("board", "crates/calib-targets-charuco/src/board.rs"),
+        (
+            "marker_sampling",
+            "crates/calib-targets-charuco/src/detector/marker_sampling.rs",
+        ),
     ]);
     upstream_text::declare_folder(
         "board_match",

@@ -4,6 +4,7 @@ fn main() {
             "bit_likelihood",
             "crates/calib-targets-core/src/bit_likelihood.rs",
         ),
+        ("corner_map", "crates/calib-targets-core/src/corner_map.rs"),
         (
             "grid_alignment",
             "crates/calib-targets-core/src/grid_alignment.rs",

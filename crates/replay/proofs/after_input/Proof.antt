@@ -4,10 +4,10 @@ use Rattle.replay.proofs.after_input.Statement.{statement}
 use Rattle.replay.proofs.after_input.Tie as tie
 
 abbrev Inv-loop : tie.InvT-loop
-Inv-loop progress₀ turns₀ progress turns = Unit {0}
+Inv-loop tally₀ turns₀ tally turns = Unit {0}
 
 abbrev μ-loop : tie.MeasureT-loop
-μ-loop progress₀ turns₀ progress turns = turns
+μ-loop tally₀ turns₀ tally turns = turns
 
 pub after-input-spec : {M : Type 1} → statement M
 after-input-spec =
@@ -16,11 +16,10 @@ after-input-spec =
     Inv-loop
     μ-loop
     (λ c κs. tt)
-    (λ c κs. tt)
     (λ c. tt)
     (λ c κs. tt)
+    (λ c κs. search needs)
+    (λ c κs. tt)
     (λ c. search needs)
-    (λ c. search needs)
-    (λ c. tt)
     (λ c. tt)
     (λ c. tt))

@@ -4,7 +4,9 @@
 
 mod case;
 mod limits;
+#[path = "../bench/overflow.rs"]
 mod overflow;
+#[path = "../bench/times.rs"]
 mod times;
 
 use case::{CASES, Case};
@@ -65,7 +67,7 @@ fn arguments() -> Option<Arguments> {
 /// Prints the times of both sides. Do their answers agree?
 fn measure(case: &Case, arguments: &Arguments) -> bool {
     let repeats = SCORES_OF_A_ROUND.div_ceil(case.score_count());
-    let mut times = Times::new(repeats * case.score_count());
+    let mut times = Times::new(repeats * case.score_count(), "score");
     let (mut ours, mut theirs) = (None, None);
     for _ in 0..arguments.rounds {
         if arguments.ours {

@@ -3,6 +3,8 @@
 mod alignments;
 mod codes;
 mod layout;
+mod marker_cells;
+mod records;
 mod refusals;
 mod scores;
 mod subject;
@@ -16,6 +18,8 @@ fn main() -> ExitCode {
         refusals::compare(),
         alignments::compare(),
         scores::compare(),
+        marker_cells::compare(),
+        records::compare(),
     ]
     .concat();
     for subject in &subjects {

@@ -1,6 +1,8 @@
 //! Our library as a Rust program calls it: the exported functions of the static library, and safe functions over them
 //! in the shapes of the crate `theirs`.
 
+pub mod marker_cells;
+pub mod records;
 pub mod scores;
 
 use cases::boards::{BoardAnswer, BoardArguments};

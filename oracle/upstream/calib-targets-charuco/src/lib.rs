@@ -1,10 +1,13 @@
-//! Upstream's `alignment.rs`, `board.rs` and `board_match/`, with a driver for the latter.
+//! Upstream's `alignment.rs`, `board.rs`, `board_match/`, with a driver for it, and `marker_sampling.rs`.
 
+mod marker_cells;
 mod settings;
 include!(concat!(env!("OUT_DIR"), "/alignment.rs"));
 include!(concat!(env!("OUT_DIR"), "/board.rs"));
 include!(concat!(env!("OUT_DIR"), "/board_match.rs"));
+include!(concat!(env!("OUT_DIR"), "/marker_sampling.rs"));
 
 pub use board::{CharucoBoard, CharucoBoardError, CharucoBoardSpec, MarkerLayout};
 pub use board_match::BoardMatchDiagnostics as ScoredCells;
+pub use marker_cells::marker_cells;
 pub use settings::ScoreSettings;

@@ -3,30 +3,31 @@
 use std::fmt::{self, Display, Formatter};
 use std::time::Instant;
 
-/// In nanoseconds for each score.
+/// In nanoseconds for each score, or whatever else a round has many of.
 pub struct Times {
-    scores_of_a_round: usize,
+    of_a_round: usize,
+    unit: &'static str,
     ours: Vec<f64>,
     theirs: Vec<f64>,
 }
 
 impl Times {
-    pub const fn new(scores_of_a_round: usize) -> Self {
+    pub const fn new(of_a_round: usize, unit: &'static str) -> Self {
         Self {
-            scores_of_a_round,
+            of_a_round,
+            unit,
             ours: Vec::new(),
             theirs: Vec::new(),
         }
     }
 
     pub fn ours(&mut self, round: impl FnOnce()) {
-        self.ours
-            .push(nanoseconds(round) / self.scores_of_a_round as f64);
+        self.ours.push(nanoseconds(round) / self.of_a_round as f64);
     }
 
     pub fn theirs(&mut self, round: impl FnOnce()) {
         self.theirs
-            .push(nanoseconds(round) / self.scores_of_a_round as f64);
+            .push(nanoseconds(round) / self.of_a_round as f64);
     }
 }
 
@@ -48,9 +49,10 @@ impl Display for Times {
         let sides = [("ours", &self.ours), ("theirs", &self.theirs)];
         for (side, times) in sides {
             if let Some([best, median]) = best_and_median(times) {
+                let unit = self.unit;
                 writeln!(
                     f,
-                    "    {side:6}  best {best:8.2} ns a score, median {median:8.2}"
+                    "    {side:6}  best {best:8.2} ns a {unit}, median {median:8.2}"
                 )?;
             }
         }

@@ -1,0 +1,9 @@
+pub mod Tests
+pub mod Placing
+pub mod Keyed
+pub mod Holders
+pub mod Ordered
+pub mod Searched
+pub mod Passing
+pub mod Answered
+pub mod Laws

@@ -1,0 +1,102 @@
+-- Tests of truth values and of whole numbers, as equations. Assumes nothing.
+use mathlib.Core.Path.{_≡_, refl, sym, ap, _∙_}
+use mathlib.Core.Bool.{Bool, true, false, not, false≢true}
+use mathlib.Core.Logic.{_⊎_, inl, inr}
+use Prim.Native.Nat.{ℕ, _+_, _*_, _^_, _≤_, _<_}
+use native.Mathlib.Nat.{le-refl}
+use native.Mathlib.Omega.{arith}
+use lib.IntN.{ℤ, pos, negsuc, natAbs, negℤ, _+ℤ_, _-ℤ_, +ℤ-negℤ-cancel}
+use lib.Dec.{ltb, leb·zero, leb·suc-zero}
+use lib.Signed.{leZ, ltZ, mag}
+use mir.Syntax.{w32}
+use mir.ValLaws.{toZ-ofZ}
+use borrow.Author.Tests.{ltb-true, ltb-false, leb-true, le-leb}
+use Rattle.refusal.proofs.Questions.{both}
+use Rattle.integers.proofs.Parts.{plus, minus, plus-neg, minus-neg, add-is, sub-is-parts, abs-is, ext}
+use Rattle.integers.proofs.Words.{word}
+use Rattle.marker_sampling.specs.Cells.{same}
+use Rattle.marker_sampling.specs.Entry.{within}
+
+-- two tests that hold together
+pub agree : (a b : Bool) → (a ≡ true → b ≡ true) → (b ≡ true → a ≡ true) → a ≡ b
+agree true b f g = sym (f refl)
+agree false true f g = g refl
+agree false false f g = refl
+
+pub fails : (a : Bool) → (a ≡ true → ⊥) → a ≡ false
+fails true f = absurd (f refl)
+fails false f = refl
+
+pub lt-or-le : (a b : ℕ) → (a < b) ⊎ (b ≤ a)
+lt-or-le a b = go (ltb a b) refl
+  where
+    go : (t : Bool) → ltb a b ≡ t → (a < b) ⊎ (b ≤ a)
+    go true e = inl (ltb-true a b e)
+    go false e = inr (ltb-false a b e)
+
+pub same-refl : (a : ℤ) → same a a ≡ true
+same-refl (pos a) = rw (le-leb a a (le-refl a))
+same-refl (negsuc a) = rw (le-leb a a (le-refl a))
+
+pub same-eq : (a b : ℤ) → same a b ≡ true → a ≡ b
+same-eq (pos a) (pos b) e = let h = both (leZ (pos a) (pos b)) _ e in ap pos (omega (arith, leb-true a b (h .0), leb-true b a (h .1)))
+same-eq (pos a) (negsuc b) e = absurd (false≢true e)
+same-eq (negsuc a) (pos b) e = absurd (false≢true e)
+same-eq (negsuc a) (negsuc b) e = let h = both (leZ (negsuc a) (negsuc b)) _ e in ap negsuc (omega (arith, leb-true b a (h .0), leb-true a b (h .1)))
+
+le-parts : (a b : ℤ) → leZ a b ≡ true → plus a + minus b ≤ plus b + minus a
+unfolding plus minus
+le-parts (pos a) (pos b) e = omega (arith, leb-true a b e)
+le-parts (pos a) (negsuc b) e = absurd (false≢true e)
+le-parts (negsuc a) (pos b) e = omega arith
+le-parts (negsuc a) (negsuc b) e = omega (arith, leb-true b a e)
+
+no-minus : (z : ℤ) → minus z ≤ plus z → minus z ≡ 0
+unfolding plus minus
+no-minus (pos n) h = refl
+no-minus (negsuc n) h = absurd (omega arith)
+
+-- a number that fits a word is read back from it
+pub read-back : (z : ℤ) → mag z < 2 ^ 31 → word z ≡ z
+read-back z h = toZ-ofZ w32 z (record { sfits = h })
+
+-- the test of a sign
+pub not-negative : (z : ℤ) → leZ (pos 0) z ≡ not (ltZ z (pos 0))
+not-negative (pos n) = leb·zero n ∙ sym (ap not (leb·suc-zero n))
+not-negative (negsuc n) = refl
+
+-- a whole number from −m to m is some n from 0 to 2m, less m
+pub offset-of : ℕ → ℤ → ℕ
+offset-of m z = natAbs (z +ℤ pos m)
+
+module _ (m : ℕ) where
+  parts-within : (z : ℤ) → within m z ≡ true → (minus z ≤ plus z + m) × (plus z ≤ minus z + m)
+  unfolding plus minus
+  parts-within z e =
+      let h = both (leZ (negℤ (pos m)) z) _ e in
+      let a = le-parts (negℤ (pos m)) z (h .0) in
+      let b = le-parts z (pos m) (h .1) in
+      (omega (arith, plus-neg (pos m), minus-neg (pos m)), omega arith)
+
+  shifted : (z : ℤ) → within m z ≡ true → (minus (z +ℤ pos m) ≡ 0) × (plus (z +ℤ pos m) + minus z ≡ plus z + m)
+  unfolding plus minus
+  shifted z e =
+      let a = parts-within z e in
+      let b = add-is z (pos m) in
+      let n = no-minus (z +ℤ pos m) (omega arith) in
+      (n, omega arith)
+
+  pub offset-small : (z : ℤ) → within m z ≡ true → offset-of m z < 2 * m + 1
+  unfolding offset-of
+  offset-small z e = omega (arith, parts-within z e, shifted z e, abs-is (z +ℤ pos m))
+
+  pub offset-is : (z : ℤ) → within m z ≡ true → z +ℤ pos m ≡ pos (offset-of m z)
+  unfolding offset-of plus minus
+  offset-is z e = ext (z +ℤ pos m) (pos (natAbs (z +ℤ pos m))) (omega (arith, shifted z e, abs-is (z +ℤ pos m)))
+
+  pub offset-back : (z : ℤ) → within m z ≡ true → z ≡ pos (offset-of m z) -ℤ pos m
+  offset-back z e = sym (ap (λ (y : ℤ). y -ℤ pos m) (sym (offset-is z e)) ∙ +ℤ-negℤ-cancel z (pos m))
+
+  pub offset-only : (a b : ℕ) → pos a -ℤ pos m ≡ pos b -ℤ pos m → a ≡ b
+  unfolding plus minus
+  offset-only a b e = omega (arith, sub-is-parts (pos a) (pos m), sub-is-parts (pos b) (pos m), ap plus e, ap minus e)

@@ -1,0 +1,130 @@
+-- What the inner functions say: the key of a grid point is its place row by row, and a cell's words are found by keys.
+use Prim.Native.Nat.{ℕ, _+_, _*_, _/_, _%_, _≤_, _<_}
+use mathlib.Core.Path.{_≡_}
+use mathlib.Core.Bool.{Bool, true, false, cond, _&&_}
+use mathlib.Core.List.{List, [], _∷_, _++_}
+use mathlib.Core.Option.{Option, none, some}
+use lib.Dec.{eqb}
+use lib.ListN.{length, getD, take}
+use lib.IntN.{ℤ, pos, negsuc, _-ℤ_}
+use lib.Signed.{leZ}
+use Rattle.grid_alignment.specs.declared.Coord.{Coord}
+use Rattle.grid_alignment.specs.Alignment.{point, corner}
+use Rattle.marker_sampling.specs.Cells.{Corners, stands, holder, cellsBefore, words}
+
+abbrev pub cornersOf : ℕ → List ℤ → Corners
+cornersOf count grid = record { count = count; grid = grid }
+
+-- how many columns, and rows, there are from −m to m
+abbrev pub side : ℕ → ℕ
+side m = 2 * m + 1
+
+-- the point u columns and v rows from (−m, −m)
+abbrev pub gridPoint : ℕ → ℕ → ℕ → Coord
+gridPoint m u v = point (pos u -ℤ pos m) (pos v -ℤ pos m)
+
+-- index k stands at the point of its key, and at no point past the range
+pub record KeyOf (m : ℕ) (c : Corners) (k key : ℕ) : Type 0 where
+  pub at : (u v : ℕ) → u < side m → v < side m → stands c k (gridPoint m u v) ≡ eqb key (v * side m + u)
+  pub right : (u v : ℕ) → side m ≤ u → stands c k (gridPoint m u v) ≡ false
+  pub under : (u v : ℕ) → side m ≤ v → stands c k (gridPoint m u v) ≡ false
+  pub most : key ≤ side m * side m
+  pub small : key < side m * side m → k < c .count
+
+-- a word of the map is inlier i's: its key, and its place in the list
+pub record WordOf (m : ℕ) (c : Corners) (inliers : List ℕ) (i word : ℕ) : Type 0 where
+  pub key : KeyOf m c (getD inliers i 0) (word / 1024)
+  pub place : word % 1024 ≡ i
+
+abbrev pub Rising : List ℕ → ℕ → Type 0
+Rising map n = (p q : ℕ) → p ≤ q → q < n → getD map p 0 ≤ getD map q 0
+
+-- the map of the first n inliers: their words, in rising order
+pub record MapOf (m : ℕ) (c : Corners) (inliers : List ℕ) (n : ℕ) (map : List ℕ) : Type 0 where
+  pub rising : Rising map n
+  pub has : (i : ℕ) → i < n → (j : ℕ) × (j < n) × WordOf m c inliers i (getD map j 0)
+  pub from : (j : ℕ) → j < n → (i : ℕ) × (i < n) × WordOf m c inliers i (getD map j 0)
+
+-- the first r of n words are below x, and no other is
+pub record LowerBound (map : List ℕ) (n x r : ℕ) : Type 0 where
+  pub inside : r ≤ n
+  pub below : (k : ℕ) → k < r → getD map k 0 < x
+  pub above : (k : ℕ) → r ≤ k → k < n → x ≤ getD map k 0
+
+-- the first p of n words are below x
+pub record Below (map : List ℕ) (n x p : ℕ) : Type 0 where
+  pub inside : p ≤ n
+  pub below : (k : ℕ) → k < p → getD map k 0 < x
+
+-- the first n words before and after are the same ones
+pub record SameWords (n : ℕ) (before after : List ℕ) : Type 0 where
+  pub has : (i : ℕ) → i < n → (j : ℕ) × (j < n) × (getD after j 0 ≡ getD before i 0)
+  pub from : (j : ℕ) → j < n → (i : ℕ) × (i < n) × (getD after j 0 ≡ getD before i 0)
+
+-- the word at i was moved down by gaps
+pub record Sifted (i gap : ℕ) (before after : List ℕ) : Type 0 where
+  pub long : length after ≡ length before
+  pub same : (n : ℕ) → i < n → SameWords n before after
+  pub rising : gap ≡ 1 → Rising before i → Rising after (i + 1)
+
+-- each of the first n words was moved down by gaps
+pub record Swept (n gap : ℕ) (before after : List ℕ) : Type 0 where
+  pub long : length after ≡ length before
+  pub same : SameWords n before after
+  pub rising : gap ≡ 1 → Rising after n
+
+-- the first n words were put in rising order
+pub record Sorted (n : ℕ) (before after : List ℕ) : Type 0 where
+  pub long : length after ≡ length before
+  pub same : SameWords n before after
+  pub rising : Rising after n
+
+-- the first n words are those of the first n inliers, in the order of the list
+abbrev pub Filled : ℕ → Corners → List ℕ → ℕ → List ℕ → Type 0
+Filled m c inliers n map = (i : ℕ) → i < n → WordOf m c inliers i (getD map i 0)
+
+-- no key is past `end`
+abbrev pub Bounded : ℕ → List ℕ → ℕ → Type 0
+Bounded end map n = (j : ℕ) → j < n → getD map j 0 / 1024 ≤ end
+
+-- what a search asks of the map: at most 1,024 inliers, words in rising order, keys in bounds, places in the list, and indices below
+-- 1,024 where there is a grid point
+pub record Searchable (m : ℕ) (inliers map : List ℕ) : Type 0 where
+  pub short : length inliers ≤ 1024
+  pub rising : Rising map (length inliers)
+  pub bounded : Bounded (side m * side m) map (length inliers)
+  pub place : (j : ℕ) → j < length inliers → getD map j 0 % 1024 < length inliers
+  pub small : (j : ℕ) → j < length inliers → getD map j 0 / 1024 < side m * side m → getD inliers (getD map j 0 % 1024) 0 < 1024
+
+-- r is from `from` to `end`, and no key of the first n words is from `from` to r − 1
+pub record Next (map : List ℕ) (n end from r : ℕ) : Type 0 where
+  pub least : from ≤ r
+  pub most : r ≤ end
+  pub passed : (j : ℕ) → j < n → getD map j 0 / 1024 < r → getD map j 0 / 1024 < from
+
+-- a corner's index, or −1
+abbrev pub indexOrMinusOne : Option ℕ → ℤ
+indexOrMinusOne none = negsuc 0
+indexOrMinusOne (some k) = pos k
+
+-- the words of a cell, with −1 for a corner that is missing
+abbrev pub foundWords : Corners → List ℕ → Coord → List ℤ
+foundWords c inliers p =
+    p .u ∷ p .v ∷ indexOrMinusOne (holder c inliers (corner 0 p)) ∷ indexOrMinusOne (holder c inliers (corner 1 p)) ∷ indexOrMinusOne (holder c inliers (corner 2 p)) ∷ indexOrMinusOne (holder c inliers (corner 3 p)) ∷ []
+
+abbrev pub present : List ℤ → ℕ → Bool
+present cell w = leZ (pos 0) (getD cell w (pos 0))
+
+abbrev pub wholeWords : List ℤ → Bool
+wholeWords cell = present cell 2 && (present cell 3 && (present cell 4 && present cell 5))
+
+-- a cell was put behind n cells, if it is whole
+pub record Put (n : ℕ) (whole : Bool) (cell before after : List ℤ) (r : ℕ) : Type 0 where
+  pub count : r ≡ cond whole (n + 1) n
+  pub left : whole ≡ false → after ≡ before
+  pub added : whole ≡ true → n < 256 → take (6 * n + 6) after ≡ take (6 * n) before ++ cell
+
+-- how many cells there are among the first places, and, if they are at most 256, their words
+pub record Collected (m : ℕ) (c : Corners) (inliers : List ℕ) (places : ℕ) (results : List ℤ) (n : ℕ) : Type 0 where
+  pub count : n ≡ length (cellsBefore m c inliers places)
+  pub words : n ≤ 256 → take (6 * n) results ≡ words c inliers (cellsBefore m c inliers places)

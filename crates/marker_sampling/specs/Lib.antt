@@ -1,0 +1,4 @@
+pub mod Cells
+pub mod Entry
+pub mod Keys
+pub mod Rules

@@ -1,0 +1,59 @@
+// The cells entry (marker_sampling.rs, corner_map.rs): which cells are whole, from labelled corners. Leans on `refusal`, `floats`,
+// `grid_alignment` and, for the laws of whole numbers, `integers`.
+ghost use mathlib.Core.Path.{_≡_};
+ghost use Rattle.marker_sampling.specs.Entry.{cornersAnswer, markerCells, markerCellsList};
+
+mod corner_map;
+mod questions;
+mod sort;
+mod walk;
+
+use refusal::Refusal;
+
+// How many cells were found.
+pub enum MarkerCells {
+    Found(usize),
+    Refused(Refusal),
+}
+
+// Question 18 without the inliers: at most 1,024 corners, their grid points from −4,096 to 4,096, their scores finite?
+pub fn corners_in_range(scores: &[f32], grid: &[i32]) -> bool
+    ensures { λ r. ⌜ r ≡ cornersAnswer (now (scores .entry)) (now (grid .entry)) ⌝ }
+{
+    if 1024 < scores.len() {
+        return false;
+    }
+    if !questions::all_placed(scores.len(), grid) {
+        return false;
+    }
+    questions::all_finite(scores)
+}
+
+// The whole cells row by row, six words each, in front of the list that is lent. A refusal leaves the list as it is.
+pub fn build_marker_cells(
+    scores: &[f32],
+    grid: &[i32],
+    inliers: &[usize],
+    cells: &mut [i32],
+) -> MarkerCells
+    ensures answer { λ r. ⌜ r ≡ markerCells (now (scores .entry)) (now (grid .entry)) (now (inliers .entry)) (now (cells .entry)) ⌝ }
+    ensures list { λ _. ⌜ now (cells .exit) ≡ markerCellsList (now (scores .entry)) (now (grid .entry)) (now (inliers .entry)) (now (cells .entry)) ⌝ }
+{
+    if !corners_in_range(scores, grid) {
+        return MarkerCells::Refused(Refusal::CornersOutOfRange);
+    }
+    if 1024 < inliers.len() {
+        return MarkerCells::Refused(Refusal::CornersOutOfRange);
+    }
+    if cells.len() < 1536 {
+        return MarkerCells::Refused(Refusal::ListTooShort);
+    }
+    let map = corner_map::build_corner_map(scores.len(), grid, inliers);
+    let mut results: [i32; 1536] = [0; 1536];
+    let count = walk::collect(&map, inliers, &mut results);
+    if 256 < count {
+        return MarkerCells::Refused(Refusal::TooManyCells);
+    }
+    walk::copy(&results, 6 * count, cells, 0);
+    MarkerCells::Found(count)
+}

@@ -1,0 +1,12 @@
+pub mod Lists
+pub mod Reading
+pub mod Whole
+pub mod LittleEndian
+pub mod Runs
+pub mod Sequences
+pub mod CellMaps
+pub mod CellBytes
+pub mod Parts
+pub mod ReadBack
+pub mod WrittenBack
+pub mod Laws

@@ -1,0 +1,44 @@
+-- Lists of f 0 to f (n − 1), and the element at a place. Assumes nothing.
+use mathlib.Core.Path.{_≡_, refl, ap}
+use Prim.Native.Nat.{ℕ, zero, suc, _≤_, _<_}
+use native.Mathlib.Nat.{le-of-suc-le-suc}
+use native.Mathlib.Omega.{arith}
+use mathlib.Core.List.{List, [], _∷_}
+use mathlib.Core.Option.{none, some}
+use lib.ListN.{length, getD}
+use Rattle.shot_record.specs.Shots.{list}
+use Rattle.shot_record.specs.Answers.{nth}
+
+module _ {A : Type 0} where
+  pub length-list : (f : ℕ → A) (n : ℕ) → length (list f n) ≡ n
+  unfolding list
+  length-list f zero = refl
+  length-list f (suc n) = ap suc (length-list (λ (k : ℕ). f (suc k)) n)
+
+  pub getD-list : (f : ℕ → A) (n k : ℕ) (d : A) → k < n → getD (list f n) k d ≡ f k
+  unfolding list
+  getD-list f zero k d h = absurd (omega arith)
+  getD-list f (suc n) zero d h = refl
+  getD-list f (suc n) (suc k) d h = getD-list (λ (k : ℕ). f (suc k)) n k d (le-of-suc-le-suc h)
+
+  pub nth-inside : (xs : List A) (k : ℕ) (d : A) → k < length xs → nth xs k ≡ some (getD xs k d)
+  unfolding nth
+  nth-inside [] k d h = absurd (omega arith)
+  nth-inside (x ∷ xs) zero d h = refl
+  nth-inside (x ∷ xs) (suc k) d h = nth-inside xs k d (le-of-suc-le-suc h)
+
+  pub nth-past : (xs : List A) (k : ℕ) → length xs ≤ k → nth xs k ≡ none
+  unfolding nth
+  nth-past [] k h = refl
+  nth-past (x ∷ xs) zero h = absurd (omega arith)
+  nth-past (x ∷ xs) (suc k) h = nth-past xs k (le-of-suc-le-suc h)
+
+  -- the same for a list of f 0 to f (n − 1)
+  pub nth-list : (f : ℕ → A) (n k : ℕ) → k < n → nth (list f n) k ≡ some (f k)
+  unfolding nth list
+  nth-list f zero k h = absurd (omega arith)
+  nth-list f (suc n) zero h = refl
+  nth-list f (suc n) (suc k) h = nth-list (λ (k : ℕ). f (suc k)) n k (le-of-suc-le-suc h)
+
+  pub nth-list-past : (f : ℕ → A) (n k : ℕ) → n ≤ k → nth (list f n) k ≡ none
+  nth-list-past f n k h = nth-past (list f n) k (rw (length-list f n) h)

@@ -1,0 +1,125 @@
+-- `shot_record::cells::grid_part` meets its contract. Assumes nothing.
+use mathlib.Core.Path.{_≡_, refl, sym, ap₂, _∙_}
+use Prim.Native.Nat.{ℕ, zero, suc, _+_, _-_, _≤_, _<_, zero-le}
+use native.Mathlib.Nat.{le-refl}
+use native.Mathlib.Omega.{arith}
+use mathlib.Core.List.{List, []}
+use lib.ListN.{length, take, drop}
+use borrow.Author.Needs.{needs}
+use Rattle.shot_record.specs.Fields.{bitsOf, borderOf, gridSize, cellCount, sampled, cellLength, cellAt}
+use Rattle.shot_record.specs.Shots.{sampleAt, cellOf}
+use Rattle.shot_record.specs.Answers.{gridWith}
+use Rattle.shot_record.proofs.Lists.{nth-list, nth-list-past}
+use Rattle.shot_record.proofs.Reading.{Found, found, starts-rise}
+use Rattle.shot_record.proofs.Whole.{Whole, whole-if, refused-if, parse-whole}
+use Rattle.shot_record.proofs.cells.grid_part.Statement.{statement}
+use Rattle.shot_record.proofs.cells.grid_part.Tie as tie
+
+is-whole : (c : tie.Else1) → Whole (c .before .before .before .before .args .bytes .now)
+is-whole c = let w = c .before .is-whole in whole-if _ (w .result) (w .ensures) (c .if1 .left)
+
+module _ (e : tie.Else1) where
+  abbrev bytes : List ℕ
+  bytes = e .before .before .before .before .args .bytes .now
+
+  abbrev k : ℕ
+  k = e .before .before .before .before .args .k
+
+  abbrev size : ℕ
+  size = gridSize (bitsOf bytes) (borderOf bytes)
+
+  abbrev f-size : ℕ
+  f-size = e .before .before .locate .result .«grid_size»
+
+  f : Found (e .before .before .locate .result) bytes
+  f = found _ _ (e .before .before .locate .ensures)
+
+-- a cell without a grid, and one with
+without : (b grid at : ℕ) (bytes : List ℕ) → b ≡ 0 → [] ≡ gridWith (sampleAt b grid at bytes)
+without b grid at bytes e = rw e refl
+
+with-grid : (b grid at : ℕ) (bytes : List ℕ) → (b ≡ 0 → ⊥) → take grid (drop (at + 9) bytes) ≡ gridWith (sampleAt b grid at bytes)
+with-grid zero grid at bytes h = absurd (h refl)
+with-grid (suc b) grid at bytes h = refl
+
+sampled-size : (b grid : ℕ) → (b ≡ 0 → ⊥) → cellLength b grid ≡ 9 + grid
+sampled-size zero grid h = absurd (h refl)
+sampled-size (suc b) grid h = refl
+
+returns : tie.Need-returns
+returns c =
+    let w = c .before .is-whole in
+    ((le-refl 0, zero-le), rw (refused-if _ (w .result) (w .ensures) (c .if1 .taken)) refl)
+
+returns-2 : tie.Need-returns-2
+returns-2 c =
+    let e = c .before .before in
+    ((le-refl 0, zero-le), rw (parse-whole _ (is-whole e), nth-list-past (cellOf (bytes e)) (cellCount (bytes e)) (k e) (omega (arith, f e .cell-count, c .if2 .taken))) refl)
+
+-- a cell of the list
+module _ (d : tie.Else2) where
+  abbrev there : tie.Else1
+  there = d .before .before
+
+  inside : k there < cellCount (bytes there)
+  inside = omega (arith, f there .cell-count, d .if2 .left)
+
+returns-3 : tie.Need-returns-3
+returns-3 c =
+    let d = c .before .before in
+    let e = there d in (
+      (le-refl 0, zero-le),
+      rw (parse-whole _ (is-whole e), nth-list (cellOf (bytes e)) (cellCount (bytes e)) (k e) (inside d))
+          (without (sampled (bytes e) (k e)) (size e) (cellAt (bytes e) (k e)) (bytes e) (sym (c .before .sampled .ensures) ∙ c .if3 .taken)),
+    )
+
+-- a sampled cell
+module _ (c : tie.After-cell-start) where
+  abbrev cell : tie.Else2
+  cell = c .before .before .before
+
+  abbrev at : tie.Else1
+  at = there cell
+
+  marked : sampled (bytes at) (k at) ≡ 0 → ⊥
+  marked z = c .before .if3 .left (c .before .before .sampled .ensures ∙ z)
+
+  lies : cellAt (bytes at) (k at) + (9 + size at) ≤ length (bytes at)
+  unfolding cellAt
+  lies =
+      let rise = starts-rise (bytes at) (suc (k at)) (cellCount (bytes at)) (inside cell) in
+      omega (arith, rise, sampled-size (sampled (bytes at) (k at)) (size at) marked, is-whole at .end)
+
+add-first : tie.Need-add-first
+add-first c = omega (arith, c .cell-start .ensures, lies c, is-whole (at c) .size)
+
+add-t7 : tie.Need-add-t7
+add-t7 c =
+    let e = at (c .before) in
+    omega (arith, c .before .cell-start .ensures, lies (c .before), is-whole e .size, f e .grid-size)
+
+returns-4 : tie.Need-returns-4
+returns-4 c =
+    let s = c .before in
+    let e = at s in
+    let first : s .cell-start .result ≡ cellAt (bytes e) (k e) = s .cell-start .ensures in
+    let length : s .cell-start .result + 9 + f-size e - (s .cell-start .result + 9) ≡ size e = omega (arith, f e .grid-size) in (
+      (omega arith, omega (arith, first, lies s, f e .grid-size)),
+      rw (parse-whole _ (is-whole e), nth-list (cellOf (bytes e)) (cellCount (bytes e)) (k e) (inside (cell s)))
+          (ap₂ (λ (n at : ℕ). take n (drop (at + 9) (bytes e))) length first ∙ with-grid (sampled (bytes e) (k e)) (size e) (cellAt (bytes e) (k e)) (bytes e) (marked s)),
+    )
+
+pub grid-part-spec : {M : Type 1} → statement M
+grid-part-spec =
+    tie.close
+    (tie.spec
+    (λ c κs. search needs)
+    (λ c κs. search needs)
+    returns
+    returns-2
+    (λ c κs. search needs)
+    returns-3
+    (λ c κs. search needs)
+    add-first
+    add-t7
+    returns-4)

@@ -1,0 +1,103 @@
+-- What the reader answers, from the shot that the record holds: each field, absent past the last, refused without a shot.
+use Prim.Native.Nat.{ℕ, zero, suc}
+use mathlib.Core.List.{List, [], _∷_}
+use mathlib.Core.Option.{Option, none, some}
+use lib.Dec.{ltb}
+use lib.ListN.{length}
+use lib.Ieee.{Float, binary32, ofBits}
+use Rattle.board.specs.declared.CharucoBoardSpec.{CharucoBoardSpec}
+use Rattle.score_matrix.specs.declared.BoardMatchConfig.{BoardMatchConfig}
+use Rattle.refusal.specs.declared.Refusal.the-variants as refusal
+use Rattle.shot_record.specs.declared.Header.{Header}
+use Rattle.shot_record.specs.declared.ReadHeader.{ReadHeader}
+use Rattle.shot_record.specs.declared.ReadHeader.the-variants as header
+use Rattle.shot_record.specs.declared.ReadEntry.{ReadEntry}
+use Rattle.shot_record.specs.declared.ReadEntry.the-variants as entry
+use Rattle.shot_record.specs.declared.ReadCode.{ReadCode}
+use Rattle.shot_record.specs.declared.ReadCode.the-variants as code
+use Rattle.shot_record.specs.declared.ReadCell.{ReadCell}
+use Rattle.shot_record.specs.declared.ReadCell.the-variants as cell
+use Rattle.matcher.specs.Codes.{pick}
+use Rattle.shot_record.specs.Fields.{mapByte, cellCount, cellAt}
+use Rattle.shot_record.specs.Shots.{Sample, Cell, Shot, list, parse}
+
+-- the element at a place
+unfoldable pub nth : {A : Type 0} → List A → ℕ → Option A
+nth [] k = none
+nth (x ∷ xs) zero = some x
+nth (x ∷ xs) (suc k) = nth xs k
+
+-- the f32 of a pattern
+abbrev pub float : ℕ → Float
+float pattern = ofBits binary32 pattern
+
+abbrev pub configOf : Shot → BoardMatchConfig
+configOf s =
+    record { «px_per_square» = float (s .pxPerSquare); «alignment_min_margin» = float (s .minimumMargin); «cell_weight_border_threshold» = float (s .borderThreshold) }
+
+abbrev pub specOf : Shot → CharucoBoardSpec
+specOf s =
+    record { rows = s .rows; cols = s .cols; bits = s .bits; «border_bits» = s .border; «cell_size» = float (s .cellSize); «marker_size_rel» = float (s .markerSizeRel) }
+
+abbrev pub headerOf : ℕ → Shot → Header
+headerOf map s =
+    record { map = map; config = configOf s; spec = specOf s; «code_count» = length (s .codes); «cell_count» = length (s .cells) }
+
+abbrev pub headerRead : ℕ → Option Shot → ReadHeader
+headerRead map none = header.Refused refusal.InvalidRecord
+headerRead map (some s) = header.Header (headerOf map s)
+
+abbrev pub headerAnswer : List ℕ → ReadHeader
+headerAnswer bytes = headerRead (mapByte bytes) (parse bytes)
+
+abbrev pub entryRead : Option ℕ → ReadEntry
+entryRead none = entry.Absent
+entryRead (some pattern) = entry.Entry (float pattern)
+
+abbrev pub entryAnswer : Option Shot → ℕ → ReadEntry
+entryAnswer none k = entry.Refused refusal.InvalidRecord
+entryAnswer (some s) k = entryRead (nth (s .table) k)
+
+abbrev pub codeRead : Option ℕ → ReadCode
+codeRead none = code.Absent
+codeRead (some x) = code.Code x
+
+abbrev pub codeAnswer : Option Shot → ℕ → ReadCode
+codeAnswer none k = code.Refused refusal.InvalidRecord
+codeAnswer (some s) k = codeRead (nth (s .codes) k)
+
+abbrev pub cellWith : Cell → Option Sample → ReadCell
+cellWith c none = cell.Unsampled (c .u) (c .v)
+cellWith c (some s) = cell.Sampled (c .u) (c .v) (float (s .fraction)) (s .threshold)
+
+abbrev pub cellRead : Option Cell → ReadCell
+cellRead none = cell.Absent
+cellRead (some c) = cellWith c (c .sample)
+
+abbrev pub cellAnswer : Option Shot → ℕ → ReadCell
+cellAnswer none k = cell.Refused refusal.InvalidRecord
+cellAnswer (some s) k = cellRead (nth (s .cells) k)
+
+-- One cell's grid: empty for a refused record and for an unsampled or absent cell.
+abbrev pub gridWith : Option Sample → List ℕ
+gridWith none = []
+gridWith (some s) = s .grid
+
+abbrev pub gridRead : Option Cell → List ℕ
+gridRead none = []
+gridRead (some c) = gridWith (c .sample)
+
+abbrev pub gridAnswer : Option Shot → ℕ → List ℕ
+gridAnswer none k = []
+gridAnswer (some s) k = gridRead (nth (s .cells) k)
+
+-- Where each of the first 256 cells starts, in 16 bits: 0 for an absent cell, and for a start that a record of at most 65,535 bytes
+-- cannot have.
+abbrev pub narrow : ℕ → ℕ
+narrow at = pick (ltb at 65536) at 0
+
+abbrev pub startOf : List ℕ → ℕ → ℕ
+startOf bytes k = pick (ltb k (cellCount bytes)) (narrow (cellAt bytes k)) 0
+
+abbrev pub starts : List ℕ → List ℕ
+starts bytes = list (startOf bytes) 256

@@ -1,0 +1,4 @@
+pub mod Fields
+pub mod Shots
+pub mod Answers
+pub mod Writing

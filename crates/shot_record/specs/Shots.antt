@@ -1,0 +1,104 @@
+-- Document 01, "The shot record": the shot that a record holds, and question 21.
+use Prim.Native.Nat.{ℕ, zero, suc, _+_, _*_, _^_}
+use mathlib.Core.Bool.{Bool, _&&_, cond}
+use mathlib.Core.List.{List, [], _∷_}
+use mathlib.Core.Option.{Option, none, some}
+use lib.Dec.{leb, ltb, eqb}
+use lib.ListN.{length}
+use lib.IntN.{ℤ}
+use mir.Syntax.{w16}
+use mir.Val.{toZ}
+use Rattle.matcher.specs.Codes.{bit}
+use Rattle.score_matrix.specs.Locality.{part}
+use Rattle.score_matrix.specs.Table.{patterns}
+use Rattle.shot_record.specs.Fields.{byte, number, mapByte, marginAt, thresholdAt, pxAt, tableAt, rowsAt, bitsOf, borderOf, codeCount, codesAt, cellCount, cellMap, sampled, gridSize, cellAt}
+
+-- What is sampled of a cell. A float is its pattern of 32 bits, here and below, so that a shot has every bit of its record.
+pub record Sample : Type 0 where
+  pub fraction : ℕ
+  pub threshold : ℕ
+  pub grid : List ℕ
+
+pub record Cell : Type 0 where
+  pub u : ℤ
+  pub v : ℤ
+  pub sample : Option Sample
+
+pub record Shot : Type 0 where
+  pub minimumMargin : ℕ
+  pub borderThreshold : ℕ
+  pub pxPerSquare : ℕ
+  pub table : List ℕ
+  pub rows : ℕ
+  pub cols : ℕ
+  pub bits : ℕ
+  pub border : ℕ
+  pub cellSize : ℕ
+  pub markerSizeRel : ℕ
+  pub codes : List ℕ
+  pub cells : List Cell
+
+-- f 0 to f (n − 1)
+unfoldable pub list : {A : Type 0} → (ℕ → A) → ℕ → List A
+list f zero = []
+list f (suc n) = f 0 ∷ list (λ (k : ℕ). f (suc k)) n
+
+-- n numbers of w bytes each
+abbrev pub numbers : ℕ → ℕ → ℕ → List ℕ → List ℕ
+numbers w n at bytes = list (λ (k : ℕ). number w (at + w * k) bytes) n
+
+-- a field if its bit is set, else its default
+abbrev pub setting : {A : Type 0} → ℕ → A → A → A
+setting zero field default = default
+setting (suc b) field default = field
+
+-- 0.05, 0.5 and 60
+abbrev pub defaultMargin : ℕ
+defaultMargin = 0x3D4CCCCD
+
+abbrev pub defaultThreshold : ℕ
+defaultThreshold = 0x3F000000
+
+abbrev pub defaultPx : ℕ
+defaultPx = 0x42700000
+
+-- a cell from its first byte on
+abbrev pub sampleAt : ℕ → ℕ → ℕ → List ℕ → Option Sample
+sampleAt zero grid at bytes = none
+sampleAt (suc b) grid at bytes =
+    some (record { fraction = number 4 (at + 4) bytes; threshold = byte (at + 8) bytes; grid = part (at + 9) grid bytes })
+
+abbrev pub cellFrom : ℕ → ℕ → ℕ → List ℕ → Cell
+cellFrom isSampled grid at bytes =
+    record { u = toZ w16 (number 2 at bytes); v = toZ w16 (number 2 (at + 2) bytes); sample = sampleAt isSampled grid at bytes }
+
+abbrev pub cellOf : List ℕ → ℕ → Cell
+cellOf bytes k = cellFrom (sampled bytes k) (gridSize (bitsOf bytes) (borderOf bytes)) (cellAt bytes k) bytes
+
+abbrev pub shot : List ℕ → Shot
+shot bytes =
+    record {
+      minimumMargin = setting (bit (mapByte bytes) 0) (number 4 marginAt bytes) defaultMargin;
+      borderThreshold = setting (bit (mapByte bytes) 1) (number 4 (thresholdAt bytes) bytes) defaultThreshold;
+      pxPerSquare = setting (bit (mapByte bytes) 2) (number 4 (pxAt bytes) bytes) defaultPx;
+      table = setting (bit (mapByte bytes) 3) (numbers 4 511 (tableAt bytes) bytes) patterns;
+      rows = byte (rowsAt bytes) bytes;
+      cols = byte (rowsAt bytes + 1) bytes;
+      bits = bitsOf bytes;
+      border = borderOf bytes;
+      cellSize = number 4 (rowsAt bytes + 4) bytes;
+      markerSizeRel = number 4 (rowsAt bytes + 8) bytes;
+      codes = numbers 8 (codeCount bytes) (codesAt bytes) bytes;
+      cells = list (cellOf bytes) (cellCount bytes);
+    }
+
+-- Question 21: at most 65,535 bytes, spare bits 0 in both maps, no field cut short and the last one ending the record (it ends where a cell
+-- after the last one would start)?
+unfoldable pub whole : List ℕ → Bool
+whole bytes =
+    leb (length bytes) 65535
+    && (ltb (mapByte bytes) 16 && (ltb (cellMap bytes) (2 ^ cellCount bytes) && eqb (cellAt bytes (cellCount bytes)) (length bytes)))
+
+-- The one meaning of a record: a shot, or refused.
+unfoldable pub parse : List ℕ → Option Shot
+parse bytes = cond (whole bytes) (some (shot bytes)) none

@@ -1,0 +1,136 @@
+-- The bytes of a shot, field after field (document 01, "The shot record"), and what parsing has to do with them.
+use mathlib.Core.Path.{_≡_}
+use Prim.Native.Nat.{ℕ, zero, suc, _/_, _%_, _^_, _≤_, _<_}
+use mathlib.Core.List.{List, [], _∷_, _++_, map}
+use mathlib.Core.Option.{Option, none, some}
+use lib.ListN.{length, getD}
+use mir.Syntax.{w16}
+use mir.Val.{SFits, ofZ}
+use Rattle.matcher.specs.Codes.{bit, fromBits}
+use Rattle.score_matrix.specs.Table.{patterns}
+use Rattle.shot_record.specs.Fields.{mapByte, mapSize, gridSize}
+use Rattle.shot_record.specs.Shots.{Sample, Cell, Shot, defaultMargin, defaultThreshold, defaultPx, parse}
+
+-- a number in n bytes, little-endian
+unfoldable pub le : ℕ → ℕ → List ℕ
+le zero x = []
+le (suc n) x = x % 256 ∷ le n (x / 256)
+
+-- a field whose bit may be clear
+abbrev pub ifSet : ℕ → List ℕ → List ℕ
+ifSet zero field = []
+ifSet (suc b) field = field
+
+-- one after the other
+abbrev pub join : List (List ℕ) → List ℕ
+join [] = []
+join (field ∷ fields) = field ++ join fields
+
+abbrev pub each : {A : Type 0} → (A → List ℕ) → List A → List ℕ
+each f xs = join (map f xs)
+
+-- a cell map, lowest bit first, set where sampled
+abbrev pub isSampled : Option Sample → ℕ
+isSampled none = 0
+isSampled (some s) = 1
+
+abbrev pub marks : List Cell → ℕ → ℕ
+marks cells k = getD (map (λ (c : Cell). isSampled (c .sample)) cells) k 0
+
+abbrev pub mapBytes : List Cell → List ℕ
+mapBytes cells = le (mapSize (length cells)) (fromBits (marks cells) (length cells))
+
+-- u and v and, if sampled, fraction, threshold byte, grid
+abbrev pub sampleBytes : Option Sample → List ℕ
+sampleBytes none = []
+sampleBytes (some s) = le 4 (s .fraction) ++ (s .threshold ∷ s .grid)
+
+abbrev pub cellBytes : Cell → List ℕ
+cellBytes c = le 2 (ofZ w16 (c .u)) ++ (le 2 (ofZ w16 (c .v)) ++ sampleBytes (c .sample))
+
+-- The record of a shot with a map byte.
+unfoldable pub bytesOf : ℕ → Shot → List ℕ
+bytesOf m s =
+    join (
+    (m ∷ [])
+    ∷ ifSet (bit m 0) (le 4 (s .minimumMargin))
+    ∷ ifSet (bit m 1) (le 4 (s .borderThreshold))
+    ∷ ifSet (bit m 2) (le 4 (s .pxPerSquare))
+    ∷ ifSet (bit m 3) (each (le 4) (s .table))
+    ∷ (s .rows ∷ s .cols ∷ s .bits ∷ s .border ∷ [])
+    ∷ le 4 (s .cellSize)
+    ∷ le 4 (s .markerSizeRel)
+    ∷ le 2 (length (s .codes))
+    ∷ each (le 8) (s .codes)
+    ∷ le 2 (length (s .cells))
+    ∷ mapBytes (s .cells)
+    ∷ each cellBytes (s .cells)
+    ∷ [])
+
+-- ---- which shots a record can hold
+
+abbrev pub All : {A : Type 0} → (A → Type 0) → List A → Type 0
+All P [] = Unit
+All P (x ∷ xs) = P x × All P xs
+
+abbrev pub Bytes : List ℕ → Type 0
+Bytes = All (λ (x : ℕ). x < 256)
+
+-- a setting whose bit is clear has its default
+abbrev pub Default : {A : Type 0} → ℕ → A → A → Type 0
+Default zero x default = x ≡ default
+Default (suc b) x default = Unit
+
+pub record FitSample (grid : ℕ) (s : Sample) : Type 0 where
+  pub fraction : s .fraction < 2 ^ 32
+  pub threshold : s .threshold < 256
+  pub size : length (s .grid) ≡ grid
+  pub greys : Bytes (s .grid)
+
+abbrev pub IfSampled : ℕ → Option Sample → Type 0
+IfSampled grid none = Unit
+IfSampled grid (some s) = FitSample grid s
+
+pub record FitCell (grid : ℕ) (c : Cell) : Type 0 where
+  pub u : SFits w16 (c .u)
+  pub v : SFits w16 (c .v)
+  pub sample : IfSampled grid (c .sample)
+
+pub record Fit (m : ℕ) (s : Shot) : Type 0 where
+  pub map : m < 16
+  pub margin : s .minimumMargin < 2 ^ 32
+  pub margin-default : Default (bit m 0) (s .minimumMargin) defaultMargin
+  pub threshold : s .borderThreshold < 2 ^ 32
+  pub threshold-default : Default (bit m 1) (s .borderThreshold) defaultThreshold
+  pub px : s .pxPerSquare < 2 ^ 32
+  pub px-default : Default (bit m 2) (s .pxPerSquare) defaultPx
+  pub table : All (λ (x : ℕ). x < 2 ^ 32) (s .table)
+  pub table-size : length (s .table) ≡ 511
+  pub table-default : Default (bit m 3) (s .table) patterns
+  pub rows : s .rows < 256
+  pub cols : s .cols < 256
+  pub bits : s .bits < 256
+  pub border : s .border < 256
+  pub cell-size : s .cellSize < 2 ^ 32
+  pub marker-size : s .markerSizeRel < 2 ^ 32
+  pub code-count : length (s .codes) < 65536
+  pub codes : All (λ (x : ℕ). x < 2 ^ 64) (s .codes)
+  pub cell-count : length (s .cells) < 65536
+  pub cells : All (FitCell (gridSize (s .bits) (s .border))) (s .cells)
+  pub size : length (bytesOf m s) ≤ 65535
+
+-- parsing the bytes of a shot gives the shot back
+abbrev pub ReadBack : Type 0
+ReadBack = (m : ℕ) (s : Shot) → Fit m s → parse (bytesOf m s) ≡ some s
+
+-- a record that is read has the bytes of its shot, which fits
+pub record Written (bytes : List ℕ) (s : Shot) : Type 0 where
+  pub fits : Fit (mapByte bytes) s
+  pub same : bytes ≡ bytesOf (mapByte bytes) s
+
+abbrev pub WrittenBack : Type 0
+WrittenBack = (bytes : List ℕ) → Bytes bytes → (s : Shot) → parse bytes ≡ some s → Written bytes s
+
+-- two records with the same shot and the same map byte are the same bytes
+abbrev pub OneToOne : Type 0
+OneToOne = (a b : List ℕ) → Bytes a → Bytes b → (s : Shot) → parse a ≡ some s → parse b ≡ some s → mapByte a ≡ mapByte b → a ≡ b

@@ -1,0 +1,133 @@
+// The shot record: one lane-end shot as bytes. Every function accepts every record; question 21 refuses one that is not whole. Leans on
+// `refusal`, `floats`, `board` and `score_matrix`, and for its definitions and proofs on `matcher`.
+ghost use mathlib.Core.Path.{_≡_};
+ghost use Rattle.shot_record.specs.Shots.{parse};
+ghost use Rattle.shot_record.specs.Answers.{headerAnswer, entryAnswer, codeAnswer, cellAnswer, gridAnswer, starts};
+
+mod cells;
+mod fields;
+mod numbers;
+
+use board::CharucoBoardSpec;
+use refusal::Refusal;
+use score_matrix::BoardMatchConfig;
+
+// What a record says before its cells. `map` tells which settings the record sets; the others have their defaults.
+pub struct Header {
+    pub map: u8,
+    pub config: BoardMatchConfig,
+    pub spec: CharucoBoardSpec,
+    pub code_count: usize,
+    pub cell_count: usize,
+}
+
+pub enum ReadHeader {
+    Header(Header),
+    Refused(Refusal),
+}
+
+// An entry of the likelihood table, the record's own or the built-in one.
+pub enum ReadEntry {
+    Entry(f32),
+    Absent,
+    Refused(Refusal),
+}
+
+pub enum ReadCode {
+    Code(u64),
+    Absent,
+    Refused(Refusal),
+}
+
+pub enum ReadCell {
+    Sampled {
+        u: i16,
+        v: i16,
+        fraction: f32,
+        threshold: u8,
+    },
+    Unsampled {
+        u: i16,
+        v: i16,
+    },
+    Absent,
+    Refused(Refusal),
+}
+
+// Which board, which settings and how many codes and cells.
+pub fn read_header(bytes: &[u8]) -> ReadHeader
+    ensures { λ r. ⌜ r ≡ headerAnswer (now (bytes .entry)) ⌝ }
+{
+    let f = fields::locate(bytes);
+    if !cells::is_whole(bytes, f) {
+        return ReadHeader::Refused(Refusal::InvalidRecord);
+    }
+    ReadHeader::Header(Header {
+        map: f.map,
+        config: fields::config(bytes, f),
+        spec: fields::spec(bytes, f),
+        code_count: f.code_count,
+        cell_count: f.cell_count,
+    })
+}
+
+pub fn table_entry(bytes: &[u8], k: usize) -> ReadEntry
+    ensures { λ r. ⌜ r ≡ entryAnswer (parse (now (bytes .entry))) k ⌝ }
+{
+    let f = fields::locate(bytes);
+    if !cells::is_whole(bytes, f) {
+        return ReadEntry::Refused(Refusal::InvalidRecord);
+    }
+    if 510 < k {
+        return ReadEntry::Absent;
+    }
+    ReadEntry::Entry(fields::table_entry(bytes, f, k))
+}
+
+pub fn code(bytes: &[u8], k: usize) -> ReadCode
+    ensures { λ r. ⌜ r ≡ codeAnswer (parse (now (bytes .entry))) k ⌝ }
+{
+    let f = fields::locate(bytes);
+    if !cells::is_whole(bytes, f) {
+        return ReadCode::Refused(Refusal::InvalidRecord);
+    }
+    if f.code_count <= k {
+        return ReadCode::Absent;
+    }
+    ReadCode::Code(fields::code(bytes, f, k))
+}
+
+pub fn cell(bytes: &[u8], k: usize) -> ReadCell
+    ensures { λ r. ⌜ r ≡ cellAnswer (parse (now (bytes .entry))) k ⌝ }
+{
+    let f = fields::locate(bytes);
+    if !cells::is_whole(bytes, f) {
+        return ReadCell::Refused(Refusal::InvalidRecord);
+    }
+    if f.cell_count <= k {
+        return ReadCell::Absent;
+    }
+    cells::cell(
+        bytes,
+        cells::cell_start(bytes, f, k),
+        cells::sampled(bytes, f, k),
+    )
+}
+
+// One cell's grid, as a part of the record: empty for a refused record and for an unsampled or absent cell.
+pub fn grid(bytes: &[u8], k: usize) -> &[u8]
+    ensures { λ r. ⌜ now r ≡ gridAnswer (parse (now (bytes .entry))) k ⌝ }
+{
+    let part = cells::grid_part(bytes, k);
+    let first = part.first;
+    let end = part.end;
+    &bytes[first..end]
+}
+
+// Where each of the first 256 cells starts, found in one pass: what a match looks cells up in.
+pub fn cell_starts(bytes: &[u8]) -> [u16; 256]
+    ensures { λ r. ⌜ r ≡ starts (now (bytes .entry)) ⌝ }
+{
+    let f = fields::locate(bytes);
+    cells::starts(bytes, f)
+}

@@ -1,0 +1,26 @@
+-- `stored_rows::digest::of_greys` is safe and ends. Assumes nothing.
+use Prim.Native.Nat.{_-_}
+use lib.ListN.{length}
+use borrow.Author.Needs.{needs}
+use Rattle.stored_rows.proofs.digest.of_greys.Statement.{statement}
+use Rattle.stored_rows.proofs.digest.of_greys.Tie as tie
+
+abbrev Inv-loop : tie.InvT-loop
+Inv-loop greys h₀ i₀ h i = Unit {0}
+
+abbrev μ-loop : tie.MeasureT-loop
+μ-loop greys h₀ i₀ h i = length greys - i
+
+pub of-greys-spec : {M : Type 1} → statement M
+of-greys-spec =
+    tie.close
+    (tie.spec
+    Inv-loop
+    μ-loop
+    (λ c. tt)
+    (λ c. search needs)
+    (λ c κs. tt)
+    (λ c. search needs)
+    (λ c. search needs)
+    (λ c. tt)
+    (λ c. tt))

@@ -1,0 +1,130 @@
+//! Corners and inliers, from which the cells entry makes marker cells.
+
+mod dense;
+mod limits;
+mod random;
+mod shapes;
+mod traps;
+
+use crate::prng::Prng;
+use std::fmt::{self, Display, Formatter};
+
+pub use dense::dense;
+pub use limits::{pairs_of_refusals, single_changes};
+pub use random::{large_grids, random_grids, random_lists};
+pub use shapes::shapes;
+pub use traps::{far, traps};
+
+/// Grid points have both numbers from minus this to this.
+pub const FARTHEST: i32 = 4096;
+
+/// Words of a list with a place for each of 256 cells.
+pub const PLACES: usize = 256 * WORDS_OF_A_CELL;
+
+/// u, v, then the corners top left, top right, bottom right, bottom left.
+pub const WORDS_OF_A_CELL: usize = 6;
+
+/// Words of a corner in `grid`.
+pub const WORDS_OF_A_CORNER: usize = 3;
+
+/// The score of a corner of which nothing else is asked.
+const SCORE: f32 = 0.5;
+
+/// No point is checked of a corner without one.
+pub const NO_POINT: [i32; 3] = [0, i32::MIN, i32::MAX];
+
+#[derive(Clone, Debug)]
+pub struct CornerLists {
+    /// One for each corner: this list says how many there are.
+    pub scores: Vec<f32>,
+    /// Three words for each corner: not 0 where it has a grid point, then u, then v. Words past its end count as 0.
+    pub grid: Vec<i32>,
+    pub inliers: Vec<usize>,
+    /// How many words the list has that is lent for the cells.
+    pub places: usize,
+}
+
+/// `number` is 0 for lists that are accepted, else that of the question answered with no; then `count` is 0.
+#[derive(Clone, Copy, Debug, PartialEq, Eq)]
+pub struct CellsAnswer {
+    pub number: u32,
+    pub count: u32,
+}
+
+impl CornerLists {
+    /// A corner at each point, all of them inliers, and a list with places enough.
+    pub fn of_points(points: impl IntoIterator<Item = [i32; 2]>) -> Self {
+        let mut lists = Self {
+            scores: Vec::new(),
+            grid: Vec::new(),
+            inliers: Vec::new(),
+            places: PLACES,
+        };
+        for [u, v] in points {
+            lists.add([1, u, v]);
+        }
+        lists.inliers = (0..lists.count()).collect();
+        lists
+    }
+
+    pub fn count(&self) -> usize {
+        self.scores.len()
+    }
+
+    /// The grid point of a corner.
+    pub fn point(&self, corner: usize) -> Option<[i32; 2]> {
+        let word = |axis| {
+            let place = corner * WORDS_OF_A_CORNER + axis;
+            self.grid.get(place).copied().unwrap_or(0)
+        };
+        (word(0) != 0).then(|| [word(1), word(2)])
+    }
+
+    /// A further corner by its three words, which is not yet an inlier.
+    pub fn add(&mut self, words: [i32; 3]) {
+        self.scores.push(SCORE);
+        self.grid.extend(words);
+    }
+
+    fn with_inliers(mut self, inliers: Vec<usize>) -> Self {
+        self.inliers = inliers;
+        self
+    }
+
+    pub fn shuffled(mut self, prng: &mut Prng) -> Self {
+        for i in (1..self.inliers.len()).rev() {
+            self.inliers.swap(i, prng.below(i as u64 + 1) as usize);
+        }
+        self
+    }
+}
+
+/// The points of a rectangle, row by row.
+pub fn rectangle(
+    [left, top]: [i32; 2],
+    [columns, rows]: [i32; 2],
+) -> impl Iterator<Item = [i32; 2]> + Clone {
+    (top..top + rows).flat_map(move |v| (left..left + columns).map(move |u| [u, v]))
+}
+
+impl Display for CornerLists {
+    /// Long lists only by their counts.
+    fn fmt(&self, f: &mut Formatter) -> fmt::Result {
+        let Self {
+            scores,
+            grid,
+            inliers,
+            places,
+        } = self;
+        let [corners, words] = [scores.len(), grid.len()];
+        write!(
+            f,
+            "{corners} corners, {words} words, {} inliers, {places} places",
+            inliers.len()
+        )?;
+        if corners <= 40 && inliers.len() <= 80 {
+            write!(f, ", {scores:?}, {grid:?}, {inliers:?}")?;
+        }
+        Ok(())
+    }
+}

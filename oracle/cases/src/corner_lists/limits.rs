@@ -1,0 +1,172 @@
+//! Lists at their limits and past them, one limit at a time and two at once.
+
+use super::{CornerLists, FARTHEST, NO_POINT, PLACES, rectangle};
+
+type Change = fn(&mut CornerLists);
+
+/// Past every limit of the entry's questions. Which of two is named shows the order of the questions.
+const REFUSALS: [Change; 12] = [
+    |lists| grow_corners(lists, 1025),
+    |lists| grow_inliers(lists, 1025),
+    |lists| move_corner(lists, [FARTHEST + 1, 0]),
+    |lists| move_corner(lists, [0, -FARTHEST - 1]),
+    |lists| move_corner(lists, [i32::MIN, i32::MAX]),
+    |lists| lists.scores[3] = f32::NAN,
+    |lists| lists.scores[0] = f32::INFINITY,
+    |lists| lists.places = 0,
+    |lists| lists.places = PLACES - 1,
+    |lists| lists.places = 6,
+    |lists| add_rectangle(lists, [30, 10], [258, 2]),
+    |lists| add_rectangle(lists, [-30, 10], [20, 20]),
+];
+
+const SCORES: [f32; 10] = [
+    0.0,
+    -0.0,
+    f32::from_bits(1),
+    f32::MAX,
+    f32::MIN,
+    f32::INFINITY,
+    f32::NEG_INFINITY,
+    f32::NAN,
+    -f32::NAN,
+    f32::from_bits(0x7F80_0001),
+];
+
+const COORDINATES: [i32; 12] = [
+    FARTHEST,
+    FARTHEST + 1,
+    -FARTHEST,
+    -FARTHEST - 1,
+    8192,
+    -8192,
+    65_536,
+    -65_536,
+    i32::MAX,
+    i32::MAX - 1,
+    i32::MIN,
+    i32::MIN + 1,
+];
+
+const LENT: [usize; 10] = [0, 1, 5, 6, 1530, 1535, 1536, 1537, 2000, 3000];
+
+/// Of corners, or of inliers.
+const COUNTS: [usize; 5] = [1022, 1023, 1024, 1025, 1030];
+
+/// Each pair of refusals, each of them alone, and none.
+pub fn pairs_of_refusals() -> Vec<CornerLists> {
+    let mut all = vec![small()];
+    for first in REFUSALS {
+        for second in REFUSALS {
+            let mut lists = small();
+            first(&mut lists);
+            second(&mut lists);
+            all.push(lists);
+        }
+    }
+    all
+}
+
+/// Good lists with one number changed to one at a limit or past it.
+pub fn single_changes() -> Vec<CornerLists> {
+    let mut all = Vec::new();
+    let mut changed = |change: &dyn Fn(&mut CornerLists)| {
+        let mut lists = small();
+        change(&mut lists);
+        all.push(lists);
+    };
+    for corner in 0..small().count() {
+        for score in SCORES {
+            changed(&|lists| lists.scores[corner] = score);
+        }
+    }
+    for coordinate in COORDINATES {
+        for point in [[coordinate, 0], [0, coordinate]] {
+            changed(&|lists| move_corner(lists, point));
+            changed(&|lists| put_without_point(lists, point));
+            changed(&|lists| {
+                // The corner counts though it is no inlier.
+                move_corner(lists, point);
+                lists.inliers.clear();
+            });
+        }
+    }
+    for places in LENT {
+        changed(&|lists| lists.places = places);
+        changed(&|lists| {
+            lists.places = places;
+            lists.inliers.clear();
+        });
+        changed(&|lists| {
+            lists.places = places;
+            add_rectangle(lists, [10, 10], [17, 17]);
+        });
+    }
+    for count in COUNTS {
+        changed(&|lists| grow_corners(lists, count));
+        changed(&|lists| grow_inliers(lists, count));
+        changed(&|lists| grow_inliers_with(lists, count, usize::MAX));
+        changed(&|lists| {
+            grow_corners(lists, count);
+            grow_inliers(lists, count);
+        });
+    }
+    for whole in [[17, 17], [2, 257], [257, 2], [3, 129]] {
+        changed(&|lists| alone(lists, whole));
+        changed(&|lists| {
+            // 256 cells, and one of `small` besides.
+            add_rectangle(lists, [10, 10], whole);
+        });
+    }
+    // 255, 257 and 259 cells.
+    for whole in [[16, 18], [2, 256], [2, 258], [258, 2], [8, 38]] {
+        changed(&|lists| alone(lists, whole));
+    }
+    all
+}
+
+/// One cell, and two corners that belong to none: one without a grid point, one no inlier.
+fn small() -> CornerLists {
+    let mut lists = CornerLists::of_points(rectangle([0, 0], [2, 2]));
+    lists.add(NO_POINT);
+    lists.inliers.push(4);
+    lists.add([1, 1, 2]);
+    lists
+}
+
+fn alone(lists: &mut CornerLists, size: [i32; 2]) {
+    *lists = CornerLists::of_points(rectangle([-7, -7], size));
+}
+
+fn grow_corners(lists: &mut CornerLists, count: usize) {
+    while lists.count() < count {
+        lists.add(NO_POINT);
+    }
+}
+
+fn grow_inliers(lists: &mut CornerLists, count: usize) {
+    grow_inliers_with(lists, count, 1);
+}
+
+fn grow_inliers_with(lists: &mut CornerLists, count: usize, index: usize) {
+    let count = count.max(lists.inliers.len());
+    lists.inliers.resize(count, index);
+}
+
+/// The last corner of `small`, which had a point.
+fn move_corner(lists: &mut CornerLists, [u, v]: [i32; 2]) {
+    lists.grid[15..18].copy_from_slice(&[1, u, v]);
+    lists.inliers.push(5);
+}
+
+fn put_without_point(lists: &mut CornerLists, [u, v]: [i32; 2]) {
+    lists.grid[15..18].copy_from_slice(&[0, u, v]);
+    lists.inliers.push(5);
+}
+
+fn add_rectangle(lists: &mut CornerLists, start: [i32; 2], size: [i32; 2]) {
+    for [u, v] in rectangle(start, size) {
+        lists.inliers.push(lists.count());
+        lists.add([1, u, v]);
+    }
+}

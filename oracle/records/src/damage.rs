@@ -1,0 +1,105 @@
+//! Records that are damaged, and some that only look so.
+
+use crate::shot::{Shot, settings};
+use crate::write::{Written, write};
+use cases::prng::Prng;
+
+/// The record of a shot, damaged in each of the ways below.
+pub fn all(prng: &mut Prng, shot: &Shot) -> Vec<Vec<u8>> {
+    let written = write(shot);
+    let mut damaged = spare_bits(&written, shot.cells.len());
+    damaged.extend(map_bytes(&written.bytes));
+    damaged.extend(counts(&written));
+    damaged.extend(one_byte_more(&written.bytes));
+    damaged.extend((0..20).map(|_| with_bytes_changed(prng, &written.bytes)));
+    damaged
+}
+
+/// Cut short at every length.
+pub fn truncations(record: &[u8]) -> impl Iterator<Item = &[u8]> {
+    (0..record.len()).map(|length| &record[..length])
+}
+
+/// Each spare bit of both maps set by itself: those of the map byte, then those of the cell map.
+pub fn spare_bits(written: &Written, cells: usize) -> Vec<Vec<u8>> {
+    let last = written.cell_map_at + cells / 8;
+    let spare = match cells % 8 {
+        0 => 8..8,
+        used => used..8,
+    };
+    let of_map = settings::SPARE.map(|bit| (0, bit));
+    let of_cells = spare.map(|place| (last, 1 << place));
+    of_map
+        .into_iter()
+        .chain(of_cells)
+        .map(|(place, bit)| {
+            let mut record = written.bytes.clone();
+            record[place] |= bit;
+            record
+        })
+        .collect()
+}
+
+/// Every number in the place of the map byte.
+pub fn map_bytes(record: &[u8]) -> Vec<Vec<u8>> {
+    (0..=u8::MAX)
+        .map(|map| {
+            let mut record = record.to_vec();
+            record[0] = map;
+            record
+        })
+        .collect()
+}
+
+/// Both counts: one more, one less, none, the most, and so many more that the bytes of the codes or of unsampled cells
+/// are 65,536 more.
+pub fn counts(written: &Written) -> Vec<Vec<u8>> {
+    let changes: [fn(u16) -> u16; 6] = [
+        |count| count.wrapping_add(1),
+        |count| count.wrapping_sub(1),
+        |_| 0,
+        |_| u16::MAX,
+        |count| count.wrapping_add(1 << 13),
+        |count| count.wrapping_add(1 << 14),
+    ];
+    let places = [written.code_count_at, written.cell_count_at];
+    let changed = places.map(|at| {
+        changes.map(|change| {
+            let mut record = written.bytes.clone();
+            let count = u16::from_le_bytes([record[at], record[at + 1]]);
+            record[at..at + 2].copy_from_slice(&change(count).to_le_bytes());
+            record
+        })
+    });
+    changed.concat()
+}
+
+pub fn one_byte_more(record: &[u8]) -> [Vec<u8>; 2] {
+    [0, 255].map(|byte| [record, &[byte]].concat())
+}
+
+/// One to three bytes, most often in front, where the counts are.
+pub fn with_bytes_changed(prng: &mut Prng, record: &[u8]) -> Vec<u8> {
+    let mut record = record.to_vec();
+    let front = record.len().min(40);
+    for _ in 0..1 + prng.below(3) {
+        let reach = prng.pick(&[front, front, record.len()]);
+        let place = prng.below(reach as u64) as usize;
+        record[place] = prng.draw() as u8;
+    }
+    record
+}
+
+/// Bytes of no meaning. Most have a map byte without spare bits, so that the reader gets beyond it.
+pub fn random_bytes(prng: &mut Prng) -> Vec<u8> {
+    let length = prng.below(120) as usize;
+    let mut record: Vec<u8> = (0..length).map(|_| prng.draw() as u8).collect();
+    if prng.below(4) != 0 && length > 0 {
+        record[0] &= 0b0111;
+    }
+    // Small counts, so that some are whole.
+    for byte in record.iter_mut().skip(13) {
+        *byte &= prng.pick(&[0, 0, 1, 255]);
+    }
+    record
+}

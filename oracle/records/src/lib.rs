@@ -1,0 +1,19 @@
+//! Shot records, by document 01. Upstream has none, so this is no answer of the Rust: a writer and a reader, each
+//! written from the document alone and without the other, are held against each other and against our library.
+
+pub mod damage;
+mod random;
+mod read;
+mod shot;
+mod write;
+
+pub use random::{FLOATS, Shape, filled, random_shot};
+pub use read::{Read, read};
+pub use shot::{Cell, Sample, Shot, TABLE_LENGTH, built_in_table, settings};
+pub use write::{Written, write};
+
+/// The number of the one question that reading a record asks.
+pub const REFUSED: u64 = 21;
+
+/// The most bytes that a record may have.
+pub const LONGEST: usize = 65_535;

@@ -1,0 +1,113 @@
+//! The reader reads what the writer writes, and refuses what is damaged.
+
+use cases::prng::Prng;
+use records::damage::{spare_bits, truncations};
+use records::{Cell, LONGEST, Sample, Shape, Shot, filled, random_shot, read, write};
+
+fn shots() -> Vec<Shot> {
+    let mut prng = Prng::new(31);
+    let mut shots = vec![Shot::default()];
+    for map in 0..16 {
+        for [bits, border] in [[0, 0], [1, 1], [2, 1], [9, 0], [4, 5]] {
+            for cells in [0, 1, 7, 8, 9, 16, 40] {
+                let shape = Shape {
+                    map,
+                    bits,
+                    border,
+                    codes: cells / 3,
+                    cells,
+                    sampled_of_four: prng.below(5),
+                };
+                shots.push(random_shot(&mut prng, shape));
+            }
+        }
+    }
+    shots
+}
+
+#[test]
+fn what_is_written_is_read() {
+    for shot in shots() {
+        let written = write(&shot);
+        let read = read(&written.bytes).expect("a good record");
+        assert_eq!(read.shot, shot);
+        for (start, cell) in read.starts.iter().zip(&shot.cells) {
+            let u_and_v = [cell.u.to_le_bytes(), cell.v.to_le_bytes()].concat();
+            assert_eq!(written.bytes[*start..][..4], u_and_v);
+        }
+    }
+}
+
+#[test]
+fn what_is_damaged_is_refused() {
+    for shot in shots() {
+        let written = write(&shot);
+        for damaged in spare_bits(&written, shot.cells.len()) {
+            assert!(read(&damaged).is_none());
+        }
+        assert!(read(&[&written.bytes[..], &[0]].concat()).is_none());
+        if written.bytes.len() < 300 {
+            assert!(truncations(&written.bytes).all(|cut| read(cut).is_none()));
+        }
+    }
+}
+
+#[test]
+fn the_longest() {
+    let mut prng = Prng::new(32);
+    for (length, is_read) in [(LONGEST, true), (LONGEST + 1, false)] {
+        for shot in shots().into_iter().step_by(40) {
+            let shot = filled(&mut prng, shot, length);
+            let written = write(&shot);
+            assert_eq!(written.bytes.len(), length);
+            assert_eq!(read(&written.bytes).is_some(), is_read);
+        }
+    }
+}
+
+/// 765 by 765 greys are more than a record can hold.
+#[test]
+fn the_largest_side() {
+    let mut shot = Shot {
+        bits: 255,
+        border: 255,
+        ..Shot::default()
+    };
+    let [u, v] = [0, 0];
+    let sample = None;
+    shot.cells.push(Cell { u, v, sample });
+    assert!(read(&write(&shot).bytes).is_some());
+    let sample = Some(Sample {
+        fraction: 0,
+        threshold: 0,
+        grid: vec![0; shot.greys()],
+    });
+    shot.cells.push(Cell { u, v, sample });
+    assert_eq!(shot.greys(), 585_225);
+    assert!(read(&write(&shot).bytes).is_none());
+}
+
+/// The record that document 01 gives for the program `place`, byte by byte.
+#[test]
+fn the_record_of_document_01() {
+    let mut bytes = vec![8];
+    for place in 0..511 {
+        let entry: f32 = if place < 256 { -1.0 } else { 0.0 };
+        bytes.extend(entry.to_le_bytes());
+    }
+    bytes.extend([2, 2, 2, 1]);
+    bytes.extend([0, 0, 0x80, 0x3F, 0, 0, 0, 0x3F]);
+    bytes.extend([2, 0, 1, 0, 0, 0, 0, 0, 0, 0, 15, 0, 0, 0, 0, 0, 0, 0]);
+    bytes.extend([1, 0, 1, 0, 0, 0, 0, 0, 0, 0x80, 0x3F, 128]);
+    let grid = [0, 0, 0, 0, 0, 0, 0xFF, 0, 0, 0xFF, 0xFF, 0, 0, 0, 0, 0];
+    bytes.extend(grid);
+    let read = read(&bytes).expect("a good record");
+    let shot = &read.shot;
+    assert_eq!([shot.rows, shot.cols, shot.bits, shot.border], [2, 2, 2, 1]);
+    assert_eq!(shot.codes, [1, 15]);
+    let sample = shot.cells[0].sample.as_ref().expect("a sampled cell");
+    assert_eq!(sample.threshold, 128);
+    assert_eq!(sample.grid, grid);
+    assert_eq!(read.starts, [bytes.len() - 25]);
+    assert_eq!(write(shot).bytes, bytes);
+}

@@ -1,0 +1,86 @@
+//! `marker_sampling.rs` and `corner_map.rs`: the whole cells between corners. The questions 18, 14 and 20, which the
+//! cells entry asks, are added, and the rule for them stands here.
+
+use calib_targets_aruco::MarkerCell;
+use calib_targets_charuco::marker_cells as cells_of_the_rust;
+use calib_targets_core::{Coord, LabeledCorner};
+use cases::corner_lists::{CellsAnswer, CornerLists, FARTHEST, PLACES, WORDS_OF_A_CELL};
+
+const MOST_CORNERS: usize = 1024;
+const MOST_INLIERS: usize = 1024;
+const MOST_CELLS: usize = 256;
+
+/// The answer that is expected, and the lent list as it is then. The Rust is not asked before the lists have passed
+/// question 18: it walks over all cells between the outermost points.
+pub fn marker_cells(lists: &CornerLists, lent: &mut [i32]) -> CellsAnswer {
+    if !within_limits(lists) {
+        return refused(18);
+    }
+    if lent.len() < PLACES {
+        return refused(14);
+    }
+    let cells = whole_cells(lists);
+    if cells.len() > MOST_CELLS {
+        return refused(20);
+    }
+    for (place, cell) in lent.chunks_exact_mut(WORDS_OF_A_CELL).zip(&cells) {
+        place.copy_from_slice(cell);
+    }
+    CellsAnswer {
+        number: 0,
+        count: cells.len() as u32,
+    }
+}
+
+const fn refused(number: u32) -> CellsAnswer {
+    CellsAnswer { number, count: 0 }
+}
+
+/// Question 18 without turn and translation. The range binds only corners that have a grid point, scores all corners.
+fn within_limits(lists: &CornerLists) -> bool {
+    let in_range = |point: [i32; 2]| point.iter().all(|x| (-FARTHEST..=FARTHEST).contains(x));
+    lists.count() <= MOST_CORNERS
+        && lists.inliers.len() <= MOST_INLIERS
+        && (0..lists.count()).all(|corner| lists.point(corner).is_none_or(in_range))
+        && lists.scores.iter().all(|score| score.is_finite())
+}
+
+/// The lists as the Rust takes them. It knows corners by their positions in a picture; here the x of a position is the
+/// index of the corner.
+pub struct Labeled<'a> {
+    corners: Vec<LabeledCorner>,
+    inliers: &'a [usize],
+}
+
+impl<'a> Labeled<'a> {
+    pub fn new(lists: &'a CornerLists) -> Self {
+        let corners = (0..lists.count()).map(|corner| {
+            let mut labeled = LabeledCorner {
+                position: Default::default(),
+                grid: lists.point(corner).map(|[u, v]| Coord::new(u, v)),
+            };
+            labeled.position.x = corner as f32;
+            labeled
+        });
+        Self {
+            corners: corners.collect(),
+            inliers: &lists.inliers,
+        }
+    }
+
+    pub fn cells(&self) -> Vec<MarkerCell> {
+        cells_of_the_rust(&self.corners, self.inliers)
+    }
+}
+
+/// Six words for each cell.
+fn whole_cells(lists: &CornerLists) -> Vec<[i32; WORDS_OF_A_CELL]> {
+    let cells = Labeled::new(lists).cells();
+    let six_words = cells.iter().map(|cell| {
+        let [top_left, top_right, bottom_right, bottom_left] =
+            cell.corners_img.map(|position| position.x as i32);
+        let Coord { u, v } = cell.gc;
+        [u, v, top_left, top_right, bottom_right, bottom_left]
+    });
+    six_words.collect()
+}
