@@ -1,10 +1,8 @@
 -- The questions one by one: what is left of them after a yes, and what the range question tells. Assumes nothing.
 use mathlib.Core.Path.{_≡_, refl, ap}
 use mathlib.Core.Bool.{Bool, true, false}
-use mathlib.Core.List.{List}
 use Prim.Native.Nat.{ℕ, _≤_}
 use lib.Dec.{leb, ltb}
-use lib.ListN.{length}
 use borrow.Author.Tests.{leb-true}
 use Rattle.refusal.proofs.Questions.{both}
 use Rattle.refusal.specs.declared.Refusal.{Refusal}
@@ -13,21 +11,18 @@ use Rattle.board.specs.declared.CharucoBoardSpec.{CharucoBoardSpec}
 use Rattle.board.specs.declared.NewBoard.{NewBoard}
 use Rattle.board.specs.declared.NewBoard.the-variants as new
 use Rattle.board.specs.Layout.{markerCount, odd}
-use Rattle.board.specs.Questions.{ask, sizeAnswer, cellSizeAnswer, markerSizeAnswer, rangeAnswer, codesAnswer, boardOf, newBoard}
+use Rattle.board.specs.Questions.{ask, sizeAnswer, cellSizeAnswer, markerSizeAnswer, rangeAnswer, boardOf, sizedBoard}
 
--- the questions from the one with a number on
-module _ (s : CharucoBoardSpec) (codes : List ℕ) where
-  abbrev pub from8 : NewBoard
-  from8 = ask (codesAnswer (s .bits) codes) refusal.CodeOutOfRange (new.Made (boardOf s))
-
+-- the questions from the one with a number on, up to 7
+module _ (s : CharucoBoardSpec) (count : ℕ) where
   abbrev pub from7 : NewBoard
-  from7 = ask (leb (markerCount odd (s .rows) (s .cols)) (length codes)) (refusal.NotEnoughDictionaryCodes (markerCount odd (s .rows) (s .cols)) (length codes)) from8
+  from7 = ask (leb (markerCount odd (s .rows) (s .cols)) count) (refusal.NotEnoughDictionaryCodes (markerCount odd (s .rows) (s .cols)) count) (new.Made (boardOf s))
 
   abbrev pub from6 : NewBoard
-  from6 = ask (rangeAnswer s (length codes)) refusal.BoardOutOfRange from7
+  from6 = ask (rangeAnswer s count) refusal.BoardOutOfRange from7
 
   abbrev pub from5 : NewBoard
-  from5 = ask (ltb 0 (length codes)) refusal.EmptyDictionary from6
+  from5 = ask (ltb 0 count) refusal.EmptyDictionary from6
 
   abbrev pub from4 : NewBoard
   from4 = ask (leb 1 (s .«border_bits»)) refusal.InvalidBorderBits from5
@@ -38,8 +33,8 @@ module _ (s : CharucoBoardSpec) (codes : List ℕ) where
   abbrev pub from2 : NewBoard
   from2 = ask (cellSizeAnswer (s .«cell_size»)) refusal.InvalidCellSize from3
 
-  pub from1 : newBoard s codes ≡ ask (sizeAnswer (s .rows) (s .cols)) refusal.InvalidSize from2
-  unfolding newBoard
+  pub from1 : sizedBoard s count ≡ ask (sizeAnswer (s .rows) (s .cols)) refusal.InvalidSize from2
+  unfolding sizedBoard
   from1 = refl
 
 -- a yes goes on, and a no ends

@@ -6,3 +6,4 @@ pub mod Formulas
 pub mod Surroundings
 pub mod Answers
 pub mod Laws
+pub mod Asked

@@ -37,23 +37,34 @@ rangeAnswer s codes =
     leb (s .rows) 32 && (leb (s .cols) 32 && (leb (s .«border_bits») 4 && (leb 1 (s .bits) && (leb (s .bits) 8 && leb codes 1024))))
 
 -- Is every code below 2^(bits²)?
+abbrev pub codeAnswer : ℕ → ℕ → Bool
+codeAnswer bits code = ltb code (2 ^ (bits * bits))
+
 abbrev pub codesAnswer : ℕ → List ℕ → Bool
 codesAnswer bits [] = true
-codesAnswer bits (code ∷ codes) = ltb code (2 ^ (bits * bits)) && codesAnswer bits codes
+codesAnswer bits (code ∷ codes) = codeAnswer bits code && codesAnswer bits codes
 
 -- the board of a specification that no question refuses
 abbrev pub boardOf : CharucoBoardSpec → Board
 boardOf s =
     record { rows = s .rows; cols = s .cols; bits = s .bits; «border_bits» = s .«border_bits»; «cell_size» = s .«cell_size»; «marker_size_rel» = s .«marker_size_rel» }
 
-unfoldable pub newBoard : CharucoBoardSpec → List ℕ → NewBoard
-newBoard s codes =
+-- questions 1 to 7, which ask of the codes only how many there are
+unfoldable pub sizedBoard : CharucoBoardSpec → ℕ → NewBoard
+sizedBoard s count =
     ask (sizeAnswer (s .rows) (s .cols)) refusal.InvalidSize
     (ask (cellSizeAnswer (s .«cell_size»)) refusal.InvalidCellSize
     (ask (markerSizeAnswer (s .«marker_size_rel»)) refusal.InvalidMarkerSizeRel
     (ask (leb 1 (s .«border_bits»)) refusal.InvalidBorderBits
-    (ask (ltb 0 (length codes)) refusal.EmptyDictionary
-    (ask (rangeAnswer s (length codes)) refusal.BoardOutOfRange
-    (ask (leb (markerCount odd (s .rows) (s .cols)) (length codes)) (refusal.NotEnoughDictionaryCodes (markerCount odd (s .rows) (s .cols)) (length codes))
-    (ask (codesAnswer (s .bits) codes) refusal.CodeOutOfRange
-    (new.Made (boardOf s)))))))))
+    (ask (ltb 0 count) refusal.EmptyDictionary
+    (ask (rangeAnswer s count) refusal.BoardOutOfRange
+    (ask (leb (markerCount odd (s .rows) (s .cols)) count) (refusal.NotEnoughDictionaryCodes (markerCount odd (s .rows) (s .cols)) count)
+    (new.Made (boardOf s))))))))
+
+-- and question 8
+abbrev pub thenCodes : Bool → NewBoard → NewBoard
+thenCodes answer (new.Made board) = ask answer refusal.CodeOutOfRange (new.Made board)
+thenCodes answer (new.Refused refused) = new.Refused refused
+
+unfoldable pub newBoard : CharucoBoardSpec → List ℕ → NewBoard
+newBoard s codes = thenCodes (codesAnswer (s .bits) codes) (sizedBoard s (length codes))

@@ -1,11 +1,12 @@
 // The ChArUco board (board.rs): the questions 1 to 8, and the layout as formulas on a board value.
 // Leans on `refusal` and `floats`.
 ghost use mathlib.Core.Path.{_≡_};
-ghost use Rattle.board.specs.Layout.{odd, markerCount, markerAt, squareOf, cornerCount, cornerAt, cornerOf, objectPoint, fourCorners};
-ghost use Rattle.board.specs.Questions.{newBoard};
+ghost use Rattle.board.specs.Layout.{odd, holds, markerCount, markerAt, squareOf, cornerCount, cornerAt, cornerOf, objectPoint, fourCorners};
+ghost use Rattle.board.specs.Numbering.{numberAt};
+ghost use Rattle.board.specs.Questions.{sizedBoard, newBoard};
 
 mod layout;
-mod questions;
+pub mod questions;
 
 use refusal::Refusal;
 
@@ -63,9 +64,9 @@ pub enum Surrounding {
 }
 
 impl Board {
-    // A board from its specification and codes, or the first question that is answered with no.
-    pub fn new(spec: CharucoBoardSpec, codes: &[u64]) -> NewBoard
-        ensures { λ r. ⌜ r ≡ newBoard spec (now (codes .entry)) ⌝ }
+    // The questions 1 to 7, which ask of the codes only how many there are.
+    pub fn sized(spec: CharucoBoardSpec, count: usize) -> NewBoard
+        ensures { λ r. ⌜ r ≡ sizedBoard spec count ⌝ }
     {
         if !questions::size(spec.rows, spec.cols) {
             return NewBoard::Refused(Refusal::InvalidSize);
@@ -79,22 +80,35 @@ impl Board {
         if spec.border_bits < 1 {
             return NewBoard::Refused(Refusal::InvalidBorderBits);
         }
-        if codes.len() == 0 {
+        if count == 0 {
             return NewBoard::Refused(Refusal::EmptyDictionary);
         }
-        if !questions::range(spec, codes.len()) {
+        if !questions::range(spec, count) {
             return NewBoard::Refused(Refusal::BoardOutOfRange);
         }
         let board = questions::board_of(spec);
         let needed = board.marker_count();
-        let available = codes.len() as u32;
+        let available = count as u32;
         if available < needed {
             return NewBoard::Refused(Refusal::NotEnoughDictionaryCodes { needed, available });
         }
-        if !questions::codes(board.bits, codes) {
-            return NewBoard::Refused(Refusal::CodeOutOfRange);
-        }
         NewBoard::Made(board)
+    }
+
+    // A board from its specification and codes, or the first question that is answered with no.
+    pub fn new(spec: CharucoBoardSpec, codes: &[u64]) -> NewBoard
+        ensures { λ r. ⌜ r ≡ newBoard spec (now (codes .entry)) ⌝ }
+    {
+        let sized = Board::sized(spec, codes.len());
+        match sized {
+            NewBoard::Made(board) => {
+                if !questions::codes(board.bits, codes) {
+                    return NewBoard::Refused(Refusal::CodeOutOfRange);
+                }
+                NewBoard::Made(board)
+            }
+            NewBoard::Refused(refusal) => NewBoard::Refused(refusal),
+        }
     }
 
     pub fn marker_count(self) -> u32
@@ -113,6 +127,13 @@ impl Board {
             layout::clip(i, self.cols),
             layout::clip(j, self.rows),
         )
+    }
+
+    // The same for a square that is not left of the board or above it.
+    pub fn marker_id_on(self, i: u32, j: u32) -> Numbered
+        ensures { λ r. ⌜ r ≡ numberAt (holds odd) (self .cols) (self .rows) i j ⌝ }
+    {
+        layout::marker_id(self.rows, self.cols, i, j)
     }
 
     // The square of a marker.

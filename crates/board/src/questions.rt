@@ -1,7 +1,7 @@
 // The answers to the questions 1 to 8 of document 01 that are more than one comparison, and the board that passed them.
 ghost use mathlib.Core.Path.{_≡_};
 ghost use Prim.Native.Nat.{_≤_};
-ghost use Rattle.board.specs.Questions.{sizeAnswer, cellSizeAnswer, markerSizeAnswer, rangeAnswer, codesAnswer, boardOf};
+ghost use Rattle.board.specs.Questions.{sizeAnswer, cellSizeAnswer, markerSizeAnswer, rangeAnswer, codeAnswer, codesAnswer, boardOf};
 use super::Board;
 use super::CharucoBoardSpec;
 
@@ -44,15 +44,23 @@ pub fn range(spec: CharucoBoardSpec, codes: usize) -> bool
     codes <= 1024
 }
 
-// Is every code below 2^(bits²)?
+// Is a code below 2^(bits²)?
+pub fn code(bits: u8, code: u64) -> bool
+    requires { ⌜ (1 ≤ bits) × (bits ≤ 8) ⌝ }
+    ensures { λ r. ⌜ r ≡ codeAnswer bits code ⌝ }
+{
+    let top = (bits as u64) * (bits as u64) - 1;
+    code >> top <= 1
+}
+
+// Is every code?
 pub fn codes(bits: u8, codes: &[u64]) -> bool
     requires { ⌜ (1 ≤ bits) × (bits ≤ 8) ⌝ }
     ensures { λ r. ⌜ r ≡ codesAnswer bits (now (codes .entry)) ⌝ }
 {
-    let top = (bits as u64) * (bits as u64) - 1;
     let mut k = 0;
     while k < codes.len() {
-        if codes[k] >> top > 1 {
+        if !code(bits, codes[k]) {
             return false;
         }
         k += 1;

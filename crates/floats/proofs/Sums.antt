@@ -107,7 +107,7 @@ value-neg f nan = refl
 value-neg f (inf s) = refl
 value-neg f (fin s m e) = signed-not s (m * up e * 2 ^ low f / down e)
 
-finite-neg : (x : Float) → Finite x → Finite (neg x)
+pub finite-neg : (x : Float) → Finite x → Finite (neg x)
 unfolding neg
 finite-neg nan h = h
 finite-neg (inf s) h = h

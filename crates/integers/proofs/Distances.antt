@@ -1,9 +1,13 @@
 -- Order and distance of whole numbers, as inequalities of their parts, so that `omega` reads them. Assumes nothing.
 use mathlib.Core.Path.{_≡_, sym, ap, _∙_}
+use mathlib.Core.Logic.{_⊎_, inl, inr}
+use mathlib.Core.Bool.{Bool, true, false, not}
 use Prim.Native.Nat.{ℕ, _+_, _*_, _≤_, _<_}
 use native.Mathlib.Nat.{le-trans, le-of-eq, mul-comm, mul-le-mul-right}
 use native.Mathlib.Omega.{arith}
-use lib.IntN.{ℤ, pos, natAbs, _+ℤ_, _-ℤ_, _*ℤ_, *ℤ-comm}
+use lib.Dec.{T, ltb, ltb→lt, lt→ltb, nltb→le}
+use lib.Signed.{ltZ}
+use lib.IntN.{ℤ, pos, negsuc, natAbs, _+ℤ_, _-ℤ_, _*ℤ_, *ℤ-comm}
 use Rattle.integers.specs.Distance.{Within}
 use Rattle.integers.proofs.Parts.{plus, minus, Is, add-is, sub-is-parts, mul-is, abs-is, abs-mul, parts-le, ext}
 
@@ -80,3 +84,25 @@ near-mul-left w {a} {b} {e} h = rw (*ℤ-comm w a, *ℤ-comm w b, mul-comm (natA
 
 pub near-scale : (w : ℕ) {a b : ℤ} {e : ℕ} → Near a b e → Near (a *ℤ pos w) (b *ℤ pos w) (e * w)
 near-scale w h = near-mul-right (pos w) h
+
+-- ---- the order, as a program tests it
+pub ltZ→Lt : (a b : ℤ) → T (ltZ a b) → Lt a b
+unfolding plus minus
+ltZ→Lt (pos a) (pos b) h = omega (arith, ltb→lt a b h)
+ltZ→Lt (pos a) (negsuc b) h = absurd h
+ltZ→Lt (negsuc a) (pos b) h = omega arith
+ltZ→Lt (negsuc a) (negsuc b) h = omega (arith, ltb→lt b a h)
+
+pub Lt→ltZ : (a b : ℤ) → Lt a b → T (ltZ a b)
+unfolding plus minus
+Lt→ltZ (pos a) (pos b) h = lt→ltb a b (omega arith)
+Lt→ltZ (pos a) (negsuc b) h = absurd (omega arith)
+Lt→ltZ (negsuc a) (pos b) h = tt
+Lt→ltZ (negsuc a) (negsuc b) h = lt→ltb b a (omega arith)
+
+pub lt-or-le : (a b : ℕ) → (a < b) ⊎ (b ≤ a)
+lt-or-le a b = go (ltb a b) (ltb→lt a b) (nltb→le a b)
+  where
+    go : (t : Bool) → (T t → a < b) → (T (not t) → b ≤ a) → (a < b) ⊎ (b ≤ a)
+    go true l m = inl (l tt)
+    go false l m = inr (m tt)

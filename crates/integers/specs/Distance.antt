@@ -1,7 +1,13 @@
--- How far two whole numbers lie apart.
+-- How far two whole numbers lie apart, and whether one lies near 0.
 use Prim.Native.Nat.{ℕ, _≤_}
-use lib.IntN.{ℤ, natAbs, _-ℤ_}
+use mathlib.Core.Bool.{Bool, _&&_}
+use lib.IntN.{ℤ, pos, negℤ, natAbs, _-ℤ_}
+use lib.Signed.{leZ}
 
 -- |a − b| ≤ e
 abbrev pub Within : ℤ → ℤ → ℕ → Type 0
 Within a b e = natAbs (a -ℤ b) ≤ e
+
+-- from −m to m
+abbrev pub within : ℕ → ℤ → Bool
+within m z = leZ (negℤ (pos m)) z && leZ z (pos m)

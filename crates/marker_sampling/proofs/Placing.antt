@@ -7,7 +7,8 @@ use native.Mathlib.Nat.{eq-or-lt-of-le, le-of-suc-le-suc}
 use native.Mathlib.Numerals.{add-one}
 use native.Mathlib.Omega.{arith}
 use Rattle.marker_sampling.specs.Cells.{Corners, word, labelled}
-use Rattle.marker_sampling.specs.Entry.{within, placed, allPlaced}
+use Rattle.integers.specs.Distance.{within}
+use Rattle.marker_sampling.specs.Entry.{placed, allPlaced}
 use Rattle.refusal.proofs.Questions.{both}
 
 module _ (m : ℕ) (c : Corners) where

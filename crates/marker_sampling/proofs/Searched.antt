@@ -9,7 +9,7 @@ use lib.ListN.{length, getD}
 use borrow.Author.Tests.{eq-eqb, ne-eqb}
 use Rattle.marker_sampling.specs.Cells.{Corners, holder, stands}
 use Rattle.marker_sampling.specs.Keys.{side, gridPoint, Rising, MapOf, LowerBound, Below, Bounded, Searchable, Next}
-use Rattle.marker_sampling.proofs.Tests.{lt-or-le}
+use Rattle.integers.proofs.Distances.{lt-or-le}
 use Rattle.marker_sampling.proofs.Holders.{nobody, last-holds}
 
 -- ---- where a search can start

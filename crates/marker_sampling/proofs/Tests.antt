@@ -1,21 +1,20 @@
 -- Tests of truth values and of whole numbers, as equations. Assumes nothing.
 use mathlib.Core.Path.{_≡_, refl, sym, ap, _∙_}
 use mathlib.Core.Bool.{Bool, true, false, not, false≢true}
-use mathlib.Core.Logic.{_⊎_, inl, inr}
 use Prim.Native.Nat.{ℕ, _+_, _*_, _^_, _≤_, _<_}
 use native.Mathlib.Nat.{le-refl}
 use native.Mathlib.Omega.{arith}
 use lib.IntN.{ℤ, pos, negsuc, natAbs, negℤ, _+ℤ_, _-ℤ_, +ℤ-negℤ-cancel}
-use lib.Dec.{ltb, leb·zero, leb·suc-zero}
+use lib.Dec.{leb·zero, leb·suc-zero}
 use lib.Signed.{leZ, ltZ, mag}
 use mir.Syntax.{w32}
 use mir.ValLaws.{toZ-ofZ}
-use borrow.Author.Tests.{ltb-true, ltb-false, leb-true, le-leb}
+use borrow.Author.Tests.{leb-true, le-leb}
 use Rattle.refusal.proofs.Questions.{both}
 use Rattle.integers.proofs.Parts.{plus, minus, plus-neg, minus-neg, add-is, sub-is-parts, abs-is, ext}
 use Rattle.integers.proofs.Words.{word}
 use Rattle.marker_sampling.specs.Cells.{same}
-use Rattle.marker_sampling.specs.Entry.{within}
+use Rattle.integers.specs.Distance.{within}
 
 -- two tests that hold together
 pub agree : (a b : Bool) → (a ≡ true → b ≡ true) → (b ≡ true → a ≡ true) → a ≡ b
@@ -26,13 +25,6 @@ agree false false f g = refl
 pub fails : (a : Bool) → (a ≡ true → ⊥) → a ≡ false
 fails true f = absurd (f refl)
 fails false f = refl
-
-pub lt-or-le : (a b : ℕ) → (a < b) ⊎ (b ≤ a)
-lt-or-le a b = go (ltb a b) refl
-  where
-    go : (t : Bool) → ltb a b ≡ t → (a < b) ⊎ (b ≤ a)
-    go true e = inl (ltb-true a b e)
-    go false e = inr (ltb-false a b e)
 
 pub same-refl : (a : ℤ) → same a a ≡ true
 same-refl (pos a) = rw (le-leb a a (le-refl a))

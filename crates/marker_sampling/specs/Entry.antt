@@ -5,10 +5,10 @@ use mathlib.Core.List.{List, [], _∷_, _++_}
 use mathlib.Core.Option.{Option, none, some}
 use lib.Dec.{leb}
 use lib.ListN.{length, drop}
-use lib.IntN.{ℤ, pos, negℤ}
-use lib.Signed.{leZ}
+use lib.IntN.{ℤ}
 use lib.Ieee.{Float}
 use lib.Ieee.Scale.{finite}
+use Rattle.integers.specs.Distance.{within}
 use Rattle.grid_alignment.specs.declared.Coord.{Coord}
 use Rattle.refusal.specs.declared.Refusal.{Refusal}
 use Rattle.refusal.specs.declared.Refusal.the-variants as refusal
@@ -20,10 +20,6 @@ use Rattle.marker_sampling.specs.Cells.{Corners, word, labelled, cells, 
 -- the corners of the lists that are lent: one score each
 abbrev pub corners : List Float → List ℤ → Corners
 corners scores grid = record { count = length scores; grid = grid }
-
--- from −m to m
-abbrev pub within : ℕ → ℤ → Bool
-within m z = leZ (negℤ (pos m)) z && leZ z (pos m)
 
 -- does corner k lie from −m to m, if it has a grid point?
 abbrev pub placed : ℕ → Corners → ℕ → Bool

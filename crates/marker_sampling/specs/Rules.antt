@@ -6,7 +6,7 @@ use Prim.Native.Nat.{ℕ, _*_, _<_}
 use lib.ListN.{length, getD}
 use Rattle.grid_alignment.specs.declared.Coord.{Coord}
 use Rattle.marker_sampling.specs.Cells.{Corners, whole, pointAt, cellsBefore}
-use Rattle.marker_sampling.specs.Entry.{within}
+use Rattle.integers.specs.Distance.{within}
 use Rattle.marker_sampling.specs.Keys.{side}
 
 -- the whole cells among the first n places are the points at some of these places: whole, all that are whole, and in order, so that

@@ -4,7 +4,8 @@ ghost use Prim.Native.Nat.{_≤_};
 ghost use lib.ListN.{getD};
 ghost use lib.IntN.{pos};
 ghost use Rattle.marker_sampling.specs.Cells.{labelled};
-ghost use Rattle.marker_sampling.specs.Entry.{within, placed, allPlaced, allFinite};
+ghost use Rattle.integers.specs.Distance.{within};
+ghost use Rattle.marker_sampling.specs.Entry.{placed, allPlaced, allFinite};
 ghost use Rattle.marker_sampling.specs.Keys.{cornersOf};
 
 // The word at a place; 0 past the list.

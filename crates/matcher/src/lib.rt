@@ -11,7 +11,7 @@ pub struct Place {
 }
 
 // The place that the bit at `p` of a turned code is read from.
-fn source_place(n: u64, turn: u8, p: Place) -> Place
+pub fn source_place(n: u64, turn: u8, p: Place) -> Place
     requires { ⌜ (p .x < n) × (p .y < n) ⌝ }
     ensures { λ r. ⌜ r ≡ source n (turn % 4) p ⌝ }
 {

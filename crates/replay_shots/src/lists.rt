@@ -1,7 +1,7 @@
 // Kinds 7 and 8: they add corners and inliers to the lists.
 use crate::effect::Effect;
-use crate::room;
-use crate::room::Added;
+use stored_rows::room;
+use stored_rows::room::Added;
 
 // The most corners there is room for.
 pub const CORNERS: usize = 1100;

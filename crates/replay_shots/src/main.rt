@@ -7,7 +7,6 @@ mod fields;
 mod lists;
 mod markers;
 mod records;
-mod room;
 mod rows;
 
 use stored_rows::input;

@@ -1,57 +1,11 @@
 // Kinds 1 and 2: they add bytes to the record.
 use crate::effect::Effect;
-use crate::room;
-use crate::room::Added;
-
-// Byte k of those that a row adds. In kind 1 they stand in the words, 8 a word, the first lowest; in kind 2 all are one byte.
-fn byte_of(words: [u64; 32], k: usize) -> u8 {
-    if words[0] == 2 {
-        return (words[2] % 256) as u8;
-    }
-    if 239 < k {
-        return 0;
-    }
-    let word = words[2 + k / 8];
-    let shift = (8 * (k % 8)) as u32;
-    ((word >> shift) % 256) as u8
-}
-
-fn put(record: &mut [u8], i: usize, byte: u8) {
-    if i < record.len() {
-        record[i] = byte;
-    }
-}
-
-fn copy(record: &mut [u8], at: usize, end: usize, words: [u64; 32]) {
-    let mut i = at;
-    while i < end {
-        put(record, i, byte_of(words, i - at));
-        i += 1;
-    }
-}
-
-// Has a row its number of words, and are they in range?
-fn is_well_formed(words: [u64; 32], count: usize) -> bool {
-    let n = words[1];
-    if words[0] == 2 {
-        return count == 3 && words[2] < 256;
-    }
-    if n == 0 {
-        return false;
-    }
-    if 240 < n {
-        return false;
-    }
-    count == 2 + (n as usize + 7) / 8
-}
+use stored_rows::records;
+use stored_rows::room::Added;
 
 pub fn add_bytes(record: &mut [u8], at: usize, words: [u64; 32], count: usize) -> Effect {
-    if !is_well_formed(words, count) {
-        return Effect::Unread;
-    }
-    let Added::To(end) = room::end_of(at, words[1] as usize, record.len()) else {
+    let Added::To(end) = records::add_bytes(record, at, words, count) else {
         return Effect::Unread;
     };
-    copy(record, at, end, words);
     Effect::Bytes(end)
 }

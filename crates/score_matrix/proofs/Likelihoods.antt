@@ -1,5 +1,5 @@
 -- What the bits of a code add, as a list holds it. Assumes nothing.
-use mathlib.Core.Path.{_≡_, ap, _∙_}
+use mathlib.Core.Path.{_≡_, ap, sym, _∙_}
 use mathlib.Core.List.{List}
 use Prim.Native.Nat.{ℕ, zero, suc, _+_, _*_, _<_}
 use native.Mathlib.Nat.{add-zero}
@@ -10,10 +10,11 @@ use lib.Ieee.{Float, nan}
 use borrow.Author.Count.{below-more}
 use Rattle.floats.specs.Units.{sumTo}
 use Rattle.floats.proofs.Folds.{sum-ext}
-use Rattle.matcher.specs.Codes.{bit}
+use Rattle.matcher.specs.Codes.{bit, turned}
 use Rattle.matcher.proofs.Bits.{bit-small}
-use Rattle.score_matrix.specs.Scores.{Samples, likelihood, term}
-use Rattle.score_matrix.specs.Likelihoods.{Holds, picked}
+use Rattle.matcher.proofs.Turns.{bit-turned}
+use Rattle.score_matrix.specs.Scores.{Samples, bitCount, likelihood, term, score}
+use Rattle.score_matrix.specs.Likelihoods.{Holds, picked, Sources, pickedFrom}
 
 -- one bit more is written
 module _ (table : List Float) (s : Samples) (k : ℕ) (l : List Float) (zeros ones : Float) (holds : Holds table s k l) (room : 2 * k + 1 < length l)
@@ -48,3 +49,15 @@ picked-term table s n l code k holds h = go (bit code k) (bit-small code k)
 
 pub picked-score : (table : List Float) (s : Samples) (n : ℕ) (l : List Float) (code : ℕ) → Holds table s n l → sumTo (picked l code) n ≡ sumTo (term table s code) n
 picked-score table s n l code holds = sum-ext (picked l code) (term table s code) n (λ k h. picked-term table s n l code k holds h)
+
+-- picked in the turned order it is what the score of the turned code adds
+from-term : (table : List Float) (s : Samples) (turn : ℕ) (l : List Float) (sources : List ℕ) (code k : ℕ) → Holds table s (bitCount s) l → Sources (s .bits) turn (bitCount s) sources → k < bitCount s
+    → pickedFrom l sources code k ≡ term table s (turned (s .bits) turn code) k
+from-term table s turn l sources code k holds from h =
+    ap (λ (b : ℕ). getD l (2 * k + b) nan) (ap (bit code) (from k h) ∙ sym (bit-turned (s .bits) turn code k h))
+    ∙ picked-term table s (bitCount s) l (turned (s .bits) turn code) k holds h
+
+pub turned-score : (table : List Float) (s : Samples) (turn : ℕ) (l : List Float) (sources : List ℕ) (code : ℕ) → Holds table s (bitCount s) l → Sources (s .bits) turn (bitCount s) sources
+    → sumTo (pickedFrom l sources code) (bitCount s) ≡ score table s (turned (s .bits) turn code)
+turned-score table s turn l sources code holds from =
+    sum-ext (pickedFrom l sources code) (term table s (turned (s .bits) turn code)) (bitCount s) (λ k h. from-term table s turn l sources code k holds from h)

@@ -18,7 +18,7 @@ fn grid_index(bits: u64, border: u64, p: Place) -> usize
 }
 
 // The place of the bit after the one at `p`, row by row.
-fn next_place(bits: u64, p: Place) -> Place
+pub fn next_place(bits: u64, p: Place) -> Place
     requires { ⌜ (bits ≤ 8) × (p .x < bits) × (p .y < bits) ⌝ }
     ensures { λ r. ⌜ ((k : ℕ) → p ≡ placeOf bits k → r ≡ placeOf bits (k + 1)) ⌝ }
 {

@@ -8,6 +8,7 @@ ghost use Rattle.score_matrix.specs.Weights.{weight};
 mod built_in;
 pub mod cell;
 pub mod table;
+pub mod turned;
 
 // The settings of a match, as the Rust's, less the slope and the floor, which the likelihood table has in it.
 pub struct BoardMatchConfig {

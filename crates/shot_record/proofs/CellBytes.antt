@@ -103,7 +103,9 @@ unfolding cellAt
 cells-written {bytes} s n =
     list-written bytes cellBytes (cellOf bytes) (cellAt bytes) n (λ k other r. cell-written s (sampled bytes k) (sizeOfGrid bytes) (cellAt bytes k) r)
 
-pub cells-fit : (bytes : List ℕ) → Bytes bytes → (n : ℕ) → cellAt bytes n ≤ length bytes → All (FitCell (sizeOfGrid bytes)) (list (cellOf bytes) n)
+pub cell-fit : (bytes : List ℕ) → Bytes bytes → (n : ℕ) → cellAt bytes n ≤ length bytes → (k : ℕ) → k < n → FitCell (sizeOfGrid bytes) (cellOf bytes k)
 unfolding cellAt
-cells-fit bytes b n h =
-    list-all (FitCell (sizeOfGrid bytes)) (cellOf bytes) n (λ k l. cell-fits bytes b (sampled bytes k) (sizeOfGrid bytes) (cellAt bytes k) (le-trans (starts-rise bytes (suc k) n l) h))
+cell-fit bytes b n h k l = cell-fits bytes b (sampled bytes k) (sizeOfGrid bytes) (cellAt bytes k) (le-trans (starts-rise bytes (suc k) n l) h)
+
+pub cells-fit : (bytes : List ℕ) → Bytes bytes → (n : ℕ) → cellAt bytes n ≤ length bytes → All (FitCell (sizeOfGrid bytes)) (list (cellOf bytes) n)
+cells-fit bytes b n h = list-all (FitCell (sizeOfGrid bytes)) (cellOf bytes) n (cell-fit bytes b n h)

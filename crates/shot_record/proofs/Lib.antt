@@ -1,4 +1,5 @@
 pub mod Lists
+pub mod Filling
 pub mod Reading
 pub mod Whole
 pub mod LittleEndian
@@ -6,6 +7,7 @@ pub mod Runs
 pub mod Sequences
 pub mod CellMaps
 pub mod CellBytes
+pub mod CellReads
 pub mod Parts
 pub mod ReadBack
 pub mod WrittenBack

@@ -17,6 +17,10 @@ byte-below [] b at = lit< tt
 byte-below (x ∷ xs) b zero = b .0
 byte-below (x ∷ xs) b (suc at) = byte-below xs (b .1) at
 
+pub all-bytes : (bytes : List ℕ) → Small bytes → Bytes bytes
+all-bytes [] s = tt
+all-bytes (x ∷ xs) s = (s 0, all-bytes xs (λ at. s (suc at)))
+
 pub le-length : (n x : ℕ) → length (le n x) ≡ n
 unfolding le
 le-length zero x = refl

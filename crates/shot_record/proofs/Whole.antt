@@ -57,3 +57,6 @@ refused-if bytes answer e n = rw (sym e ∙ not-true answer n) refl
 
 pub whole-if : (bytes : List ℕ) (answer : Bool) → answer ≡ whole bytes → not answer ≡ false → Whole bytes
 whole-if bytes answer e n = passes-whole bytes (subst T (sym (not-false answer n) ∙ e) tt)
+
+pub passed : (bytes : List ℕ) → whole bytes ≡ true → Whole bytes
+passed bytes e = passes-whole bytes (subst T (sym e) tt)

@@ -1,5 +1,7 @@
 -- What the reader answers, from the shot that the record holds: each field, absent past the last, refused without a shot.
+use mathlib.Core.Path.{_≡_}
 use Prim.Native.Nat.{ℕ, zero, suc}
+use mathlib.Core.Bool.{true}
 use mathlib.Core.List.{List, [], _∷_}
 use mathlib.Core.Option.{Option, none, some}
 use lib.Dec.{ltb}
@@ -18,8 +20,9 @@ use Rattle.shot_record.specs.declared.ReadCode.the-variants as code
 use Rattle.shot_record.specs.declared.ReadCell.{ReadCell}
 use Rattle.shot_record.specs.declared.ReadCell.the-variants as cell
 use Rattle.matcher.specs.Codes.{pick}
-use Rattle.shot_record.specs.Fields.{mapByte, cellCount, cellAt}
-use Rattle.shot_record.specs.Shots.{Sample, Cell, Shot, list, parse}
+use Rattle.shot_record.specs.declared.fields.Fields.{Fields}
+use Rattle.shot_record.specs.Fields.{fieldsOf, mapByte, cellCount, cellAt}
+use Rattle.shot_record.specs.Shots.{Sample, Cell, Shot, list, whole, parse}
 
 -- the element at a place
 unfoldable pub nth : {A : Type 0} → List A → ℕ → Option A
@@ -101,3 +104,7 @@ startOf bytes k = pick (ltb k (cellCount bytes)) (narrow (cellAt bytes k)) 0
 
 abbrev pub starts : List ℕ → List ℕ
 starts bytes = list (startOf bytes) 256
+
+-- what a match finds once, in a record that question 21 lets pass: its fields, and where its cells start
+abbrev pub Indexed : List ℕ → Fields → List ℕ → Type 0
+Indexed bytes f index = (f ≡ fieldsOf bytes) × (index ≡ starts bytes) × (whole bytes ≡ true)

@@ -5,8 +5,8 @@ ghost use Prim.Native.Nat.{ℕ, _+_, _-_, _^_, _<_, _≤_};
 ghost use lib.Dec.{ltb};
 ghost use lib.ListN.{take, drop};
 ghost use Rattle.shot_record.specs.Fields.{fieldsOf, cellCount, cellMap, sampled as sampledAt, cellLength, cellAt};
-ghost use Rattle.shot_record.specs.Shots.{whole, parse, cellFrom};
-ghost use Rattle.shot_record.specs.Answers.{cellRead, gridAnswer, narrow as narrowed, starts as startsOf};
+ghost use Rattle.shot_record.specs.Shots.{whole, parse, cellFrom, cellOf};
+ghost use Rattle.shot_record.specs.Answers.{cellRead, gridRead, gridAnswer, narrow as narrowed, starts as startsOf, Indexed};
 use super::ReadCell;
 use super::fields;
 use super::fields::Fields;
@@ -166,4 +166,38 @@ pub fn starts(bytes: &[u8], f: Fields) -> [u16; 256]
         k += 1;
     }
     starts
+}
+
+// What a match reads of a record that question 21 let pass: cell k, from where it starts.
+pub fn cell_at(bytes: &[u8], f: Fields, starts: &[u16; 256], k: usize) -> ReadCell
+    requires { ⌜ Indexed (now bytes) f (now starts) × (k < f .«cell_count») × (k < 256) ⌝ }
+    ensures { λ r. ⌜ r ≡ cellRead (some (cellOf (now (bytes .entry)) k)) ⌝ }
+{
+    cell(bytes, starts[k] as usize, sampled(bytes, f, k))
+}
+
+fn grid_part_at(bytes: &[u8], f: Fields, starts: &[u16; 256], k: usize) -> Part
+    requires { ⌜ Indexed (now bytes) f (now starts) × (k < f .«cell_count») × (k < 256) ⌝ }
+    ensures lies { λ r. do ⌜ (r .first ≤ r .end) × (r .end ≤ (← ⟦bytes.len()⟧ .entry)) ⌝ }
+    ensures holds { λ r. ⌜ take (r .end - r .first) (drop (r .first) (now (bytes .entry))) ≡ gridRead (some (cellOf (now (bytes .entry)) k)) ⌝ }
+{
+    if sampled(bytes, f, k) == 0 {
+        return Part { first: 0, end: 0 };
+    }
+    let first = starts[k] as usize + 9;
+    Part {
+        first,
+        end: first + f.grid_size,
+    }
+}
+
+// And its grid, empty for an unsampled cell.
+pub fn grid_at<'a>(bytes: &'a [u8], f: Fields, starts: &[u16; 256], k: usize) -> &'a [u8]
+    requires { ⌜ Indexed (now bytes) f (now starts) × (k < f .«cell_count») × (k < 256) ⌝ }
+    ensures { λ r. ⌜ now r ≡ gridRead (some (cellOf (now (bytes .entry)) k)) ⌝ }
+{
+    let part = grid_part_at(bytes, f, starts, k);
+    let first = part.first;
+    let end = part.end;
+    &bytes[first..end]
 }

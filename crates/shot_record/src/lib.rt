@@ -1,11 +1,13 @@
-// The shot record: one lane-end shot as bytes. Every function accepts every record; question 21 refuses one that is not whole. Leans on
-// `refusal`, `floats`, `board` and `score_matrix`, and for its definitions and proofs on `matcher`.
+// The shot record: one lane-end shot as bytes. Every function of this file accepts every record; question 21 refuses one that is not
+// whole. What a match reads over and over it reads with `bulk` and `cells`, from fields and starts that it finds once. Leans on `refusal`,
+// `floats`, `board` and `score_matrix`, and for its definitions and proofs on `matcher`.
 ghost use mathlib.Core.Path.{_≡_};
 ghost use Rattle.shot_record.specs.Shots.{parse};
 ghost use Rattle.shot_record.specs.Answers.{headerAnswer, entryAnswer, codeAnswer, cellAnswer, gridAnswer, starts};
 
-mod cells;
-mod fields;
+pub mod bulk;
+pub mod cells;
+pub mod fields;
 mod numbers;
 
 use board::CharucoBoardSpec;

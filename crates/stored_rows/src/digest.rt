@@ -13,15 +13,7 @@ fn after_grey(h: u32, grey: u8) -> u32 {
 }
 
 fn after_signed(h: u32, z: i32) -> u32 {
-    after(h, bits_of(z) as u64)
-}
-
-// The 32 bits of a signed number: the complement of z is −1 − z.
-fn bits_of(z: i32) -> u32 {
-    if z < 0 {
-        return 0xFFFF_FFFF - (!z) as u32;
-    }
-    z as u32
+    after(h, integers::word(z) as u64)
 }
 
 pub fn of_greys(greys: &[u8]) -> u32 {

@@ -4,6 +4,8 @@ pub mod digest;
 pub mod greys;
 pub mod input;
 pub mod print;
+pub mod records;
+pub mod room;
 pub mod rows;
 pub mod tally;
 pub mod values;

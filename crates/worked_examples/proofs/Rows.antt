@@ -1,13 +1,16 @@
 -- The proved table: each row computes. Assumes nothing.
 use mathlib.Core.Path.{refl}
-use lib.Ieee.{ofBits, toBits, ofInt, neg, mul, div, le, lt, eq}
+use lib.Ieee.{ofBits, toBits, ofInt, neg, sub, mul, div, le, lt, eq}
 use Rattle.matcher.specs.Codes.{fromBits, source}
 use Rattle.grid_alignment.specs.Alignment.{sends, lowest}
 use Rattle.board.specs.Numbering.{count, numberAt, numberAtℤ, search}
+use Rattle.shot_record.specs.Shots.{list}
+use Rattle.hypothesis.specs.Placements.{leastTo, greatestTo, frame, withTurnsBelow, placements}
 use Rattle.worked_examples.specs.Table.{Table}
+use Rattle.worked_examples.proofs.Refused.{refused-5, record-refused}
 
 pub table : Table
-unfolding fromBits source sends lowest count numberAt numberAtℤ search ofBits toBits ofInt neg mul div le lt eq
+unfolding fromBits source sends lowest count numberAt numberAtℤ search ofBits toBits ofInt neg sub mul div le lt eq list leastTo greatestTo frame withTurnsBelow placements
 table =
     record {
       P1 = (refl, refl);
@@ -17,6 +20,8 @@ table =
       P5 = (refl, refl, refl, refl);
       P6 = (refl, refl, refl, refl);
       P7 = (refl, refl, refl, refl);
+      P9 = (λ capacity next. refl, λ capacity. refl, λ p. refl);
       P10 = refl;
+      P11 = (λ s first second. (refl, refl), λ s first second. (refl, refl), refused-5, record-refused, refl);
       P12 = (refl, refl, λ fraction. refl);
     }

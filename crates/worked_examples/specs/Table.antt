@@ -1,9 +1,14 @@
--- Document 01, "Proved table": its rows as statements about the definitions.
+-- Document 01, "Proved table": its rows, all but P8 (the links), as statements about the definitions.
 use mathlib.Core.Path.{_≡_}
-use Prim.Native.Nat.{ℕ}
+use Prim.Native.Nat.{ℕ, _≤_}
 use mathlib.Core.Bool.{true}
+use mathlib.Core.List.{List, [], _∷_}
+use mathlib.Core.Option.{Option, none, some}
+use lib.ListN.{length}
 use lib.IntN.{ℤ, pos}
 use lib.Ieee.{Float, binary32, ofBits, toBits}
+use Rattle.refusal.specs.declared.Refusal.the-variants as refusal
+use Rattle.refusal.specs.Numbers.{numberOf}
 use Rattle.matcher.specs.Codes.{turned}
 use Rattle.grid_alignment.specs.declared.GridAlignment.{GridAlignment}
 use Rattle.grid_alignment.specs.Alignment.{cornerAlignment}
@@ -13,14 +18,26 @@ use Rattle.board.specs.declared.Surrounding.the-variants as surrounding
 use Rattle.board.specs.Layout.{odd, squareOf, cornerAt, fourCorners}
 use Rattle.score_matrix.specs.Scores.{nullScore}
 use Rattle.score_matrix.specs.Weights.{weight}
+use Rattle.score_matrix.specs.Table.{patterns}
+use Rattle.shot_record.specs.Shots.{Sample, Cell, Shot, defaultMargin, defaultThreshold, defaultPx}
+use Rattle.shot_record.specs.Writing.{bytesOf}
+use Rattle.hypothesis.specs.declared.Evidence.the-variants as evidence
+use Rattle.hypothesis.specs.declared.Hypothesis.{Hypothesis}
+use Rattle.hypothesis.specs.declared.Choice.{Choice}
+use Rattle.hypothesis.specs.declared.Choice.the-variants as choice
+use Rattle.hypothesis.specs.Placements.{placements}
+use Rattle.hypothesis.specs.Rules.{countOf}
+use Rattle.hypothesis.specs.Search.{margin}
+use Rattle.board_match.specs.declared.Matched.the-variants as matched
+use Rattle.board_match.specs.Match.{askedFrom15, matchAnswer}
 
 -- an alignment
 abbrev pub align : ℕ → ℤ → ℤ → GridAlignment
 align turn tx ty = record { turn = turn; tx = tx; ty = ty }
 
--- 0, 0.25, 0.5, 0.75 and 1 by their bits
-abbrev pub none : Float
-none = ofBits binary32 0
+-- 0, 0.25, 0.5, 0.75, 1, 2, 4 and −6 by their bits
+abbrev pub zero : Float
+zero = ofBits binary32 0
 
 abbrev pub quarter : Float
 quarter = ofBits binary32 0x3E800000
@@ -33,6 +50,58 @@ threeQuarters = ofBits binary32 0x3F400000
 
 abbrev pub whole : Float
 whole = ofBits binary32 0x3F800000
+
+abbrev pub two : Float
+two = ofBits binary32 0x40000000
+
+abbrev pub four : Float
+four = ofBits binary32 0x40800000
+
+abbrev pub minusSix : Float
+minusSix = ofBits binary32 0xC0C00000
+
+-- a placement with its evidence
+abbrev pub evident : GridAlignment → Float → Hypothesis
+evident p x = record { alignment = p; evidence = evidence.Number x }
+
+-- a shot with P3's board and the cells (0, 0) and (u, 0), sampled or not, the rest of it as in s
+abbrev pub twoCells : ℕ → Option Sample → Option Sample → List Cell
+twoCells u first second = record { u = pos 0; v = pos 0; sample = first } ∷ record { u = pos u; v = pos 0; sample = second } ∷ []
+
+abbrev pub showing : Shot → ℕ → Option Sample → Option Sample → Shot
+showing s u first second =
+    record {
+      minimumMargin = s .minimumMargin;
+      borderThreshold = s .borderThreshold;
+      pxPerSquare = s .pxPerSquare;
+      table = s .table;
+      rows = 4;
+      cols = 5;
+      bits = s .bits;
+      border = s .border;
+      cellSize = s .cellSize;
+      markerSizeRel = s .markerSizeRel;
+      codes = s .codes;
+      cells = twoCells u first second;
+    }
+
+-- such a shot with the cells (0, 0) and (5, 0): default settings, side 4, border 1, sizes 1.0 and 0.5, codes 0 to 9, no cell sampled
+abbrev pub tooWide : Shot
+tooWide =
+    record {
+      minimumMargin = defaultMargin;
+      borderThreshold = defaultThreshold;
+      pxPerSquare = defaultPx;
+      table = patterns;
+      rows = 4;
+      cols = 5;
+      bits = 4;
+      border = 1;
+      cellSize = 0x3F800000;
+      markerSizeRel = 0x3F000000;
+      codes = 0 ∷ 1 ∷ 2 ∷ 3 ∷ 4 ∷ 5 ∷ 6 ∷ 7 ∷ 8 ∷ 9 ∷ [];
+      cells = twoCells 5 none none;
+    }
 
 pub record Table : Type 0 where
   -- 2 by 2 board: marker 0 at (1, 0), 1 at (0, 1)
@@ -57,9 +126,22 @@ pub record Table : Type 0 where
   pub P7 :
       (fourCorners odd 4 5 3 ≡ surrounding.Corners 1 2 6 5) × (squareOf odd 4 5 2 ≡ located.At 0 1) × (fourCorners odd 4 5 2 ≡ surrounding.Absent)
       × (squareOf odd 4 5 10 ≡ located.Absent)
+  -- margins: best 0 gives 0; best 2 with runner-up absent gives 1; best 2, runner-up −6, capacity 4 gives 2
+  pub P9 :
+      ((capacity : Float) (next : Choice) → margin (evidence.Number zero) capacity next ≡ zero)
+      × ((capacity : Float) → margin (evidence.Number two) capacity choice.Absent ≡ whole)
+      × ((p : GridAlignment) → margin (evidence.Number two) four (choice.Placement (evident p minusSix)) ≡ two)
   -- null score, side 4: bits C1317218
   pub P10 : toBits binary32 (nullScore 4) ≡ 0xC1317218
+  -- P3's board: cells (0, 0), (2, 0) give 44 placements, by the list and by the formula; (0, 0), (4, 0) give 8; (0, 0), (5, 0) is refused 15,
+  -- where question 15 is asked and as Match's answer to a record
+  pub P11 :
+      ((s : Shot) (first second : Option Sample) → (length (placements (showing s 2 first second)) ≡ 44) × (countOf (showing s 2 first second) ≡ 44))
+      × ((s : Shot) (first second : Option Sample) → (length (placements (showing s 4 first second)) ≡ 8) × (countOf (showing s 4 first second) ≡ 8))
+      × ((s : Shot) (first second : Option Sample) → askedFrom15 (showing s 5 first second) ≡ some refusal.TranslationWindow)
+      × ((lent : List ℕ) → 36 ≤ length lent → matchAnswer (bytesOf 0 tooWide) lent ≡ matched.Refused refusal.TranslationWindow)
+      × (numberOf refusal.TranslationWindow ≡ 15)
   -- weights: fraction 0.25 over 0.5 is 0.5; 0.75 over 0.5 is 1; threshold 0 gives 1
   pub P12 :
       (weight half true quarter ≡ half) × (weight half true threeQuarters ≡ whole)
-      × ((fraction : Float) → weight none true fraction ≡ whole)
+      × ((fraction : Float) → weight zero true fraction ≡ whole)

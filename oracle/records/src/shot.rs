@@ -84,6 +84,30 @@ impl Default for Shot {
 }
 
 impl Shot {
+    /// The shot of document 01's example, which the program `place` reads.
+    pub fn of_document_01() -> Self {
+        let mut table = [0; TABLE_LENGTH];
+        table[..256].fill((-1.0f32).to_bits());
+        let grid = vec![
+            0, 0, 0, 0, //
+            0, 0, 0xFF, 0, //
+            0, 0xFF, 0xFF, 0, //
+            0, 0, 0, 0,
+        ];
+        let sample = Some(Sample {
+            fraction: 1.0f32.to_bits(),
+            threshold: 128,
+            grid,
+        });
+        Self {
+            map: settings::TABLE,
+            table,
+            codes: vec![1, 15],
+            cells: vec![Cell { u: 0, v: 0, sample }],
+            ..Self::default()
+        }
+    }
+
     /// How many greys a sampled cell has.
     pub fn greys(&self) -> usize {
         let side = usize::from(self.bits) + 2 * usize::from(self.border);

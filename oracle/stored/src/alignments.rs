@@ -1,10 +1,10 @@
 //! Kinds 4 to 6: corner translations, quarter turns, and the corners of a cell.
 
-use crate::row::Row;
 use cases::codes::TURNS;
 use cases::floats::{PIXELS, random_finite};
 use cases::points::{TELLING, random_point};
 use cases::prng::Prng;
+use rows::Row;
 
 const TELLING_POINTS: usize = 7;
 const RANDOM_POINTS: usize = 7;

@@ -1,9 +1,9 @@
 //! Kind A: the score of a cell and a code, its evidence, and the code that is read.
 
-use crate::row::Row;
 use cases::cells::{BORDERS, Cell, THRESHOLDS};
 use cases::codes::{SIDES, TURNS, patterns, random_code};
 use cases::prng::Prng;
+use rows::Row;
 use theirs::{BUILT_IN, Samples, ScoreBoard, read_code, rotate_code};
 
 /// Base and spread of a cell's greys, for a threshold.

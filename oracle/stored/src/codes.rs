@@ -1,8 +1,8 @@
 //! Kind 1: turned codes.
 
-use crate::row::Row;
 use cases::codes::{SIDES, TURNS, patterns, random_code, single_bits};
 use cases::prng::Prng;
+use rows::Row;
 use std::collections::BTreeSet;
 
 const SINGLE_BITS: usize = 5;

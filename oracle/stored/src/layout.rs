@@ -1,10 +1,9 @@
 //! Kind 2: the whole layout of a board of each size, as digests.
 
-use crate::digest::digest;
-use crate::row::Row;
 use cases::floats::GOOD_CELL_SIZES;
 use cases::layout::SIZES;
 use cases::prng::Prng;
+use rows::{Row, digest};
 use std::ops::RangeInclusive;
 use theirs::Board;
 

@@ -1,7 +1,7 @@
 //! Kinds 7 and 8: the built-in likelihood table, and null scores.
 
-use crate::row::Row;
 use cases::codes::SIDES;
+use rows::Row;
 use theirs::{BUILT_IN, likelihood_table, null_score};
 
 const ENTRIES_OF_A_ROW: usize = 16;

@@ -3,11 +3,9 @@
 mod alignments;
 mod cells;
 mod codes;
-mod digest;
 mod layout;
 mod likelihood;
 mod refusals;
-mod row;
 mod weights;
 
 use std::io::{self, BufWriter, Write};

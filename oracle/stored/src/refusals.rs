@@ -1,10 +1,10 @@
 //! Kind 3: which boards are refused, and with which number.
 
-use crate::row::Row;
 use cases::boards::{
     BASES, BoardAnswer, BoardArguments, CodeLists, double_changes, single_changes,
 };
 use cases::prng::Prng;
+use rows::Row;
 
 /// Boards with two changes are drawn until each of the numbers 0 to 8 has come up so often.
 const OF_EACH_NUMBER: usize = 36;

@@ -1,8 +1,8 @@
 //! Kind 9: the weight of a cell.
 
-use crate::row::Row;
 use cases::floats::{BORDER_THRESHOLDS, FRACTIONS, random_finite, random_fraction};
 use cases::prng::Prng;
+use rows::Row;
 use theirs::{BORDER_THRESHOLD, cell_weight};
 
 const FRACTIONS_OF_A_THRESHOLD: usize = 4;

@@ -2,6 +2,8 @@
 //! `bench_scores ours|theirs|both ROUNDS [CASE]`. Both sides take their turn in every round. Without a case, the machine's
 //! own limits come first.
 
+#[path = "../bench/arguments.rs"]
+mod arguments;
 mod case;
 mod limits;
 #[path = "../bench/overflow.rs"]
@@ -9,24 +11,17 @@ mod overflow;
 #[path = "../bench/times.rs"]
 mod times;
 
+use arguments::Arguments;
 use case::{CASES, Case};
 use std::hint::black_box;
 use std::process::ExitCode;
 use times::Times;
 
-const ROUNDS: usize = 31;
 /// A small case is repeated until a round has so many scores.
 const SCORES_OF_A_ROUND: usize = 200_000;
 
-struct Arguments {
-    ours: bool,
-    theirs: bool,
-    rounds: usize,
-    case: Option<usize>,
-}
-
 fn main() -> ExitCode {
-    let Some(arguments) = arguments() else {
+    let Some(arguments) = Arguments::read(CASES.len()) else {
         eprintln!("usage: bench_scores [ours|theirs|both [ROUNDS [CASE]]]");
         return ExitCode::FAILURE;
     };
@@ -45,23 +40,6 @@ fn main() -> ExitCode {
         }
     }
     ExitCode::from(u8::from(!agree))
-}
-
-fn arguments() -> Option<Arguments> {
-    let words: Vec<String> = std::env::args().skip(1).collect();
-    let side = words.first().map_or("both", String::as_str);
-    let rounds = words.get(1).map_or(Ok(ROUNDS), |word| word.parse()).ok()?;
-    let case = words.get(2).map(|word| word.parse()).transpose().ok()?;
-    let is_known = ["ours", "theirs", "both"].contains(&side)
-        && words.len() <= 3
-        && rounds > 0
-        && case.is_none_or(|case| case < CASES.len());
-    is_known.then_some(Arguments {
-        ours: side != "theirs",
-        theirs: side != "ours",
-        rounds,
-        case,
-    })
 }
 
 /// Prints the times of both sides. Do their answers agree?

@@ -1,32 +1,54 @@
-//! The differential run: asks our library and the upstream Rust the same, and ends with 1 if any answer differs.
+//! The differential run: asks our library and the upstream Rust the same, and ends with 1 if any answer differs. Names of
+//! groups as arguments restrict it to these.
 
 mod alignments;
 mod codes;
 mod layout;
 mod marker_cells;
+mod matches;
 mod records;
 mod refusals;
 mod scores;
 mod subject;
 
 use std::process::ExitCode;
+use subject::Subject;
+
+/// A group of subjects by its name, in the order of the run.
+type Group = (&'static str, fn() -> Vec<Subject>);
+
+const GROUPS: [Group; 9] = [
+    ("codes", codes::compare),
+    ("layout", layout::compare),
+    ("refusals", refusals::compare),
+    ("alignments", alignments::compare),
+    ("scores", scores::compare),
+    ("cells", marker_cells::compare),
+    ("records", records::compare),
+    ("matches", matches::compare),
+    ("program", matches::compare_program),
+];
 
 fn main() -> ExitCode {
-    let subjects = [
-        codes::compare(),
-        layout::compare(),
-        refusals::compare(),
-        alignments::compare(),
-        scores::compare(),
-        marker_cells::compare(),
-        records::compare(),
-    ]
-    .concat();
-    for subject in &subjects {
-        print!("{subject}");
+    let names: Vec<String> = std::env::args().skip(1).collect();
+    let is_known = |name: &String| GROUPS.iter().any(|(known, _)| known == name);
+    if !names.iter().all(is_known) {
+        eprintln!(
+            "usage: compare [GROUP...], of {:?}",
+            GROUPS.map(|(name, _)| name)
+        );
+        return ExitCode::FAILURE;
     }
-    let compared: u64 = subjects.iter().map(|subject| subject.compared).sum();
-    let different: u64 = subjects.iter().map(|subject| subject.different).sum();
+    let [mut compared, mut different] = [0; 2];
+    for (name, compare) in GROUPS {
+        if names.is_empty() || names.iter().any(|asked| asked == name) {
+            for subject in compare() {
+                print!("{subject}");
+                compared += subject.compared;
+                different += subject.different;
+            }
+        }
+    }
     println!("all: {compared} compared, {different} different");
     ExitCode::from(u8::from(different != 0))
 }

@@ -2,6 +2,7 @@
 //! in the shapes of the crate `theirs`.
 
 pub mod marker_cells;
+pub mod matches;
 pub mod records;
 pub mod scores;
 

@@ -1,12 +1,8 @@
 //! Prints answers about shot records and the cells entry, one line each, for the program `replay_shots`. Our library
 //! takes no part.
 
-#[path = "../digest.rs"]
-mod digest;
 mod lists;
 mod record;
-#[path = "../row.rs"]
-mod row;
 mod script;
 
 use script::Script;

@@ -50,29 +50,7 @@ fn ask_all(script: &mut Script, shot: &Shot) {
 
 /// The record for the program `place`.
 fn of_document_01(script: &mut Script) {
-    let mut table = [0; TABLE_LENGTH];
-    table[..256].fill((-1.0f32).to_bits());
-    let grid = vec![
-        0, 0, 0, 0, //
-        0, 0, 0xFF, 0, //
-        0, 0xFF, 0xFF, 0, //
-        0, 0, 0, 0,
-    ];
-    let shot = Shot {
-        map: settings::TABLE,
-        table,
-        codes: vec![1, 15],
-        cells: vec![Cell {
-            u: 0,
-            v: 0,
-            sample: Some(Sample {
-                fraction: 1.0f32.to_bits(),
-                threshold: 128,
-                grid,
-            }),
-        }],
-        ..Shot::default()
-    };
+    let shot = Shot::of_document_01();
     begin_with(script, &shot);
     ask_all(script, &shot);
     for k in [0, 255, 256, 510, 511, 1 << 32, usize::MAX] {

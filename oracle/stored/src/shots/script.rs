@@ -1,17 +1,11 @@
 //! The rows of the file in their order: those that build up a record and lists, and those that ask about them.
 
-use crate::digest::digest;
-use crate::row::Row;
 use cases::corner_lists::{CornerLists, WORDS_OF_A_CORNER};
 use records::{REFUSED, Read, read};
+use rows::{Row, digest, rows_of_bytes};
 
-/// Bytes of a row: a row has at most 32 words, of which two come before the bytes.
-const BYTES_OF_A_ROW: usize = 30 * 8;
 const CORNERS_OF_A_ROW: usize = 7;
 const INLIERS_OF_A_ROW: usize = 31;
-
-/// So many equal bytes have a row of their own.
-const LONG_RUN: usize = 24;
 
 /// The cells whose start is told.
 const STARTS: usize = 256;
@@ -47,34 +41,10 @@ impl Script {
         self.lists = CornerLists::of_points([]);
     }
 
-    /// Adds bytes to the record, long runs of one byte apart from the others.
     pub fn add_bytes(&mut self, bytes: &[u8]) {
         self.record.extend(bytes);
         assert!(self.record.len() <= MOST_BYTES);
-        let mut others = Vec::new();
-        for run in bytes.chunk_by(|a, b| a == b) {
-            if run.len() < LONG_RUN {
-                others.extend(run);
-                continue;
-            }
-            self.add_as_words(&others);
-            others.clear();
-            let length = run.len() as u64;
-            self.rows.push(Row::of_kind(2).with(length).with(run[0]));
-        }
-        self.add_as_words(&others);
-    }
-
-    fn add_as_words(&mut self, bytes: &[u8]) {
-        for bytes in bytes.chunks(BYTES_OF_A_ROW) {
-            let words = bytes.chunks(8).map(|eight| {
-                let mut word = [0; 8];
-                word[..eight.len()].copy_from_slice(eight);
-                u64::from_le_bytes(word)
-            });
-            let row = Row::of_kind(1).with(bytes.len() as u64);
-            self.rows.push(words.fold(row, Row::with));
-        }
+        self.rows.extend(rows_of_bytes(bytes));
     }
 
     /// Adds corners by their three words of the grid list and their scores.

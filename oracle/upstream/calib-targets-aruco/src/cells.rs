@@ -2,6 +2,7 @@
 
 use calib_targets_core::{Coord, GrayImageView};
 use nalgebra::Point2;
+use std::cell::RefCell;
 
 #[derive(Clone, Debug)]
 pub struct CellSamples {
@@ -75,16 +76,33 @@ impl MarkerDetection {
     }
 }
 
-#[derive(Clone, Copy, Debug)]
-pub struct ScanDecodeConfig;
+/// Samples in the place of the settings for a picture: `sample_cell` hands them out.
+#[derive(Debug)]
+pub struct ScanDecodeConfig(RefCell<Vec<Option<CellSamples>>>);
 
-/// There is no picture here: samples are given, and nothing calls this.
+impl ScanDecodeConfig {
+    pub const fn new(samples: Vec<Option<CellSamples>>) -> Self {
+        Self(RefCell::new(samples))
+    }
+}
+
+/// Corners that are no image positions: they say which of the given cells it is.
+pub fn corners_of_place(place: usize) -> [Point2<f32>; 4] {
+    [Point2::new(place as f32, 0.0); 4]
+}
+
+pub const fn place_of_corners(corners: &[Point2<f32>; 4]) -> usize {
+    corners[0].x as usize
+}
+
+/// There is no picture here: these are the samples given for the place that the cell's corners tell. They are moved, not
+/// copied, so each cell can be sampled once.
 pub fn sample_cell(
     _image: &GrayImageView<'_>,
-    _cell: &MarkerCell,
+    cell: &MarkerCell,
     _px_per_square: f32,
-    _config: &ScanDecodeConfig,
+    config: &ScanDecodeConfig,
     _bits: usize,
 ) -> Option<CellSamples> {
-    panic!("the oracle samples no picture")
+    config.0.borrow_mut()[place_of_corners(&cell.corners_img)].take()
 }

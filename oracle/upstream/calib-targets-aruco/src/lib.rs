@@ -4,6 +4,9 @@ mod cells;
 mod dictionary;
 include!(concat!(env!("OUT_DIR"), "/matcher.rs"));
 
-pub use cells::{sample_cell, CellSamples, MarkerCell, MarkerDetection, ScanDecodeConfig};
+pub use cells::{
+    corners_of_place, place_of_corners, sample_cell, CellSamples, MarkerCell, MarkerDetection,
+    ScanDecodeConfig,
+};
 pub use dictionary::{resolve_dictionary, Dictionary};
 pub use matcher::{rotate_code_u64, Match, Matcher};

@@ -2,11 +2,13 @@
 //! A child of `board_match` may call what is private there; `mod.rs` hands on the names that it expects of this file.
 
 use super::emit::emit_markers;
+use super::hypothesis::rotation_index_for;
 use super::score_matrix::{build_score_matrix, ScoreMatrix};
-use super::BoardMatchConfig;
+use super::{match_board_core, BoardMatchConfig, DiagHypothesis, MatchSink};
 use crate::board::CharucoBoard;
+use crate::match_run::{Gate, MatchRun, Selected, NO_PICTURE};
 use crate::settings::ScoreSettings;
-use calib_targets_aruco::{CellSamples, MarkerCell, MarkerDetection};
+use calib_targets_aruco::{CellSamples, MarkerCell, MarkerDetection, ScanDecodeConfig};
 use calib_targets_core::GridAlignment;
 
 /// The score matrix of some cells on a board. Where a field or a function is private to its file, the value comes
@@ -71,8 +73,81 @@ impl BoardMatchDiagnostics {
     }
 }
 
+/// The whole of `match_board_core`, with all that it tells its sink.
+pub(crate) fn match_board_diag(
+    board: &CharucoBoard,
+    cells: &[MarkerCell],
+    samples: &ScanDecodeConfig,
+    config: &BoardMatchConfig,
+) -> MatchRun {
+    let mut run = MatchRun::default();
+    let result = match_board_core(&NO_PICTURE, cells, board, samples, config, &mut run);
+    run.result = result.map(|(markers, corners)| (markers, corners.alignment));
+    run
+}
+
+impl MatchSink for MatchRun {
+    fn reject_no_cells(&mut self) {
+        self.gate = Some(Gate::NoCells);
+    }
+
+    fn reject_empty_board(&mut self, _: &[MarkerCell], _: &[Option<CellSamples>], _: usize) {
+        self.gate = Some(Gate::EmptyBoard);
+    }
+
+    fn reject_translation_window(
+        &mut self,
+        _: &[MarkerCell],
+        _: &[Option<CellSamples>],
+        _: &ScoreMatrix,
+        _: usize,
+    ) {
+        self.gate = Some(Gate::TranslationWindow);
+    }
+
+    fn record_hypotheses(
+        &mut self,
+        best: &DiagHypothesis,
+        runner_up: Option<&DiagHypothesis>,
+        total: usize,
+        margin: f32,
+    ) {
+        self.selected = Some(Selected {
+            best: *best,
+            runner_up: runner_up.copied(),
+            total,
+            margin,
+        });
+    }
+
+    /// An emitted marker has the sigmoid of this quotient only.
+    fn fill_cells_and_expected(
+        &mut self,
+        board: &CharucoBoard,
+        cells: &[MarkerCell],
+        _: &[Option<CellSamples>],
+        matrix: &ScoreMatrix,
+        alignment: &GridAlignment,
+        bits: usize,
+    ) {
+        let turn = rotation_index_for(alignment);
+        let quotient = |(place, cell): (usize, &MarkerCell)| {
+            let id = board.marker_id_at(alignment.apply(cell.gc))?;
+            Some(matrix.score(place, id, turn) / (bits * bits) as f32)
+        };
+        self.quotients = cells.iter().enumerate().map(quotient).collect();
+    }
+
+    fn reject_margin(&mut self, _margin: f32, _required: f32) {
+        self.gate = Some(Gate::Margin);
+    }
+
+    fn reject_no_markers(&mut self) {
+        self.gate = Some(Gate::NoMarkers);
+    }
+}
+
 // Names that `mod.rs` expects besides.
 pub struct CellBestMatch;
 pub struct CellDiag;
 pub struct RejectReason;
-pub(crate) fn match_board_diag() {}

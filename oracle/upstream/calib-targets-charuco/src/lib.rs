@@ -1,6 +1,7 @@
 //! Upstream's `alignment.rs`, `board.rs`, `board_match/`, with a driver for it, and `marker_sampling.rs`.
 
 mod marker_cells;
+mod match_run;
 mod settings;
 include!(concat!(env!("OUT_DIR"), "/alignment.rs"));
 include!(concat!(env!("OUT_DIR"), "/board.rs"));
@@ -9,5 +10,7 @@ include!(concat!(env!("OUT_DIR"), "/marker_sampling.rs"));
 
 pub use board::{CharucoBoard, CharucoBoardError, CharucoBoardSpec, MarkerLayout};
 pub use board_match::BoardMatchDiagnostics as ScoredCells;
+pub use board_match::DiagHypothesis;
 pub use marker_cells::marker_cells;
+pub use match_run::{count_of_markers, Gate, MatchRun, MatchSettings, Selected};
 pub use settings::ScoreSettings;

@@ -6,7 +6,7 @@ use borrow.Author.Needs.{needs}
 use borrow.Author.Tests.{not-true, not-false, lt-ltb, le-ltb}
 use Rattle.integers.proofs.Words.{word as read}
 use Rattle.marker_sampling.specs.Cells.{Corners, word, labelled}
-use Rattle.marker_sampling.specs.Entry.{within}
+use Rattle.integers.specs.Distance.{within}
 use Rattle.marker_sampling.specs.Keys.{cornersOf}
 use Rattle.marker_sampling.proofs.Keyed.{passed-over, keyed}
 use Rattle.marker_sampling.proofs.Placing.{both-within}

@@ -4,7 +4,7 @@ use mathlib.Core.Bool.{Bool, true, not, _&&_, _||_}
 use borrow.Author.Needs.{needs}
 use borrow.Author.Tests.{not-true, not-false}
 use Rattle.marker_sampling.specs.Cells.{Corners, word, labelled}
-use Rattle.marker_sampling.specs.Entry.{within}
+use Rattle.integers.specs.Distance.{within}
 use Rattle.marker_sampling.specs.Keys.{cornersOf}
 use Rattle.marker_sampling.proofs.Tests.{read-back}
 use Rattle.marker_sampling.proofs.questions.placed.Statement.{statement}

@@ -6,7 +6,7 @@ use lib.Signed.{leZ}
 use mir.Syntax.{w32}
 use mir.ValLaws.{toZ-ofZ}
 use Rattle.integers.proofs.Words.{word}
-use Rattle.marker_sampling.specs.Entry.{within}
+use Rattle.integers.specs.Distance.{within}
 use Rattle.marker_sampling.proofs.questions.within.Statement.{statement}
 use Rattle.marker_sampling.proofs.questions.within.Tie as tie
 

@@ -1,16 +1,16 @@
 -- `shot_record::cells::grid_part` meets its contract. Assumes nothing.
 use mathlib.Core.Path.{_≡_, refl, sym, ap₂, _∙_}
-use Prim.Native.Nat.{ℕ, zero, suc, _+_, _-_, _≤_, _<_, zero-le}
+use Prim.Native.Nat.{ℕ, _+_, _-_, _≤_, _<_, zero-le}
 use native.Mathlib.Nat.{le-refl}
 use native.Mathlib.Omega.{arith}
-use mathlib.Core.List.{List, []}
+use mathlib.Core.List.{List}
 use lib.ListN.{length, take, drop}
 use borrow.Author.Needs.{needs}
-use Rattle.shot_record.specs.Fields.{bitsOf, borderOf, gridSize, cellCount, sampled, cellLength, cellAt}
-use Rattle.shot_record.specs.Shots.{sampleAt, cellOf}
-use Rattle.shot_record.specs.Answers.{gridWith}
+use Rattle.shot_record.specs.Fields.{bitsOf, borderOf, gridSize, cellCount, sampled, cellAt}
+use Rattle.shot_record.specs.Shots.{cellOf}
 use Rattle.shot_record.proofs.Lists.{nth-list, nth-list-past}
-use Rattle.shot_record.proofs.Reading.{Found, found, starts-rise}
+use Rattle.shot_record.proofs.Reading.{Found, found}
+use Rattle.shot_record.proofs.CellReads.{without-grid, with-grid, grid-lies}
 use Rattle.shot_record.proofs.Whole.{Whole, whole-if, refused-if, parse-whole}
 use Rattle.shot_record.proofs.cells.grid_part.Statement.{statement}
 use Rattle.shot_record.proofs.cells.grid_part.Tie as tie
@@ -33,18 +33,6 @@ module _ (e : tie.Else1) where
 
   f : Found (e .before .before .locate .result) bytes
   f = found _ _ (e .before .before .locate .ensures)
-
--- a cell without a grid, and one with
-without : (b grid at : ℕ) (bytes : List ℕ) → b ≡ 0 → [] ≡ gridWith (sampleAt b grid at bytes)
-without b grid at bytes e = rw e refl
-
-with-grid : (b grid at : ℕ) (bytes : List ℕ) → (b ≡ 0 → ⊥) → take grid (drop (at + 9) bytes) ≡ gridWith (sampleAt b grid at bytes)
-with-grid zero grid at bytes h = absurd (h refl)
-with-grid (suc b) grid at bytes h = refl
-
-sampled-size : (b grid : ℕ) → (b ≡ 0 → ⊥) → cellLength b grid ≡ 9 + grid
-sampled-size zero grid h = absurd (h refl)
-sampled-size (suc b) grid h = refl
 
 returns : tie.Need-returns
 returns c =
@@ -70,7 +58,7 @@ returns-3 c =
     let e = there d in (
       (le-refl 0, zero-le),
       rw (parse-whole _ (is-whole e), nth-list (cellOf (bytes e)) (cellCount (bytes e)) (k e) (inside d))
-          (without (sampled (bytes e) (k e)) (size e) (cellAt (bytes e) (k e)) (bytes e) (sym (c .before .sampled .ensures) ∙ c .if3 .taken)),
+          (without-grid (sampled (bytes e) (k e)) (size e) (cellAt (bytes e) (k e)) (bytes e) (sym (c .before .sampled .ensures) ∙ c .if3 .taken)),
     )
 
 -- a sampled cell
@@ -85,10 +73,7 @@ module _ (c : tie.After-cell-start) where
   marked z = c .before .if3 .left (c .before .before .sampled .ensures ∙ z)
 
   lies : cellAt (bytes at) (k at) + (9 + size at) ≤ length (bytes at)
-  unfolding cellAt
-  lies =
-      let rise = starts-rise (bytes at) (suc (k at)) (cellCount (bytes at)) (inside cell) in
-      omega (arith, rise, sampled-size (sampled (bytes at) (k at)) (size at) marked, is-whole at .end)
+  lies = grid-lies (bytes at) (is-whole at) (k at) (inside cell) marked
 
 add-first : tie.Need-add-first
 add-first c = omega (arith, c .cell-start .ensures, lies c, is-whole (at c) .size)

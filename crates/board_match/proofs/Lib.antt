@@ -1,0 +1,10 @@
+pub mod Every
+pub mod CellAnswers
+pub mod Order
+pub mod Sound
+pub mod Answered
+pub mod Passing
+pub mod Placing
+pub mod Accurately
+pub mod Gates
+pub mod Laws

@@ -1,0 +1,83 @@
+-- `board_match::questions::board` meets its contract: the questions up to 7, then 8. Assumes nothing.
+use mathlib.Core.Path.{_≡_, sym, ap, ap₂, _∙_}
+use mathlib.Core.List.{List}
+use Prim.Native.Nat.{ℕ, _+_, _*_}
+use native.Mathlib.Omega.{arith}
+use lib.ListN.{length}
+use borrow.Author.Needs.{needs}
+use borrow.Author.Tests.{not-true, not-false}
+use Rattle.board.specs.declared.CharucoBoardSpec.{CharucoBoardSpec}
+use Rattle.board.specs.declared.Board.{Board}
+use Rattle.board.specs.declared.NewBoard.the-variants as new
+use Rattle.board.specs.Questions.{sizedBoard}
+use Rattle.board.proofs.Asked.{sized, then-made, then-refused}
+use Rattle.shot_record.specs.Fields.{number, codesAt, codeCount}
+use Rattle.shot_record.specs.Shots.{shot}
+use Rattle.shot_record.specs.Answers.{specOf}
+use Rattle.shot_record.proofs.Lists.{length-list}
+use Rattle.shot_record.proofs.Reading.{found}
+use Rattle.board_match.proofs.questions.board.Statement.{statement}
+use Rattle.board_match.proofs.questions.board.Tie as tie
+
+module _ (c : tie.After-sized) where
+  abbrev bytes : List ℕ
+  bytes = c .before .before .before .args .bytes .now
+
+  abbrev codes : List ℕ
+  codes = shot bytes .codes
+
+  abbrev spec : CharucoBoardSpec
+  spec = specOf (shot bytes)
+
+  answer : c .sized .result ≡ sizedBoard spec (length codes)
+  answer =
+      let x = c .before .before .before in
+      let count = found (x .args .f) bytes (x .pre) .code-count ∙ sym (length-list (λ (k : ℕ). number 8 (codesAt bytes + 8 * k) bytes) (codeCount bytes)) in
+      c .sized .ensures ∙ ap₂ sizedBoard (c .before .spec .ensures) count
+
+-- the board that passed the questions up to 7
+module _ (c : tie.After-sized2) where
+  abbrev board : Board
+  board = c .sized2 .given .0 .0
+
+  board-made : new.Made board ≡ sizedBoard (spec (c .before .before)) (length (codes (c .before .before)))
+  board-made = sym (c .sized2 .given .1) ∙ answer (c .before .before)
+
+codes-below-requires : tie.Need-codes-below-requires
+codes-below-requires c κs =
+    let m = c .before in
+    let a = m .before .before in
+    let made = sized (spec a) (length (codes a)) (board m) (sym (board-made m)) in
+    let bits = ap (λ (x : Board). x .bits) (made .1) in
+    omega (arith, made .0 .in-range .some-bits, made .0 .in-range .bits, bits)
+
+returns : tie.Need-returns
+returns c =
+    let m = c .before .before .before in
+    let a = m .before .before in
+    then-made (spec a) (codes a) (board m) _ _ (board-made m) (not-true _ (c .if1 .taken)) (c .before .codes-below .ensures)
+
+returns-2 : tie.Need-returns-2
+returns-2 c =
+    let m = c .before .before .before in
+    let a = m .before .before in
+    then-made (spec a) (codes a) (board m) _ _ (board-made m) (not-false _ (c .if1 .left)) (c .before .codes-below .ensures)
+
+returns-3 : tie.Need-returns-3
+returns-3 c =
+    let r = c .before in
+    let a = r .before .before in
+    then-refused (spec a) (codes a) _ (sym (r .sized3 .given .1) ∙ answer a)
+
+pub board-spec : {M : Type 1} → statement M
+board-spec =
+    tie.close
+    (tie.spec
+    (λ c κs. search needs)
+    (λ c κs. tt)
+    (λ c. search needs)
+    codes-below-requires
+    returns
+    (λ c. search needs)
+    returns-2
+    returns-3)

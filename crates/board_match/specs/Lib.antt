@@ -1,0 +1,4 @@
+pub mod Questions
+pub mod Reads
+pub mod Match
+pub mod Accuracy

@@ -1,0 +1,113 @@
+-- Document 01, Match: the answer to every record and every lent list, and the list at exit.
+use Prim.Native.Nat.{ℕ, _*_}
+use mathlib.Core.Path.{_≡_}
+use mathlib.Core.Bool.{Bool, not}
+use mathlib.Core.List.{List, [], _++_}
+use mathlib.Core.Option.{Option, none, some}
+use lib.Dec.{ltb}
+use lib.ListN.{length, drop}
+use lib.Ieee.{Float, lt}
+use Rattle.floats.specs.Units.{nought}
+use Rattle.refusal.specs.declared.Refusal.{Refusal}
+use Rattle.refusal.specs.declared.Refusal.the-variants as refusal
+use Rattle.refusal.specs.Questions.{ask}
+use Rattle.grid_alignment.specs.Alignment.{cornerAlignment}
+use Rattle.shot_record.specs.Shots.{Shot, parse}
+use Rattle.shot_record.specs.Answers.{float}
+use Rattle.hypothesis.specs.declared.Hypothesis.{Hypothesis}
+use Rattle.hypothesis.specs.declared.Choice.{Choice}
+use Rattle.hypothesis.specs.declared.Choice.the-variants as choice
+use Rattle.hypothesis.specs.Placements.{placements}
+use Rattle.hypothesis.specs.Evidence.{capacity}
+use Rattle.hypothesis.specs.Search.{best, runnerUp, margin}
+use Rattle.emit.specs.Markers.{Marker, markers, wordsOf}
+use Rattle.board_match.specs.declared.Match.{Match}
+use Rattle.board_match.specs.declared.Matched.{Matched}
+use Rattle.board_match.specs.declared.Matched.the-variants as matched
+use Rattle.board_match.specs.Questions.{askedBefore15}
+
+-- the best placement's margin, and the markers that are emitted for it
+abbrev pub marginWith : Shot → Choice → Float
+marginWith s choice.Absent = nought
+marginWith s (choice.Placement b) = margin (b .evidence) (capacity s (b .alignment)) (runnerUp s)
+
+abbrev pub marginOf : Shot → Float
+marginOf s = marginWith s (best s)
+
+abbrev pub markersWith : Shot → Choice → List Marker
+markersWith s choice.Absent = []
+markersWith s (choice.Placement b) = markers s (b .alignment)
+
+abbrev pub markersOf : Shot → List Marker
+markersOf s = markersWith s (best s)
+
+-- 15: Does some turn and translation put every cell on the board?
+abbrev pub fitsAnswer : Shot → Bool
+fitsAnswer s = ltb 0 (length (placements s))
+
+-- 16: Is the margin not below the minimum?
+abbrev pub minimum : Shot → Float
+minimum s = float (s .minimumMargin)
+
+abbrev pub marginAnswer : Shot → Bool
+marginAnswer s = not (lt (marginOf s) (minimum s))
+
+-- 17: Was a marker emitted?
+abbrev pub markersAnswer : Shot → Bool
+markersAnswer s = ltb 0 (length (markersOf s))
+
+unfoldable pub askedFrom15 : Shot → Option Refusal
+askedFrom15 s =
+    ask (fitsAnswer s) refusal.TranslationWindow
+    (ask (marginAnswer s) (refusal.Margin (marginOf s))
+    (ask (markersAnswer s) refusal.NoMarkers
+    none))
+
+-- the question that is answered with no, if one is
+abbrev pub earlier : Option Refusal → Option Refusal → Option Refusal
+earlier none later = later
+earlier (some refused) later = some refused
+
+abbrev pub refusedBy : Shot → ℕ → Option Refusal
+refusedBy s words = earlier (askedBefore15 s words) (askedFrom15 s)
+
+-- placed: best, next, margin, count, the corner alignment and the count of markers
+abbrev pub matchOf : Shot → Hypothesis → Match
+matchOf s b =
+    record {
+      best = b;
+      «runner_up» = runnerUp s;
+      margin = marginWith s (choice.Placement b);
+      placements = length (placements s);
+      corners = cornerAlignment (b .alignment);
+      markers = length (markers s (b .alignment));
+    }
+
+abbrev pub answerWith : Option Refusal → Shot → Choice → Matched
+answerWith (some refused) s b = matched.Refused refused
+answerWith none s choice.Absent = matched.Refused refusal.TranslationWindow
+answerWith none s (choice.Placement b) = matched.Placed (matchOf s b)
+
+abbrev pub answerOf : Option Shot → ℕ → Matched
+answerOf none words = matched.Refused refusal.InvalidRecord
+answerOf (some s) words = answerWith (refusedBy s words) s (best s)
+
+abbrev pub matchAnswer : List ℕ → List ℕ → Matched
+matchAnswer bytes lent = answerOf (parse bytes) (length lent)
+
+-- the list at exit: on a refusal as it was lent, else the markers' words in front and the rest untouched
+abbrev pub listWith : Option Refusal → List Marker → List ℕ → List ℕ
+listWith (some refused) found lent = lent
+listWith none found lent = wordsOf found ++ drop (18 * length found) lent
+
+abbrev pub listOf : Option Shot → List ℕ → List ℕ
+listOf none lent = lent
+listOf (some s) lent = listWith (refusedBy s (length lent)) (markersOf s) lent
+
+abbrev pub matchList : List ℕ → List ℕ → List ℕ
+matchList bytes lent = listOf (parse bytes) lent
+
+-- both together
+pub record Gives (bytes lent : List ℕ) (answer : Matched) (exit : List ℕ) : Type 0 where
+  pub answers : answer ≡ matchAnswer bytes lent
+  pub leaves : exit ≡ matchList bytes lent

@@ -1,0 +1,102 @@
+-- Document 01, "The questions asked": what Match asks of a shot before it searches, 1 to 14 in order.
+use Prim.Native.Nat.{ℕ, zero, suc, _*_}
+use mathlib.Core.Bool.{Bool, true, _&&_}
+use mathlib.Core.List.{List, map}
+use mathlib.Core.Option.{Option, none, some}
+use lib.Dec.{leb, ltb, eqb}
+use lib.ListN.{length}
+use lib.Ieee.{Float, le}
+use lib.Ieee.Scale.{finite}
+use Rattle.integers.specs.Distance.{within}
+use Rattle.floats.specs.Units.{nought, one}
+use Rattle.refusal.specs.declared.Refusal.{Refusal}
+use Rattle.refusal.specs.declared.Refusal.the-variants as refusal
+use Rattle.refusal.specs.Questions.{ask}
+use Rattle.board.specs.declared.NewBoard.{NewBoard}
+use Rattle.board.specs.declared.NewBoard.the-variants as new
+use Rattle.board.specs.Questions.{newBoard, boardOf}
+use Rattle.score_matrix.specs.declared.BoardMatchConfig.{BoardMatchConfig}
+use Rattle.score_matrix.specs.Table.{isTable}
+use Rattle.shot_record.specs.Fields.{gridSize}
+use Rattle.shot_record.specs.Shots.{Sample, Cell, Shot, shot, parse}
+use Rattle.shot_record.specs.Answers.{float, configOf, specOf}
+use Rattle.hypothesis.specs.Placements.{cell}
+use Rattle.board_match.specs.declared.Asked.{Asked}
+use Rattle.board_match.specs.declared.Asked.the-variants as asked
+use Rattle.board_match.specs.declared.questions.Answer.{Answer}
+use Rattle.board_match.specs.declared.questions.Answer.the-variants as answer
+
+-- do 0 to n − 1 all pass?
+unfoldable pub every : (ℕ → Bool) → ℕ → Bool
+every test zero = true
+every test (suc k) = every test k && test k
+
+-- 9: Are minimum margin, border threshold and px_per_square finite?
+abbrev pub settingsAnswer : BoardMatchConfig → Bool
+settingsAnswer c = finite (c .«alignment_min_margin») && (finite (c .«cell_weight_border_threshold») && finite (c .«px_per_square»))
+
+-- 10: Has the table 511 entries, each from −8 to 0?
+abbrev pub tableAnswer : Shot → Bool
+tableAnswer s = isTable (map float (s .table))
+
+-- 11: Is there a cell?
+abbrev pub someAnswer : Shot → Bool
+someAnswer s = ltb 0 (length (s .cells))
+
+-- 12: Are there at most 256, u and v each from −4,096 to 4,096?
+abbrev pub placedAnswer : Cell → Bool
+placedAnswer c = within 4096 (c .u) && within 4096 (c .v)
+
+abbrev pub cellsAnswer : Shot → Bool
+cellsAnswer s = leb (length (s .cells)) 256 && every (λ (k : ℕ). placedAnswer (cell s k)) (length (s .cells))
+
+-- 13: Has every sampled cell a whole grid and a fraction from 0 to 1?
+abbrev pub fractionAnswer : Float → Bool
+fractionAnswer x = le nought x && le x one
+
+abbrev pub sampleAnswer : ℕ → Option Sample → Bool
+sampleAnswer size none = true
+sampleAnswer size (some x) = eqb (length (x .grid)) size && fractionAnswer (float (x .fraction))
+
+abbrev pub samplesAnswer : Shot → Bool
+samplesAnswer s = every (λ (k : ℕ). sampleAnswer (gridSize (s .bits) (s .border)) (cell s k .sample)) (length (s .cells))
+
+-- 14: Has the result list a place per cell? A place has 18 words.
+abbrev pub roomAnswer : Shot → ℕ → Bool
+roomAnswer s words = leb (18 * length (s .cells)) words
+
+-- the question of 9 to 14 that is answered with no, if one is
+unfoldable pub askedFrom9 : Shot → ℕ → Option Refusal
+askedFrom9 s words =
+    ask (settingsAnswer (configOf s)) refusal.SettingsNotFinite
+    (ask (tableAnswer s) refusal.InvalidTable
+    (ask (someAnswer s) refusal.NoCells
+    (ask (cellsAnswer s) refusal.CellsOutOfRange
+    (ask (samplesAnswer s) refusal.InvalidSample
+    (ask (roomAnswer s words) refusal.ListTooShort
+    none)))))
+
+-- of 1 to 14: the board's come first
+abbrev pub afterBoard : NewBoard → Option Refusal → Option Refusal
+afterBoard (new.Made board) next = next
+afterBoard (new.Refused refused) next = some refused
+
+abbrev pub askedBefore15 : Shot → ℕ → Option Refusal
+askedBefore15 s words = afterBoard (newBoard (specOf s) (s .codes)) (askedFrom9 s words)
+
+-- of a record: question 21 comes before all others
+abbrev pub afterRecord : Option Shot → ℕ → Option Refusal
+afterRecord none words = some refusal.InvalidRecord
+afterRecord (some s) words = askedBefore15 s words
+
+-- how the program answers
+abbrev pub answerOf : Option Refusal → Answer
+answerOf none = answer.Passed
+answerOf (some r) = answer.Refused r
+
+abbrev pub askedWith : Option Refusal → Shot → Asked
+askedWith none s = asked.Passed (boardOf (specOf s)) (configOf s)
+askedWith (some r) s = asked.Refused r
+
+abbrev pub askedAnswer : List ℕ → ℕ → Asked
+askedAnswer bytes words = askedWith (afterRecord (parse bytes) words) (shot bytes)

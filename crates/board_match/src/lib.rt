@@ -1,0 +1,178 @@
+// Match (board_match/mod.rs): where a board lies under the cells of a shot record. Leans on `refusal`, `floats`, `grid_alignment`, `board`,
+// `score_matrix`, `shot_record`, `hypothesis` and `emit`, and for its definitions and laws on `integers`.
+ghost use mathlib.Core.Path.{_≡_};
+ghost use mathlib.Core.List.{map};
+ghost use mathlib.Core.Option.{none};
+ghost use lib.ListN.{length};
+ghost use Rattle.shot_record.specs.Fields.{fieldsOf};
+ghost use Rattle.shot_record.specs.Shots.{shot};
+ghost use Rattle.shot_record.specs.Answers.{float, starts as startsOf};
+ghost use Rattle.hypothesis.specs.Evidence.{tableOf};
+ghost use Rattle.hypothesis.specs.Search.{enumerate};
+ghost use Rattle.hypothesis.specs.Inputs.{Ready, Loaded};
+ghost use Rattle.board_match.specs.Questions.{askedBefore15, askedAnswer};
+ghost use Rattle.board_match.specs.Match.{matchAnswer, matchList, Gives};
+ghost use Rattle.board_match.specs.Accuracy.{Accuracy};
+
+mod questions;
+
+use board::Board;
+use board::NewBoard;
+use grid_alignment::GridAlignment;
+use hypothesis::Choice;
+use hypothesis::Enumerated;
+use hypothesis::Hypothesis;
+use hypothesis::Inputs;
+use hypothesis::Selection;
+use hypothesis::search;
+use questions::Answer;
+use refusal::Refusal;
+use score_matrix::BoardMatchConfig;
+use shot_record::bulk;
+use shot_record::cells;
+use shot_record::fields;
+use shot_record::fields::Fields;
+
+// A placed shot: the best placement and its runner-up, the margin between them, how many placements there are, the alignment of the corners,
+// and how many markers were emitted.
+pub struct Match {
+    pub best: Hypothesis,
+    pub runner_up: Choice,
+    pub margin: f32,
+    pub placements: usize,
+    pub corners: GridAlignment,
+    pub markers: usize,
+}
+
+pub enum Matched {
+    Placed(Match),
+    Refused(Refusal),
+}
+
+// A record that may be searched, or the first question before 15 that is answered with no.
+pub enum Asked {
+    Passed {
+        board: Board,
+        config: BoardMatchConfig,
+    },
+    Refused(Refusal),
+}
+
+// The questions 21 and 1 to 14, for a list of results with so many words.
+fn ask(bytes: &[u8], f: Fields, table: &[f32; 511], starts: &[u16; 256], words: usize) -> Asked
+    requires { ⌜ (f ≡ fieldsOf (now bytes)) × (now table ≡ map float (shot (now bytes) .table)) × (now starts ≡ startsOf (now bytes)) ⌝ }
+    ensures { λ r. ⌜ r ≡ askedAnswer (now (bytes .entry)) words ⌝ }
+{
+    if !cells::is_whole(bytes, f) {
+        return Asked::Refused(Refusal::InvalidRecord);
+    }
+    let made = questions::board(bytes, f);
+    match made {
+        NewBoard::Made(board) => {
+            let config = fields::config(bytes, f);
+            let answer = questions::from_9(bytes, f, config, table, starts, words);
+            match answer {
+                Answer::Passed => Asked::Passed { board, config },
+                Answer::Refused(refusal) => Asked::Refused(refusal),
+            }
+        }
+        NewBoard::Refused(refusal) => Asked::Refused(refusal),
+    }
+}
+
+// The questions 16 and 17 of the best placement, with the markers between them.
+fn emit_best(
+    bytes: &[u8],
+    inputs: Inputs,
+    starts: &[u16; 256],
+    table: &[f32; 511],
+    codes: &[u64; 512],
+    selection: Selection,
+    markers: &mut [u32],
+) -> Matched
+    requires { ⌜ Loaded (now bytes) inputs (now starts) (now table) (now codes) × (enumerate (shot (now bytes)) ≡ Enumerated.Selected selection)
+        × (askedBefore15 (shot (now bytes)) (length (now markers)) ≡ none) ⌝ }
+    ensures { λ r. ⌜ Gives (now (bytes .entry)) (now (markers .entry)) r (now (markers .exit)) ⌝ }
+{
+    let config = inputs.config;
+    let margin = selection.margin;
+    if margin < config.alignment_min_margin {
+        return Matched::Refused(Refusal::Margin { margin });
+    }
+    let best = selection.best;
+    let alignment = best.alignment;
+    let count = emit::emit_markers(
+        bytes,
+        inputs.fields,
+        starts,
+        codes,
+        table,
+        inputs.board,
+        config,
+        alignment,
+        markers,
+    );
+    if count == 0 {
+        return Matched::Refused(Refusal::NoMarkers);
+    }
+    let runner_up = selection.runner_up;
+    Matched::Placed(Match {
+        best,
+        runner_up,
+        margin,
+        placements: selection.total,
+        corners: alignment.cell_to_corner_alignment(),
+        markers: count,
+    })
+}
+
+// The questions from 15 on.
+fn search_record(
+    bytes: &[u8],
+    inputs: Inputs,
+    starts: &[u16; 256],
+    table: &[f32; 511],
+    markers: &mut [u32],
+) -> Matched
+    requires { ⌜ Ready (now bytes) inputs (now starts) × (now table ≡ tableOf (shot (now bytes))) × (askedBefore15 (shot (now bytes)) (length (now markers)) ≡ none) ⌝ }
+    ensures { λ r. ⌜ Gives (now (bytes .entry)) (now (markers .entry)) r (now (markers .exit)) ⌝ }
+{
+    let codes = bulk::codes(bytes);
+    let found = search::enumerate_hypotheses(bytes, inputs, starts, table, &codes);
+    match found {
+        Enumerated::Absent => Matched::Refused(Refusal::TranslationWindow),
+        Enumerated::Selected(selection) => emit_best(
+            bytes,
+            inputs,
+            starts,
+            table,
+            &codes,
+            selection,
+            markers,
+        ),
+    }
+}
+
+// Where the board lies under the cells of a shot record. The markers' words, 18 each, are written in front of the list that is lent; a refusal
+// leaves the list as it is.
+pub fn match_board(bytes: &[u8], markers: &mut [u32]) -> Matched
+    ensures answer { λ r. ⌜ r ≡ matchAnswer (now (bytes .entry)) (now (markers .entry)) ⌝ }
+    ensures list { λ _. ⌜ now (markers .exit) ≡ matchList (now (bytes .entry)) (now (markers .entry)) ⌝ }
+    ensures accuracy { λ r. ⌜ Accuracy (now (bytes .entry)) r ⌝ }
+{
+    let f = fields::locate(bytes);
+    let table = bulk::table(bytes);
+    let starts = shot_record::cell_starts(bytes);
+    let asked = ask(bytes, f, &table, &starts, markers.len());
+    match asked {
+        Asked::Refused(refusal) => Matched::Refused(refusal),
+        Asked::Passed { board, config } => {
+            let inputs = Inputs {
+                fields: f,
+                board,
+                config,
+            };
+            search_record(bytes, inputs, &starts, &table, markers)
+        }
+    }
+}

@@ -1,0 +1,2 @@
+pub mod Markers
+pub mod Emission

@@ -1,0 +1,83 @@
+// The marker that a placement expects in a sampled cell.
+ghost use mathlib.Core.Path.{_≡_};
+ghost use Prim.Native.Nat.{_<_};
+ghost use lib.ListN.{getD};
+ghost use Rattle.matcher.specs.Codes.{turnedWord};
+ghost use Rattle.shot_record.specs.Fields.{cellCount};
+ghost use Rattle.shot_record.specs.Shots.{shot};
+ghost use Rattle.emit.specs.Markers.{candidateAt};
+ghost use Rattle.emit.specs.Emission.{Found, Near};
+use board::Board;
+use board::Numbered;
+use grid_alignment::GridAlignment;
+use shot_record::ReadCell;
+use shot_record::cells;
+use shot_record::fields::Fields;
+
+// A sampled cell and the marker that is expected in it, with the marker's turned code.
+pub struct Candidate {
+    pub cell: u32,
+    pub id: u32,
+    pub u: i16,
+    pub v: i16,
+    pub turn: u8,
+    pub code: u64,
+    pub fraction: f32,
+    pub threshold: u8,
+}
+
+// Absent for an unsampled cell, and where no marker is expected.
+pub enum Expected {
+    Marker(Candidate),
+    Absent,
+}
+
+// The code of a marker after a turn.
+fn turned_code(codes: &[u64; 512], id: u32, bits: u8, turn: u8) -> u64
+    requires { ⌜ id < 512 ⌝ }
+    ensures { λ r. ⌜ r ≡ turnedWord bits turn (getD (now (codes .entry)) id 0) ⌝ }
+{
+    let at = id as usize;
+    matcher::rotate_code_u64(codes[at], bits, turn)
+}
+
+// What is expected in cell k.
+pub fn expected_in(
+    bytes: &[u8],
+    f: Fields,
+    starts: &[u16; 256],
+    codes: &[u64; 512],
+    board: Board,
+    alignment: GridAlignment,
+    k: usize,
+) -> Expected
+    requires { ⌜ Found (now bytes) f (now starts) (now codes) board × Near alignment × (k < cellCount (now bytes)) ⌝ }
+    ensures { λ r. ⌜ r ≡ candidateAt (shot (now (bytes .entry))) alignment k ⌝ }
+{
+    let read = cells::cell_at(bytes, f, starts, k);
+    let ReadCell::Sampled {
+        u,
+        v,
+        fraction,
+        threshold,
+    } = read
+    else {
+        return Expected::Absent;
+    };
+    let square = alignment.apply(u, v);
+    let found = board.marker_id_at(square.u, square.v);
+    let Numbered::Id(id) = found else {
+        return Expected::Absent;
+    };
+    let turn = alignment.turn;
+    Expected::Marker(Candidate {
+        cell: k as u32,
+        id,
+        u,
+        v,
+        turn,
+        code: turned_code(codes, id, board.bits, turn),
+        fraction,
+        threshold,
+    })
+}

@@ -1,0 +1,91 @@
+// The marker of one cell, and its 18 words in the list that is lent.
+ghost use mathlib.Core.Path.{_≡_};
+ghost use Prim.Native.Nat.{_+_, _*_, _≤_, _<_};
+ghost use lib.ListN.{length};
+ghost use lib.Seq.{paste};
+ghost use lib.IntN.{pos};
+ghost use lib.Ieee.{binary32, div, ofInt};
+ghost use Rattle.score_matrix.specs.Scores.{samples, side};
+ghost use Rattle.emit.specs.Markers.{markerFrom, emitted, words};
+ghost use Rattle.emit.specs.Emission.{Written};
+use super::candidates::Candidate;
+use score_matrix::BoardMatchConfig;
+use score_matrix::cell;
+
+// `read` is the code that is read from the cell.
+fn marker_words(c: Candidate, read: u64, quotient: f32, px_per_square: f32) -> [u32; 18]
+    ensures { λ r. ⌜ r ≡ words (markerFrom c read quotient «px_per_square») ⌝ }
+{
+    let top_left = grid_alignment::rotate_gc_top_left(c.u, c.v, c.turn);
+    let corners = grid_alignment::cell_rect_corners_at(c.u, c.v, px_per_square);
+    [
+        c.cell,
+        c.id,
+        integers::word(top_left.u),
+        integers::word(top_left.v),
+        c.turn as u32,
+        matcher::differing_bits(read, c.code),
+        (read % 0x1_0000_0000) as u32,
+        (read / 0x1_0000_0000) as u32,
+        floats::to_bits(quotient),
+        floats::to_bits(c.fraction),
+        floats::to_bits(corners[0][0]),
+        floats::to_bits(corners[0][1]),
+        floats::to_bits(corners[1][0]),
+        floats::to_bits(corners[1][1]),
+        floats::to_bits(corners[2][0]),
+        floats::to_bits(corners[2][1]),
+        floats::to_bits(corners[3][0]),
+        floats::to_bits(corners[3][1]),
+    ]
+}
+
+// The score for each bit, which the Rust's sigmoid takes.
+fn quotient(score: f32, bits: u8) -> f32
+    ensures { λ r. ⌜ r ≡ div binary32 score (ofInt binary32 (pos (bits * bits))) ⌝ }
+{
+    let n = bits as u32;
+    score / (n * n) as f32
+}
+
+// A marker's words are put into the list from the place `at` on.
+fn put(marker: &[u32], markers: &mut [u32], at: usize)
+    requires { ⌜ (length (now marker) ≡ 18) × (at + 18 ≤ length (now markers)) ⌝ }
+    ensures { λ _. ⌜ now (markers .exit) ≡ paste (now (markers .entry)) at (now (marker .entry)) 18 ⌝ }
+{
+    let mut i = 0;
+    while i < 18 {
+        markers[at + i] = marker[i];
+        i += 1;
+    }
+}
+
+// The cell's marker, if the cell has weight and speaks for the marker, is put behind the `n` markers before it.
+pub fn emit_marker(
+    c: Candidate,
+    grid: &[u8],
+    bits: u8,
+    border: u8,
+    config: BoardMatchConfig,
+    table: &[f32; 511],
+    markers: &mut [u32],
+    n: usize,
+) -> usize
+    requires { ⌜ bits ≤ 8 ⌝ }
+    requires { do ⌜ (← ⟦grid.len()⟧) ≡ side bits border * side bits border ⌝ }
+    requires { ⌜ (n < 256) × (18 * n + 18 ≤ length (now markers)) ⌝ }
+    ensures { λ r. ⌜ Written n (emitted config (now (table .entry)) (samples bits border (c .threshold) (now (grid .entry))) c) (now (markers .entry)) (now (markers .exit)) r ⌝ }
+{
+    let weight = score_matrix::cell_weight(config, true, c.fraction);
+    if !(0.0 < weight) {
+        return n;
+    }
+    let score = cell::score(table, grid, c.threshold, bits, border, c.code);
+    if !(0.0 < score_matrix::evidence(score, bits)) {
+        return n;
+    }
+    let read = cell::read_code(grid, c.threshold, bits, border);
+    let marker = marker_words(c, read, quotient(score, bits), config.px_per_square);
+    put(&marker, markers, 18 * n);
+    n + 1
+}

@@ -1,0 +1,108 @@
+-- The best placement is one of the shot's placements, with its evidence and a small translation; and what the answer of the search says of the
+-- best and of the number of placements. Assumes nothing.
+use mathlib.Core.Path.{_≡_, refl, sym, ap, _∙_}
+use Prim.Native.Nat.{ℕ, zero, suc, _-_, _/_, _%_, _≤_, _<_}
+use native.Mathlib.Nat.{div-lt-iff-lt-mul, mod-lt}
+use native.Mathlib.Omega.{arith}
+use mathlib.Core.List.{List, [], _∷_, map}
+use mathlib.Core.Option.{some}
+use lib.ListN.{length, length-map}
+use lib.IntN.{ℤ, pos, natAbs, _-ℤ_}
+use Rattle.integers.proofs.Parts.{abs-sub}
+use Rattle.grid_alignment.specs.declared.GridAlignment.{GridAlignment}
+use Rattle.shot_record.specs.Shots.{Shot}
+use Rattle.shot_record.specs.Answers.{nth}
+use Rattle.hypothesis.specs.declared.Hypothesis.{Hypothesis}
+use Rattle.hypothesis.specs.declared.Choice.{Choice}
+use Rattle.hypothesis.specs.declared.Choice.the-variants as choice
+use Rattle.hypothesis.specs.declared.Selection.{Selection}
+use Rattle.hypothesis.specs.declared.Enumerated.the-variants as enumerated
+use Rattle.hypothesis.specs.Placements.{cellTotal, frame, across, down, placements}
+use Rattle.hypothesis.specs.Evidence.{reported}
+use Rattle.hypothesis.specs.Search.{hypothesis, hypotheses, firstGreatest, best, selection, selected, enumerate}
+use Rattle.hypothesis.specs.Inputs.{Passed}
+use Rattle.hypothesis.proofs.Sides.{near-sides}
+use Rattle.hypothesis.proofs.Places.{Stands, stands}
+use Rattle.hypothesis.proofs.Placements.{positive}
+use Rattle.hypothesis.proofs.Greatest.{empty, greatest-rule}
+use Rattle.hypothesis.proofs.Turned.{across-small, down-small, all-finite}
+
+-- ---- the best placement
+pub record BestPlaced (s : Shot) (b : Hypothesis) : Type 0 where
+  pub placement : (k : ℕ) × (nth (placements s) k ≡ some (b .alignment))
+  pub turn : b .alignment .turn < 4
+  pub tx : natAbs (b .alignment .tx) ≤ 8192
+  pub ty : natAbs (b .alignment .ty) ≤ 8192
+  pub evidence-is : b .evidence ≡ reported s (b .alignment)
+
+-- a hypothesis of the list: its placement stands at the same place
+mapped : (s : Shot) (ps : List GridAlignment) (k : ℕ) (h : Hypothesis) → nth (map (hypothesis s) ps) k ≡ some h → (nth ps k ≡ some (h .alignment)) × (h .evidence ≡ reported s (h .alignment))
+unfolding nth
+mapped s [] k h e = absurd (let z : _≡_ {A = ℕ} 0 1 = cc in omega arith)
+mapped s (p ∷ ps) zero h e =
+    let q : hypothesis s p ≡ h = cc in
+    (ap (λ (x : Hypothesis). some (x .alignment)) q, sym (ap (λ (x : Hypothesis). x .evidence) q) ∙ ap (λ (x : Hypothesis). reported s (x .alignment)) q)
+mapped s (p ∷ ps) (suc k) h e = mapped s ps k h e
+
+small-move : (a n : ℕ) (least : ℤ) → a < n → n ≤ 32 → natAbs least ≤ 4096 → natAbs (pos a -ℤ least) ≤ 8192
+small-move a n least l m h = omega (arith, l, m, h, abs-sub (pos a) least)
+
+module _ (s : Shot) (p : Passed s) where
+  -- the frame of a turn lies as near as the cells
+  pub near-frame : (r : ℕ) → (natAbs (frame s r .u) ≤ 4096) × (natAbs (frame s r .v) ≤ 4096)
+  unfolding frame
+  near-frame r = let n = near-sides s p r (cellTotal s - 1) in (n .left, n .top)
+
+  small-translation : (k : ℕ) (q : GridAlignment) → Stands s 4 k q → (natAbs (q .tx) ≤ 8192) × (natAbs (q .ty) ≤ 8192)
+  small-translation k q o =
+      let r = o .r in
+      let d₀ = positive (across s r) (down s r) (o .j) (o .inside) in
+      let x = small-move (o .j / down s r) (across s r) (frame s r .u) (div-lt-iff-lt-mul d₀ .1 (o .inside)) (across-small s (p .cols) (p .rows) r) (near-frame r .0) in
+      let y = small-move (o .j % down s r) (down s r) (frame s r .v) (mod-lt (o .j) d₀) (down-small s (p .cols) (p .rows) r) (near-frame r .1) in
+      rw (o .is) (x, y)
+
+  pub best-placed : (b : Hypothesis) → best s ≡ choice.Placement b → BestPlaced s b
+  unfolding placements
+  best-placed b e =
+      let g = greatest-rule (hypotheses s) b (all-finite s (p .checked) (placements s)) e in
+      let m = mapped s (placements s) (g .place) b (g .there) in
+      let o = stands s 4 (g .place) (b .alignment) (m .0) in
+      let small = small-translation (g .place) (b .alignment) o in
+      record {
+        placement = (g .place, m .0);
+        turn = omega (arith, ap (λ (q : GridAlignment). q .turn) (o .is), o .turn);
+        tx = small .0;
+        ty = small .1;
+        evidence-is = m .1;
+      }
+
+-- ---- the answer
+pub record Chosen (s : Shot) (x : Selection) : Type 0 where
+  pub best-is : best s ≡ choice.Placement (x .best)
+  pub is : x ≡ selection s (x .best)
+
+pub chosen : (s : Shot) (x : Selection) → enumerate s ≡ enumerated.Selected x → Chosen s x
+unfolding enumerate
+chosen s x e = go (best s) refl e
+  where
+    go : (c : Choice) → best s ≡ c → selected s c ≡ enumerated.Selected x → Chosen s x
+    go choice.Absent h q = absurd (let z : _≡_ {A = ℕ} 0 1 = cc in omega arith)
+    go (choice.Placement b) h q =
+        let i : selection s b ≡ x = cc in
+        record { best-is = h ∙ ap (λ (y : Selection). choice.Placement (y .best)) i; is = sym i ∙ ap (λ (y : Selection). selection s (y .best)) i }
+
+not-empty : (s : Shot) (ps : List GridAlignment) (b : Hypothesis) → firstGreatest (map (hypothesis s) ps) ≡ choice.Placement b → 0 < length ps
+unfolding firstGreatest
+not-empty s [] b e = absurd (let z : _≡_ {A = ℕ} 0 1 = cc in omega arith)
+not-empty s (p ∷ ps) b e = omega arith
+
+pub some-placement : (s : Shot) (x : Selection) → enumerate s ≡ enumerated.Selected x → 0 < length (placements s)
+some-placement s x e = not-empty s (placements s) (x .best) (chosen s x e .best-is)
+
+pub no-placement : (s : Shot) → enumerate s ≡ enumerated.Absent → length (placements s) ≡ 0
+unfolding enumerate
+no-placement s e = sym (length-map (placements s) (hypothesis s)) ∙ ap length (empty (hypotheses s) (go (best s) refl e))
+  where
+    go : (c : Choice) → best s ≡ c → selected s c ≡ enumerated.Absent → best s ≡ choice.Absent
+    go choice.Absent h q = h
+    go (choice.Placement b) h q = absurd (let z : _≡_ {A = ℕ} 0 1 = cc in omega arith)

@@ -1,0 +1,22 @@
+mod Terms
+mod Partial
+pub mod Accuracy
+pub mod Margins
+pub mod Order
+pub mod Ranking
+pub mod Behind
+pub mod Greatest
+pub mod Extremes
+pub mod Frames
+pub mod Places
+pub mod Placements
+pub mod ReadCells
+mod Sides
+mod Capacities
+pub mod Columns
+pub mod Contributions
+pub mod Filled
+pub mod CountedCells
+pub mod Turned
+pub mod Summed
+pub mod Best

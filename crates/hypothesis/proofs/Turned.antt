@@ -1,0 +1,166 @@
+-- A ranking after all placements of a turn, from their sums, is that of the list with them at its end; and the answer of the search is what
+-- the ranking of all placements makes. Assumes nothing.
+use mathlib.Core.Path.{_≡_, refl, sym, ap, ap₂, _∙_}
+use Prim.Native.Nat.{ℕ, zero, suc, _+_, _*_, _/_, _%_, _≤_, _<_}
+use native.Mathlib.Nat.{div-lt-iff-lt-mul, mod-lt, mul-le-mul}
+use native.Mathlib.Omega.{arith}
+use mathlib.Core.List.{List, [], _∷_, _++_, map, append-nil, append-assoc}
+use lib.Arith.{digits-div, digits-mod}
+use lib.ListN.{length-map}
+use lib.Ieee.{Float}
+use Rattle.grid_alignment.specs.declared.GridAlignment.{GridAlignment}
+use Rattle.shot_record.specs.Shots.{Shot, list}
+use Rattle.shot_record.specs.Answers.{nth}
+use Rattle.hypothesis.specs.declared.Evidence.{Evidence}
+use Rattle.hypothesis.specs.declared.Hypothesis.{Hypothesis}
+use Rattle.hypothesis.specs.declared.Choice.{Choice}
+use Rattle.hypothesis.specs.declared.Choice.the-variants as choice
+use Rattle.hypothesis.specs.declared.Enumerated.{Enumerated}
+use Rattle.hypothesis.specs.declared.Enumerated.the-variants as enumerated
+use Rattle.hypothesis.specs.declared.Frame.{Frame}
+use Rattle.hypothesis.specs.declared.rank.Ranking.{Ranking}
+use Rattle.hypothesis.specs.declared.turns.Seen.{Seen}
+use Rattle.hypothesis.specs.Placements.{frame, across, down, placementAt, withTurnsBelow, placements}
+use Rattle.hypothesis.specs.Evidence.{capacity}
+use Rattle.hypothesis.specs.Search.{hypothesis, best, runnerUp, margin, selected, enumerate}
+use Rattle.hypothesis.specs.Ranking.{rankingOf, ranked}
+use Rattle.hypothesis.specs.Rules.{AllFinite}
+use Rattle.hypothesis.specs.Accuracy.{Checked}
+use Rattle.hypothesis.specs.Turns.{Summed, movedTo, rankedTo, rankedTurn, selectionOf}
+use Rattle.hypothesis.proofs.Accuracy.{reported-finite}
+use Rattle.hypothesis.proofs.Ranking.{pass}
+use Rattle.hypothesis.proofs.Places.{start, many, start-next}
+use Rattle.hypothesis.proofs.Placements.{positive}
+
+-- ---- a ranking after n hypotheses
+pub ranked-total : (k : Ranking) (f : ℕ → Hypothesis) (n : ℕ) → rankedTo k f n .total ≡ k .total + n
+unfolding rankedTo
+ranked-total k f zero = omega arith
+ranked-total k f (suc n) = omega (arith, ranked-total k f n)
+
+pub ranked-next : (k : Ranking) (f : ℕ → Hypothesis) (n : ℕ) → ranked (rankedTo k f n) (f n) ≡ rankedTo k f (n + 1)
+unfolding rankedTo
+ranked-next k f n = let e : suc n ≡ n + 1 = omega arith in ap (rankedTo k f) e
+
+pub ranked-none : (k : Ranking) (f : ℕ → Hypothesis) → k ≡ rankedTo k f 0
+unfolding rankedTo
+ranked-none k f = refl
+
+-- the same hypotheses
+ranked-same : (k : Ranking) (f g : ℕ → Hypothesis) (n : ℕ) → ((j : ℕ) → j < n → f j ≡ g j) → rankedTo k f n ≡ rankedTo k g n
+unfolding rankedTo
+ranked-same k f g zero e = refl
+ranked-same k f g (suc n) e = ap₂ ranked (ranked-same k f g n (λ j h. e j (omega (arith, h)))) (e n (omega arith))
+
+-- m of them, and n more
+ranked-more : (k : Ranking) (f : ℕ → Hypothesis) (m n : ℕ) → rankedTo (rankedTo k f m) (λ (j : ℕ). f (m + j)) n ≡ rankedTo k f (m + n)
+unfolding rankedTo
+ranked-more k f m zero = let e : m ≡ m + 0 = omega arith in ap (rankedTo k f) e
+ranked-more k f m (suc n) =
+    let e : suc (m + n) ≡ m + suc n = omega arith in
+    ap (λ (x : Ranking). ranked x (f (m + n))) (ranked-more k f m n) ∙ ap (rankedTo k f) e
+
+-- the columns below a, and column a
+pub next-column : (k : Ranking) (g : ℕ → ℕ → Hypothesis) (d a : ℕ) → rankedTo (rankedTo k (λ (j : ℕ). g (j / d) (j % d)) (a * d)) (g a) d ≡ rankedTo k (λ (j : ℕ). g (j / d) (j % d)) ((a + 1) * d)
+next-column k g d a =
+    let f : ℕ → Hypothesis = λ (j : ℕ). g (j / d) (j % d) in
+    ranked-same (rankedTo k f (a * d)) (g a) (λ (j : ℕ). f (a * d + j)) d (λ j h. sym (ap₂ g (digits-div a h) (digits-mod a h)))
+    ∙ ranked-more k f (a * d) d
+    ∙ ap (rankedTo k f) (omega arith)
+
+-- ---- lists
+module _ {A : Type 0} where
+  last-listed : (f : ℕ → A) (n : ℕ) → list f (suc n) ≡ list f n ++ (f n ∷ [])
+  unfolding list
+  last-listed f zero = refl
+  last-listed f (suc n) = ap (λ (xs : List A). f 0 ∷ xs) (last-listed (λ (k : ℕ). f (suc k)) n)
+
+module _ {A B : Type 0} where
+  map-last : (f : A → B) (xs : List A) (x : A) → map f (xs ++ (x ∷ [])) ≡ map f xs ++ (f x ∷ [])
+  map-last f [] x = refl
+  map-last f (y ∷ xs) x = ap (λ (ys : List B). f y ∷ ys) (map-last f xs x)
+
+-- ---- the hypotheses of a shot
+module _ (s : Shot) (c : Checked s) where
+  pub all-finite : (ps : List GridAlignment) → AllFinite (map (hypothesis s) ps)
+  unfolding nth
+  all-finite [] k h e = absurd (let z : _≡_ {A = ℕ} 0 1 = cc in omega arith)
+  all-finite (p ∷ ps) zero h e = let q : hypothesis s p ≡ h = cc in rw (sym q) (reported-finite s c p)
+  all-finite (p ∷ ps) (suc k) h e = all-finite ps k h e
+
+  -- the ranking of a list with f 0 to f (n − 1) at its end
+  listed-ranked : (ps : List GridAlignment) (f : ℕ → GridAlignment) (n : ℕ) → rankedTo (rankingOf (map (hypothesis s) ps)) (λ (j : ℕ). hypothesis s (f j)) n ≡ rankingOf (map (hypothesis s) (ps ++ list f n))
+  unfolding rankedTo list
+  listed-ranked ps f zero = ap (λ (qs : List GridAlignment). rankingOf (map (hypothesis s) qs)) (sym (append-nil ps))
+  listed-ranked ps f (suc n) =
+      ap (λ (k : Ranking). ranked k (hypothesis s (f n))) (listed-ranked ps f n)
+      ∙ sym (pass (hypothesis s (f n)) (reported-finite s c (f n)) (map (hypothesis s) (ps ++ list f n)) (all-finite (ps ++ list f n)))
+      ∙ ap rankingOf (sym (map-last (hypothesis s) (ps ++ list f n) (f n)))
+      ∙ ap (λ (qs : List GridAlignment). rankingOf (map (hypothesis s) qs)) (append-assoc ps (list f n) (f n ∷ []) ∙ ap (λ (qs : List GridAlignment). ps ++ qs) (sym (last-listed f n)))
+
+  -- a turn more
+  module _ (r : ℕ) (sums : List Float) (seen : Seen) (h : Summed s r sums seen) where
+    moved-is : (j : ℕ) → j < many s r → movedTo sums seen (frame s r) r (down s r) (j / down s r) (j % down s r) ≡ hypothesis s (placementAt s r j)
+    moved-is j l =
+        let d₀ = positive (across s r) (down s r) j l in
+        ap (λ (e : Evidence). record { alignment = placementAt s r j; evidence = e }) (h (j / down s r) (j % down s r) (div-lt-iff-lt-mul d₀ .1 l) (mod-lt j d₀))
+
+    pub turn-ranked : (k : Ranking) (f : Frame) (n d : ℕ) → f ≡ frame s r → n ≡ across s r → d ≡ down s r → k ≡ rankingOf (map (hypothesis s) (withTurnsBelow s r)) → rankedTurn k sums seen f r n d ≡ rankingOf (map (hypothesis s) (withTurnsBelow s (r + 1)))
+    unfolding withTurnsBelow
+    turn-ranked k f n d ef en ed ek =
+        let e : suc r ≡ r + 1 = omega arith in
+        rw (ef, en, ed, ek)
+        (ranked-same (rankingOf (map (hypothesis s) (withTurnsBelow s r))) (λ (j : ℕ). movedTo sums seen (frame s r) r (down s r) (j / down s r) (j % down s r)) (λ (j : ℕ). hypothesis s (placementAt s r j)) (many s r) moved-is
+        ∙ listed-ranked (withTurnsBelow s r) (placementAt s r) (many s r)
+        ∙ ap (λ (m : ℕ). rankingOf (map (hypothesis s) (withTurnsBelow s m))) e)
+
+-- ---- how many there are
+module _ (s : Shot) (wide : s .cols ≤ 32) (high : s .rows ≤ 32) where
+  pub across-small : (r : ℕ) → across s r ≤ 32
+  unfolding frame
+  across-small r = omega (arith, wide)
+
+  pub down-small : (r : ℕ) → down s r ≤ 32
+  unfolding frame
+  down-small r = omega (arith, high)
+
+  start-small : (r : ℕ) → start s r ≤ r * 1024
+  unfolding withTurnsBelow
+  start-small zero = omega arith
+  start-small (suc r) = omega (arith, start-next s r, start-small r, mul-le-mul {n₁ = across s r} {m₁ = down s r} {n₂ = 32} {m₂ = 32} (across-small r) (down-small r))
+
+  pub total-small : (r : ℕ) (k : Ranking) → k ≡ rankingOf (map (hypothesis s) (withTurnsBelow s r)) → k .total ≤ r * 1024
+  total-small r k e = rw e (omega (arith, length-map (withTurnsBelow s r) (hypothesis s), start-small r))
+
+-- ---- a turn that has no placement
+pub no-placement-ranked : (s : Shot) (r : ℕ) → across s r * down s r ≡ 0 → rankingOf (map (hypothesis s) (withTurnsBelow s r)) ≡ rankingOf (map (hypothesis s) (withTurnsBelow s (r + 1)))
+unfolding withTurnsBelow list
+no-placement-ranked s r none =
+    let e : suc r ≡ r + 1 = omega arith in
+    ap (λ (qs : List GridAlignment). rankingOf (map (hypothesis s) qs)) (sym (append-nil (withTurnsBelow s r)) ∙ ap (λ (n : ℕ). withTurnsBelow s r ++ list (placementAt s r) n) (sym none))
+    ∙ ap (λ (m : ℕ). rankingOf (map (hypothesis s) (withTurnsBelow s m))) e
+
+-- ---- before the first turn, and the answer after the last
+pub no-turn-ranked : (s : Shot) → rankingOf [] ≡ rankingOf (map (hypothesis s) (withTurnsBelow s 0))
+unfolding withTurnsBelow
+no-turn-ranked s = refl
+
+module _ (s : Shot) (k : Ranking) (e : k ≡ rankingOf (map (hypothesis s) (withTurnsBelow s 4))) where
+  pub best-ranked : best s ≡ k .best
+  unfolding placements
+  best-ranked = ap (λ (x : Ranking). x .best) (sym e)
+
+  chosen : (c : Choice) → k .best ≡ c → enumerate s ≡ selected s c
+  unfolding enumerate
+  chosen c h = ap (selected s) (best-ranked ∙ h)
+
+  pub enumerate-absent : k .best ≡ choice.Absent → enumerate s ≡ enumerated.Absent
+  enumerate-absent h = chosen choice.Absent h
+
+  pub enumerate-selected : (b : Hypothesis) → k .best ≡ choice.Placement b → enumerate s ≡ enumerated.Selected (selectionOf k b (capacity s (b .alignment)))
+  unfolding placements
+  enumerate-selected b h =
+      let answer : Choice → ℕ → Enumerated = λ next n. enumerated.Selected (record { best = b; «runner_up» = next; total = n; margin = margin (b .evidence) (capacity s (b .alignment)) next }) in
+      chosen (choice.Placement b) h
+      ∙ ap (answer (runnerUp s)) (sym (length-map (placements s) (hypothesis s)))
+      ∙ ap (λ (x : Ranking). answer (x .«runner_up») (x .total)) (sym e)

@@ -1,0 +1,51 @@
+-- `hypothesis::turns::placement_sum` meets its contract. Assumes nothing.
+use mathlib.Core.Path.{_≡_, sym, _∙_}
+use mathlib.Core.Bool.{true, false}
+use mathlib.Core.List.{List}
+use Prim.Native.Nat.{ℕ, _+_, _*_, _<_}
+use native.Mathlib.Nat.{mul-le-mul}
+use native.Mathlib.Omega.{arith}
+use lib.ListN.{getD}
+use lib.Ieee.{Float, nan}
+use borrow.Author.Needs.{needs}
+use Rattle.hypothesis.specs.declared.Evidence.the-variants as evidence
+use Rattle.hypothesis.specs.declared.turns.Seen.{Seen}
+use Rattle.hypothesis.specs.Turns.{seenAt, evidenceAt}
+use Rattle.hypothesis.proofs.Columns.{fits-small}
+use Rattle.hypothesis.proofs.turns.placement_sum.Statement.{statement}
+use Rattle.hypothesis.proofs.turns.placement_sum.Tie as tie
+
+inside : (c : tie.Start) → c .args .a * c .args .down + c .args .b < 1024
+inside c =
+    let p = c .pre in
+    omega (arith, p .1, mul-le-mul {n₁ = c .args .a} {m₁ = c .args .down} {n₂ = 31} {m₂ = 32} (omega (arith, p .0)) (p .2))
+
+mul-at : tie.Need-mul-at
+mul-at c = let s = c .before .before in fits-small (s .args .a * s .args .down) (omega (arith, inside s))
+
+add-at : tie.Need-add-at
+add-at c = let s = c .before .before in fits-small (s .args .a * s .args .down + s .args .b) (omega (arith, inside s))
+
+mul-sum : tie.Need-mul-sum
+mul-sum c = record { fits = omega (arith, inside (c .before .before)) }
+
+element-copy-out-sum : tie.Need-element-copy-out-sum
+element-copy-out-sum c = inside (c .before .before)
+
+module _ (sums : List Float) (seen : Seen) (d a b : ℕ) where
+  told : seenAt seen (a + b) ≡ true → evidence.Number (getD sums (a * d + b) nan) ≡ evidenceAt sums seen d a b
+  told e = rw e
+
+  not-told : seenAt seen (a + b) ≡ false → evidence.Absent ≡ evidenceAt sums seen d a b
+  not-told e = rw e
+
+returns : tie.Need-returns
+returns c = let s = c .before .before .before .args in told (s .sums .now) (s .seen) (s .down) (s .a) (s .b) (sym (c .before .before .seen-at .ensures) ∙ c .before .if1 .taken)
+
+returns-2 : tie.Need-returns-2
+returns-2 c = let s = c .before .before .args in not-told (s .sums .now) (s .seen) (s .down) (s .a) (s .b) (sym (c .before .seen-at .ensures) ∙ c .if1 .left)
+
+pub placement-sum-spec : {M : Type 1} → statement M
+placement-sum-spec =
+    tie.close
+    (tie.spec (λ c. search needs) (λ c κs. search needs) mul-at add-at mul-sum element-copy-out-sum returns returns-2)

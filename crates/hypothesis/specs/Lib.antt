@@ -1,0 +1,13 @@
+pub mod Placements
+pub mod Evidence
+pub mod Search
+pub mod Ranking
+pub mod Rules
+pub mod Accuracy
+pub mod Inputs
+pub mod Reads
+pub mod Extremes
+pub mod Capacity
+pub mod Sums
+pub mod Turns
+pub mod Filling

@@ -1,0 +1,91 @@
+-- Document 01, Search: the placements of a shot, all pairs of turn and translation that put every cell on the board.
+use Prim.Native.Nat.{ℕ, zero, suc, _+_, _-_, _*_, _/_, _%_}
+use mathlib.Core.Bool.{cond}
+use mathlib.Core.List.{List, [], _++_}
+use mathlib.Core.Option.{none}
+use lib.ListN.{length, getD}
+use lib.IntN.{ℤ, pos, natAbs, _-ℤ_}
+use lib.Signed.{leZ}
+use Rattle.grid_alignment.specs.declared.Coord.{Coord}
+use Rattle.grid_alignment.specs.declared.GridAlignment.{GridAlignment}
+use Rattle.grid_alignment.specs.Alignment.{point, sends, least}
+use Rattle.shot_record.specs.Shots.{Cell, Shot, list}
+use Rattle.hypothesis.specs.declared.Frame.{Frame}
+
+-- N counts the cells, sampled or not
+abbrev pub cellTotal : Shot → ℕ
+cellTotal s = length (s .cells)
+
+-- cell k; past the last one an unsampled cell, which adds nothing
+abbrev pub noCell : Cell
+noCell = record { u = pos 0; v = pos 0; sample = none }
+
+abbrev pub cell : Shot → ℕ → Cell
+cell s k = getD (s .cells) k noCell
+
+abbrev pub pointOf : Shot → ℕ → Coord
+pointOf s k = point (cell s k .u) (cell s k .v)
+
+-- the point of cell k after r quarter turns
+abbrev pub turnedPoint : Shot → ℕ → ℕ → Coord
+turnedPoint s r k = sends r (pointOf s k)
+
+-- the least and the greatest of f 0 to f n
+unfoldable pub leastTo : (ℕ → ℤ) → ℕ → ℤ
+leastTo f zero = f 0
+leastTo f (suc n) = least (leastTo f n) (f (suc n))
+
+abbrev pub greatest : ℤ → ℤ → ℤ
+greatest x y = cond (leZ x y) y x
+
+unfoldable pub greatestTo : (ℕ → ℤ) → ℕ → ℤ
+greatestTo f zero = f 0
+greatestTo f (suc n) = greatest (greatestTo f n) (f (suc n))
+
+-- The frame of the turned cells: its least u and v, and its width and height in squares.
+abbrev pub squares : ℤ → ℤ → ℕ
+squares low high = natAbs (high -ℤ low) + 1
+
+abbrev pub turnedU : Shot → ℕ → ℕ → ℤ
+turnedU s r k = turnedPoint s r k .u
+
+abbrev pub turnedV : Shot → ℕ → ℕ → ℤ
+turnedV s r k = turnedPoint s r k .v
+
+-- of the cells 0 to n
+abbrev pub frameTo : Shot → ℕ → ℕ → Frame
+frameTo s r n =
+    record {
+      u = leastTo (turnedU s r) n;
+      v = leastTo (turnedV s r) n;
+      width = squares (leastTo (turnedU s r) n) (greatestTo (turnedU s r) n);
+      height = squares (leastTo (turnedV s r) n) (greatestTo (turnedV s r) n);
+    }
+
+unfoldable pub frame : Shot → ℕ → Frame
+frame s r = frameTo s r (cellTotal s - 1)
+
+-- In how many ways the frame moves on the board: across and down, 0 where it is too wide or too high.
+abbrev pub across : Shot → ℕ → ℕ
+across s r = s .cols + 1 - frame s r .width
+
+abbrev pub down : Shot → ℕ → ℕ
+down s r = s .rows + 1 - frame s r .height
+
+-- The frame of turn r with its least point on square (a, b).
+abbrev pub shifted : Shot → ℕ → ℕ → ℕ → GridAlignment
+shifted s r a b = record { turn = r; tx = pos a -ℤ frame s r .u; ty = pos b -ℤ frame s r .v }
+
+-- For each turn in order every translation, tx outer, ty inner, rising.
+abbrev pub placementAt : Shot → ℕ → ℕ → GridAlignment
+placementAt s r k = shifted s r (k / down s r) (k % down s r)
+
+abbrev pub withTurn : Shot → ℕ → List GridAlignment
+withTurn s r = list (placementAt s r) (across s r * down s r)
+
+unfoldable pub withTurnsBelow : Shot → ℕ → List GridAlignment
+withTurnsBelow s zero = []
+withTurnsBelow s (suc r) = withTurnsBelow s r ++ withTurn s r
+
+unfoldable pub placements : Shot → List GridAlignment
+placements s = withTurnsBelow s 4

@@ -1,0 +1,59 @@
+// The search for the placement (hypothesis.rs). Leans on `integers`, `floats`, `matcher`, `grid_alignment`, `board`, `score_matrix` and `shot_record`.
+mod capacity;
+mod fill;
+mod framing;
+mod rank;
+mod reads;
+pub mod search;
+mod sums;
+mod turns;
+
+use board::Board;
+use grid_alignment::GridAlignment;
+use score_matrix::BoardMatchConfig;
+use shot_record::fields::Fields;
+
+// The evidence of a placement. None lies below every number.
+pub enum Evidence {
+    Number(f32),
+    Absent,
+}
+
+// A placement, as an alignment of cells, and its evidence.
+pub struct Hypothesis {
+    pub alignment: GridAlignment,
+    pub evidence: Evidence,
+}
+
+pub enum Choice {
+    Placement(Hypothesis),
+    Absent,
+}
+
+// What the search is given beside the record: what was found in it once.
+pub struct Inputs {
+    pub fields: Fields,
+    pub board: Board,
+    pub config: BoardMatchConfig,
+}
+
+// The cells after a turn: the least u and v, and how many squares they take.
+pub struct Frame {
+    pub u: i32,
+    pub v: i32,
+    pub width: usize,
+    pub height: usize,
+}
+
+// The chosen placement, its runner-up, how many there are, and the margin.
+pub struct Selection {
+    pub best: Hypothesis,
+    pub runner_up: Choice,
+    pub total: usize,
+    pub margin: f32,
+}
+
+pub enum Enumerated {
+    Selected(Selection),
+    Absent,
+}

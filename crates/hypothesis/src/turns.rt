@@ -1,0 +1,156 @@
+// The ranking of all placements of one turn, from their sums, and the answer that the last ranking makes. For the placement with its frame
+// moved by (a, b), where there are d moves down, the sum stands at place a d + b. Leans on `rank`.
+ghost use mathlib.Core.Path.{_≡_};
+ghost use mathlib.Core.List.{[]};
+ghost use Prim.Native.Nat.{_<_, _≤_};
+ghost use lib.IntN.{pos, natAbs, _-ℤ_};
+ghost use Rattle.hypothesis.specs.Ranking.{rankingOf};
+ghost use Rattle.hypothesis.specs.Turns.{seenAt, evidenceAt, movedTo, rankedColumn, rankedTurn, selectionOf};
+use super::Choice;
+use super::Evidence;
+use super::Frame;
+use super::Hypothesis;
+use super::Selection;
+use super::rank;
+use super::rank::Ranking;
+use grid_alignment::GridAlignment;
+
+// Whether some cell contributes: a square holds a marker or not by parity, so all placements with the same parity of a + b agree on it.
+pub struct Seen {
+    pub even: bool,
+    pub odd: bool,
+}
+
+fn seen_at(seen: Seen, n: usize) -> bool
+    ensures { λ r. ⌜ r ≡ seenAt seen n ⌝ }
+{
+    if n % 2 == 0 { seen.even } else { seen.odd }
+}
+
+// The evidence of the placement moved by (a, b).
+pub fn placement_sum(sums: &[f32; 1024], seen: Seen, down: usize, a: usize, b: usize) -> Evidence
+    requires { ⌜ (a < 32) × (b < 32) × (down ≤ 32) ⌝ }
+    ensures { λ r. ⌜ r ≡ evidenceAt (now (sums .entry)) seen down a b ⌝ }
+{
+    if seen_at(seen, a + b) {
+        let at = a * down + b;
+        let sum = sums[at];
+        Evidence::Number(sum)
+    } else {
+        Evidence::Absent
+    }
+}
+
+// What puts the least coordinate of the frame on column or row `a`.
+fn translation(a: usize, least: i32) -> i32
+    requires { ⌜ (a < 32) × (natAbs least ≤ 8192) ⌝ }
+    ensures { λ r. ⌜ r ≡ pos a -ℤ least ⌝ }
+{
+    a as i32 - least
+}
+
+// The placement moved by (a, b), with its evidence.
+fn moved_to(
+    sums: &[f32; 1024],
+    seen: Seen,
+    frame: Frame,
+    turn: u8,
+    down: usize,
+    a: usize,
+    b: usize,
+) -> Hypothesis
+    requires { ⌜ (a < 32) × (b < 32) × (down ≤ 32) × (natAbs (frame .u) ≤ 8192) × (natAbs (frame .v) ≤ 8192) ⌝ }
+    ensures { λ r. ⌜ r ≡ movedTo (now (sums .entry)) seen frame turn down a b ⌝ }
+{
+    let evidence = placement_sum(sums, seen, down, a, b);
+    let alignment = GridAlignment {
+        turn,
+        tx: translation(a, frame.u),
+        ty: translation(b, frame.v),
+    };
+    Hypothesis {
+        alignment,
+        evidence,
+    }
+}
+
+// Ranks the placements of column `a`. Most change nothing but the count, which is put right at the end.
+fn rank_column(
+    ranking: Ranking,
+    sums: &[f32; 1024],
+    seen: Seen,
+    frame: Frame,
+    turn: u8,
+    down: usize,
+    a: usize,
+) -> Ranking
+    requires { ⌜ (a < 32) × (down ≤ 32) × (natAbs (frame .u) ≤ 8192) × (natAbs (frame .v) ≤ 8192) × (ranking .total ≤ 4096) ⌝ }
+    ensures { λ r. ⌜ r ≡ rankedColumn ranking (now (sums .entry)) seen frame turn down a ⌝ }
+{
+    let mut held = ranking;
+    let mut bars = rank::bars_of(held);
+    let mut b = 0;
+    while b < down {
+        let evidence = placement_sum(sums, seen, down, a, b);
+        if !rank::stays_behind(bars, evidence) {
+            let h = moved_to(sums, seen, frame, turn, down, a, b);
+            held = rank::ranked(held, h);
+            bars = rank::bars_of(held);
+        }
+        b += 1;
+    }
+    let best = held.best;
+    let runner_up = held.runner_up;
+    Ranking {
+        best,
+        runner_up,
+        total: ranking.total + down,
+    }
+}
+
+// Ranks the placements of a turn, in the order of a, then b.
+pub fn rank_turn(
+    ranking: Ranking,
+    sums: &[f32; 1024],
+    seen: Seen,
+    frame: Frame,
+    turn: u8,
+    across: usize,
+    down: usize,
+) -> Ranking
+    requires { ⌜ (across ≤ 32) × (down ≤ 32) × (natAbs (frame .u) ≤ 8192) × (natAbs (frame .v) ≤ 8192) × (ranking .total ≤ 3072) ⌝ }
+    ensures { λ r. ⌜ r ≡ rankedTurn ranking (now (sums .entry)) seen frame turn across down ⌝ }
+{
+    let mut held = ranking;
+    let mut a = 0;
+    while a < across {
+        held = rank_column(held, sums, seen, frame, turn, down, a);
+        a += 1;
+    }
+    held
+}
+
+// The ranking of no placement.
+pub fn no_ranking() -> Ranking
+    ensures { λ r. ⌜ r ≡ rankingOf [] ⌝ }
+{
+    Ranking {
+        best: Choice::Absent,
+        runner_up: Choice::Absent,
+        total: 0,
+    }
+}
+
+// The answer, where there is a best placement.
+pub fn selected(ranking: Ranking, best: Hypothesis, best_capacity: f32) -> Selection
+    ensures { λ r. ⌜ r ≡ selectionOf ranking best «best_capacity» ⌝ }
+{
+    let evidence = best.evidence;
+    let runner_up = ranking.runner_up;
+    Selection {
+        best,
+        runner_up,
+        total: ranking.total,
+        margin: rank::margin(evidence, best_capacity, runner_up),
+    }
+}

@@ -1,0 +1,156 @@
+-- How many bytes numbers and lines have, and that the text of an answer has room in 32 KiB. Assumes nothing.
+use mathlib.Core.Path.{_≡_, refl}
+use mathlib.Core.Bool.{Bool, true, false, cond}
+use mathlib.Core.List.{List, [], _∷_, _++_}
+use Prim.Native.Nat.{ℕ, zero, suc, _+_, _*_, _-_, _/_, _%_, _^_, _≤_, _<_}
+use native.Mathlib.Nat.{pow-suc}
+use native.Mathlib.Omega.{arith}
+use lib.Dec.{eqb, ltb, lit<}
+use lib.ListN.{length, getD, length-append}
+use lib.Ieee.{binary32, toBits}
+use lib.IntN.{ℤ, pos, negsuc}
+use mir.Syntax.{w32}
+use mir.Val.{SFits}
+use borrow.Author.Tests.{ltb-true, ltb-false}
+use Rattle.refusal.specs.declared.Refusal.{Refusal}
+use Rattle.refusal.specs.declared.Refusal.the-variants as refusal
+use Rattle.refusal.specs.Numbers.{numberOf, valuesOf}
+use Rattle.hypothesis.specs.declared.Evidence.{Evidence}
+use Rattle.hypothesis.specs.declared.Evidence.the-variants as evidence
+use Rattle.hypothesis.specs.declared.Hypothesis.{Hypothesis}
+use Rattle.hypothesis.specs.declared.Choice.{Choice}
+use Rattle.hypothesis.specs.declared.Choice.the-variants as choice
+use Rattle.grid_alignment.specs.declared.GridAlignment.{GridAlignment}
+use Rattle.board_match.specs.declared.Match.{Match}
+use Rattle.board_match.specs.declared.Matched.the-variants as matched
+use Rattle.place_text.specs.Numerals.{digit, hex2, hex4, hex8, decimal, signed, signedWord}
+use Rattle.place_text.specs.Text.{line, andWords, float, the-placed, the-best, the-next, the-margin, the-placements, the-refused, evidenceWord, hypothesisLine, nextLine, cornersLine, wordOf, reading, markerLine, markerLines, matchLines, refusalLine}
+use Rattle.place_text.specs.Room.{Sized, SizedChoice, SizedMatch, Room}
+use Rattle.place_text.proofs.Numerals.{decimal-short, decimal-long}
+
+decimal-room : (k n : ℕ) → n < 10 ^ suc k → length (decimal n) ≤ suc k
+decimal-room zero n h = rw (decimal-short n h) (omega arith)
+decimal-room (suc k) n h = go (ltb n 10) (ltb-true n 10) (ltb-false n 10) (decimal-room k (n / 10))
+  where
+    go : (b : Bool) → (b ≡ true → n < 10) → (b ≡ false → 10 ≤ n) → (n / 10 < 10 ^ suc k → length (decimal (n / 10)) ≤ suc k) → length (decimal n) ≤ suc (suc k)
+    go true s _ _ = rw (decimal-short n (s refl)) (omega arith)
+    go false _ l shorter =
+        let r = shorter (omega (arith, pow-suc 10 (suc k))) in
+        rw (decimal-long n (l refl)) (omega (arith, r, length-append (decimal (n / 10)) (digit (n % 10) ∷ [])))
+
+hex8-room : (n : ℕ) → length (hex8 n) ≡ 8
+unfolding hex8 hex4 hex2
+hex8-room n = refl
+
+signed-room : (z : ℤ) → SFits w32 z → length (signed z) ≤ 11
+signed-room (pos n) f = omega (arith, decimal-room 9 n (omega (arith, f .sfits)))
+signed-room (negsuc n) f = omega (arith, decimal-room 9 (suc n) (omega (arith, f .sfits)))
+
+signedWord-room : (n : ℕ) → n < 2 ^ 32 → length (signedWord n) ≤ 11
+signedWord-room n h = go (ltb n 2147483648)
+  where
+    go : (b : Bool) → length (cond b (decimal n) (45 ∷ decimal (4294967296 - n))) ≤ 11
+    go true = omega (arith, decimal-room 9 n (omega arith))
+    go false = omega (arith, decimal-room 9 (4294967296 - n) (omega arith))
+
+evidence-room : (e : Evidence) → length (evidenceWord e) ≤ 8
+evidence-room (evidence.Number x) = omega (arith, hex8-room (toBits binary32 x))
+evidence-room evidence.Absent = omega arith
+
+hypothesis-room : (first : List ℕ) (h : Hypothesis) → Sized (h .alignment) → length (hypothesisLine first h) ≤ length first + 38
+hypothesis-room first h s =
+    let a = h .alignment in
+    let t = decimal-room 2 (a .turn) (omega (arith, s .turn)) in
+    simp length-append (omega (arith, t, signed-room (a .tx) (s .tx), signed-room (a .ty) (s .ty), evidence-room (h .evidence)))
+
+next-room : (r : Choice) → SizedChoice r → length (nextLine r) ≤ 42
+next-room (choice.Placement h) s = hypothesis-room the-next h s
+next-room choice.Absent s = omega arith
+
+corners-room : (a : GridAlignment) → Sized a → length (cornersLine a) ≤ 36
+corners-room a s =
+    let t = decimal-room 2 (a .turn) (omega (arith, s .turn)) in
+    simp length-append (omega (arith, t, signed-room (a .tx) (s .tx), signed-room (a .ty) (s .ty)))
+
+-- the lines of a match, one after the other
+seven : (a b c d e f g : List ℕ) → length a ≤ 7 → length b ≤ 42 → length c ≤ 42 → length d ≤ 16 → length e ≤ 32 → length f ≤ 36
+    → length g ≤ 101 * 256 → length (a ++ (b ++ (c ++ (d ++ (e ++ (f ++ g)))))) ≤ 32768
+seven a b c d e f g ha hb hc hd he hf hg = simp length-append (omega arith)
+
+module _ (words : List ℕ) (sizes : (k : ℕ) → getD words k 0 < 2 ^ 32) where
+  unsigned-room : (k w : ℕ) → length (decimal (wordOf words k w)) ≤ 10
+  unsigned-room k w = decimal-room 9 (wordOf words k w) (omega (arith, sizes (18 * k + w)))
+
+  coordinate-room : (k w : ℕ) → length (signedWord (wordOf words k w)) ≤ 11
+  coordinate-room k w = signedWord-room (wordOf words k w) (sizes (18 * k + w))
+
+  reading-room : (k : ℕ) → length (andWords (reading words k)) ≤ 38
+  unfolding reading
+  reading-room k =
+      simp length-append
+      (omega (arith, unsigned-room k 5, hex8-room (wordOf words k 6), hex8-room (wordOf words k 7), hex8-room (wordOf words k 8)))
+
+  marker-room : (k : ℕ) → length (markerLine words k) ≤ 101
+  unfolding markerLine
+  marker-room k =
+      simp length-append
+      (omega (arith, unsigned-room k 0, unsigned-room k 1, coordinate-room k 2, coordinate-room k 3, unsigned-room k 4, reading-room k))
+
+  markers-room : (k : ℕ) → length (markerLines words k) ≤ 101 * k
+  unfolding markerLines
+  markers-room zero = omega arith
+  markers-room (suc k) = simp length-append (omega (arith, markers-room k, marker-room k))
+
+  match-room : (m : Match) → SizedMatch m → length (matchLines m words) ≤ 32768
+  unfolding matchLines
+  match-room m s =
+      let p = decimal-room 19 (m .placements) (omega (arith, s .placements)) in
+      let x = hex8-room (toBits binary32 (m .margin)) in
+      seven (line the-placed []) (hypothesisLine the-best (m .best)) (nextLine (m .«runner_up»)) (line the-margin (float (m .margin) ∷ []))
+      (line the-placements (decimal (m .placements) ∷ []))
+      (cornersLine (m .corners))
+      (markerLines words (m .markers))
+      (omega arith)
+      (hypothesis-room the-best (m .best) (s .best))
+      (next-room (m .«runner_up») (s .runner-up))
+      (simp length-append (omega (arith, x)))
+      (simp length-append (omega (arith, p)))
+      (corners-room (m .corners) (s .corners))
+      (omega (arith, markers-room (m .markers), s .markers))
+
+-- a refusal's number has two digits
+number-small : (r : Refusal) → numberOf r < 10 ^ 2
+number-small refusal.InvalidSize = lit< tt
+number-small refusal.InvalidCellSize = lit< tt
+number-small refusal.InvalidMarkerSizeRel = lit< tt
+number-small refusal.InvalidBorderBits = lit< tt
+number-small refusal.EmptyDictionary = lit< tt
+number-small refusal.BoardOutOfRange = lit< tt
+number-small (refusal.NotEnoughDictionaryCodes n a) = lit< tt
+number-small refusal.CodeOutOfRange = lit< tt
+number-small refusal.SettingsNotFinite = lit< tt
+number-small refusal.InvalidTable = lit< tt
+number-small refusal.NoCells = lit< tt
+number-small refusal.CellsOutOfRange = lit< tt
+number-small refusal.InvalidSample = lit< tt
+number-small refusal.ListTooShort = lit< tt
+number-small refusal.TranslationWindow = lit< tt
+number-small (refusal.Margin m) = lit< tt
+number-small refusal.NoMarkers = lit< tt
+number-small refusal.CornersOutOfRange = lit< tt
+number-small refusal.TooManyLinks = lit< tt
+number-small refusal.TooManyCells = lit< tt
+number-small refusal.InvalidRecord = lit< tt
+
+refusal-room : (r : Refusal) → length (refusalLine r) ≤ 32768
+unfolding refusalLine
+refusal-room r = go (eqb (numberOf r) 16)
+  where
+    go : (b : Bool) → length (line the-refused (decimal (numberOf r) ∷ cond b (hex8 (getD (valuesOf r) 0 0) ∷ []) [])) ≤ 32768
+    go true =
+        simp length-append (omega (arith, decimal-room 1 (numberOf r) (number-small r), hex8-room (getD (valuesOf r) 0 0)))
+    go false = simp length-append (omega (arith, decimal-room 1 (numberOf r) (number-small r)))
+
+pub room : Room
+room (matched.Placed m) words s sizes = match-room words sizes m s
+room (matched.Refused r) words s sizes = refusal-room r

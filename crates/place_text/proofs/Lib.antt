@@ -1,0 +1,5 @@
+pub mod Puts
+pub mod Numerals
+pub mod Translations
+pub mod Lengths
+pub mod ReadBack

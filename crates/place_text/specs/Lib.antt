@@ -1,0 +1,5 @@
+pub mod Numerals
+pub mod ReadBack
+pub mod Room
+pub mod Text
+pub mod Writing

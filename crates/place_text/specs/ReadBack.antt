@@ -1,0 +1,18 @@
+-- What the digits of a text stand for. The laws (proofs/ReadBack.antt): a number is read back from its digits, a whole number from
+-- its text.
+use Prim.Native.Nat.{ℕ, _+_, _*_, _-_}
+use mathlib.Core.Bool.{cond}
+use mathlib.Core.List.{List, [], _∷_}
+use lib.Dec.{ltb}
+
+-- `0` to `9`, and from `A` on
+abbrev pub value : ℕ → ℕ
+value c = cond (ltb c 58) (c - 48) (c - 55)
+
+-- digits in base b after those that stand for n
+unfoldable pub numberAfter : ℕ → ℕ → List ℕ → ℕ
+numberAfter b n [] = n
+numberAfter b n (c ∷ cs) = numberAfter b (b * n + value c) cs
+
+abbrev pub number : ℕ → List ℕ → ℕ
+number b cs = numberAfter b 0 cs

@@ -1,0 +1,134 @@
+-- Document 01, "The program `place`": the text of an answer, as its bytes. A line is words with one space between and a line feed.
+use Prim.Native.Nat.{ℕ, zero, suc, _+_, _*_}
+use mathlib.Core.Bool.{cond}
+use mathlib.Core.List.{List, [], _∷_, _++_}
+use lib.Dec.{eqb}
+use lib.ListN.{getD}
+use lib.Ieee.{Float, binary32, toBits}
+use Rattle.refusal.specs.declared.Refusal.{Refusal}
+use Rattle.refusal.specs.Numbers.{numberOf, valuesOf}
+use Rattle.grid_alignment.specs.declared.GridAlignment.{GridAlignment}
+use Rattle.hypothesis.specs.declared.Evidence.{Evidence}
+use Rattle.hypothesis.specs.declared.Evidence.the-variants as evidence
+use Rattle.hypothesis.specs.declared.Hypothesis.{Hypothesis}
+use Rattle.hypothesis.specs.declared.Choice.{Choice}
+use Rattle.hypothesis.specs.declared.Choice.the-variants as choice
+use Rattle.board_match.specs.declared.Match.{Match}
+use Rattle.board_match.specs.declared.Matched.{Matched}
+use Rattle.board_match.specs.declared.Matched.the-variants as matched
+use Rattle.place_text.specs.Numerals.{hex8, decimal, signed, signedWord}
+
+-- `placed`
+abbrev pub the-placed : List ℕ
+the-placed = 112 ∷ 108 ∷ 97 ∷ 99 ∷ 101 ∷ 100 ∷ []
+
+-- `best`
+abbrev pub the-best : List ℕ
+the-best = 98 ∷ 101 ∷ 115 ∷ 116 ∷ []
+
+-- `next`
+abbrev pub the-next : List ℕ
+the-next = 110 ∷ 101 ∷ 120 ∷ 116 ∷ []
+
+-- `margin`
+abbrev pub the-margin : List ℕ
+the-margin = 109 ∷ 97 ∷ 114 ∷ 103 ∷ 105 ∷ 110 ∷ []
+
+-- `placements`
+abbrev pub the-placements : List ℕ
+the-placements = 112 ∷ 108 ∷ 97 ∷ 99 ∷ 101 ∷ 109 ∷ 101 ∷ 110 ∷ 116 ∷ 115 ∷ []
+
+-- `corners`
+abbrev pub the-corners : List ℕ
+the-corners = 99 ∷ 111 ∷ 114 ∷ 110 ∷ 101 ∷ 114 ∷ 115 ∷ []
+
+-- `marker`
+abbrev pub the-marker : List ℕ
+the-marker = 109 ∷ 97 ∷ 114 ∷ 107 ∷ 101 ∷ 114 ∷ []
+
+-- `none`
+abbrev pub the-none : List ℕ
+the-none = 110 ∷ 111 ∷ 110 ∷ 101 ∷ []
+
+-- `absent`
+abbrev pub the-absent : List ℕ
+the-absent = 97 ∷ 98 ∷ 115 ∷ 101 ∷ 110 ∷ 116 ∷ []
+
+-- `refused`
+abbrev pub the-refused : List ℕ
+the-refused = 114 ∷ 101 ∷ 102 ∷ 117 ∷ 115 ∷ 101 ∷ 100 ∷ []
+
+-- a word and those after it, each with a space in front; the line feed ends them
+abbrev pub andWords : List (List ℕ) → List ℕ
+andWords [] = 10 ∷ []
+andWords (w ∷ ws) = 32 ∷ (w ++ andWords ws)
+
+abbrev pub line : List ℕ → List (List ℕ) → List ℕ
+line first others = first ++ andWords others
+
+abbrev pub float : Float → List ℕ
+float x = hex8 (toBits binary32 x)
+
+-- the evidence's bits or `none`
+abbrev pub evidenceWord : Evidence → List ℕ
+evidenceWord (evidence.Number x) = float x
+evidenceWord evidence.Absent = the-none
+
+-- best and next: turn, tx, ty, evidence
+abbrev pub hypothesisLine : List ℕ → Hypothesis → List ℕ
+hypothesisLine first h =
+    line first (decimal (h .alignment .turn) ∷ signed (h .alignment .tx) ∷ signed (h .alignment .ty) ∷ evidenceWord (h .evidence) ∷ [])
+
+-- `next absent` without a runner-up
+abbrev pub nextLine : Choice → List ℕ
+nextLine (choice.Placement h) = hypothesisLine the-next h
+nextLine choice.Absent = line the-next (the-absent ∷ [])
+
+-- corners: turn and corner translation
+abbrev pub cornersLine : GridAlignment → List ℕ
+cornersLine a = line the-corners (decimal (a .turn) ∷ signed (a .tx) ∷ signed (a .ty) ∷ [])
+
+-- A marker has 18 words of the list, of which the first nine are printed; a word past the list counts as 0.
+abbrev pub wordOf : List ℕ → ℕ → ℕ → ℕ
+wordOf words k w = getD words (18 * k + w) 0
+
+-- what was read in a marker's cell: differing bits, code (its high word first), quotient
+unfoldable pub reading : List ℕ → ℕ → List (List ℕ)
+reading words k =
+    decimal (wordOf words k 5) ∷ (hex8 (wordOf words k 7) ++ hex8 (wordOf words k 6)) ∷ hex8 (wordOf words k 8) ∷ []
+
+-- marker: cell, id, u, v, turn, differing bits, code, quotient
+unfoldable pub markerLine : List ℕ → ℕ → List ℕ
+markerLine words k =
+    line the-marker
+    (decimal (wordOf words k 0)
+    ∷ decimal (wordOf words k 1)
+    ∷ signedWord (wordOf words k 2)
+    ∷ signedWord (wordOf words k 3)
+    ∷ decimal (wordOf words k 4)
+    ∷ reading words k)
+
+-- the lines of the first k markers
+unfoldable pub markerLines : List ℕ → ℕ → List ℕ
+markerLines words zero = []
+markerLines words (suc k) = markerLines words k ++ markerLine words k
+
+unfoldable pub matchLines : Match → List ℕ → List ℕ
+matchLines m words =
+    line the-placed []
+    ++ (hypothesisLine the-best (m .best)
+    ++ (nextLine (m .«runner_up»)
+    ++ (line the-margin (float (m .margin) ∷ [])
+    ++ (line the-placements (decimal (m .placements) ∷ [])
+    ++ (cornersLine (m .corners)
+    ++ markerLines words (m .markers))))))
+
+-- A refusal prints `refused` and the number, after 16 also the margin's bits.
+unfoldable pub refusalLine : Refusal → List ℕ
+refusalLine r =
+    line the-refused (decimal (numberOf r) ∷ cond (eqb (numberOf r) 16) (hex8 (getD (valuesOf r) 0 0) ∷ []) [])
+
+-- the text of an answer and the markers' words
+abbrev pub textOf : Matched → List ℕ → List ℕ
+textOf (matched.Placed m) words = matchLines m words
+textOf (matched.Refused r) words = refusalLine r

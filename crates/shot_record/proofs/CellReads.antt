@@ -1,0 +1,59 @@
+-- The cells of a record that question 21 lets pass: where they start, that their grids lie in the record, and what their fields fit. Assumes nothing.
+use mathlib.Core.Path.{_≡_, refl, ap, _∙_}
+use Prim.Native.Nat.{ℕ, zero, suc, _+_, _≤_, _<_}
+use native.Mathlib.Nat.{le-of-eq}
+use native.Mathlib.Omega.{arith}
+use mathlib.Core.List.{List, []}
+use lib.ListN.{length, getD, take, drop}
+use borrow.Author.Tests.{lt-ltb}
+use Rattle.shot_record.specs.Fields.{bitsOf, borderOf, gridSize, cellCount, sampled, cellLength, cellAt}
+use Rattle.shot_record.specs.Shots.{Cell, sampleAt, cellOf, shot}
+use Rattle.shot_record.specs.Answers.{gridWith, startOf, starts}
+use Rattle.shot_record.specs.Writing.{FitCell}
+use Rattle.shot_record.proofs.Lists.{length-list, getD-list}
+use Rattle.shot_record.proofs.Reading.{Small, starts-rise}
+use Rattle.shot_record.proofs.Whole.{Whole}
+use Rattle.shot_record.proofs.LittleEndian.{all-bytes}
+use Rattle.shot_record.proofs.CellBytes.{cell-fit}
+
+-- ---- a cell without a grid, and one with
+pub without-grid : (b grid at : ℕ) (bytes : List ℕ) → b ≡ 0 → [] ≡ gridWith (sampleAt b grid at bytes)
+without-grid b grid at bytes e = rw e refl
+
+pub with-grid : (b grid at : ℕ) (bytes : List ℕ) → (b ≡ 0 → ⊥) → take grid (drop (at + 9) bytes) ≡ gridWith (sampleAt b grid at bytes)
+with-grid zero grid at bytes h = absurd (h refl)
+with-grid (suc b) grid at bytes h = refl
+
+sampled-size : (b grid : ℕ) → (b ≡ 0 → ⊥) → cellLength b grid ≡ 9 + grid
+sampled-size zero grid h = absurd (h refl)
+sampled-size (suc b) grid h = refl
+
+-- ---- the cells of the shot
+pub cell-count : (bytes : List ℕ) → length (shot bytes .cells) ≡ cellCount bytes
+cell-count bytes = length-list (cellOf bytes) (cellCount bytes)
+
+pub cell-is : (bytes : List ℕ) (k : ℕ) (d : Cell) → k < cellCount bytes → getD (shot bytes .cells) k d ≡ cellOf bytes k
+cell-is bytes k d h = getD-list (cellOf bytes) (cellCount bytes) k d h
+
+-- ---- in a whole record
+module _ (bytes : List ℕ) (w : Whole bytes) (k : ℕ) (inside : k < cellCount bytes) where
+  abbrev size : ℕ
+  size = gridSize (bitsOf bytes) (borderOf bytes)
+
+  pub starts-inside : cellAt bytes k ≤ length bytes
+  starts-inside = omega (arith, starts-rise bytes k (cellCount bytes) (omega arith), w .end)
+
+  pub start-is : (index : List ℕ) → index ≡ starts bytes → k < 256 → getD index k 0 ≡ cellAt bytes k
+  start-is index e h =
+      ap (λ (l : List ℕ). getD l k 0) e ∙ getD-list (startOf bytes) 256 k 0 h
+      ∙ rw (lt-ltb k (cellCount bytes) inside, lt-ltb (cellAt bytes k) 65536 (omega (arith, starts-inside, w .size))) refl
+
+  pub grid-lies : (sampled bytes k ≡ 0 → ⊥) → cellAt bytes k + (9 + size) ≤ length bytes
+  unfolding cellAt
+  grid-lies marked =
+      let rise = starts-rise bytes (suc k) (cellCount bytes) inside in
+      omega (arith, rise, sampled-size (sampled bytes k) size marked, w .end)
+
+  -- the grid has side² bytes, its greys and the threshold are bytes and the fraction has 32 bits
+  pub cell-fits : Small bytes → FitCell size (cellOf bytes k)
+  cell-fits s = cell-fit bytes (all-bytes bytes s) (cellCount bytes) (le-of-eq (w .end)) k inside

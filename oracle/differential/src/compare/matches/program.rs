@@ -1,0 +1,56 @@
+//! The program `place`: a record on its standard input, and every byte that it prints.
+
+use super::Shown;
+use crate::subject::Subject;
+use matches::given::{Given, KINDS};
+use matches::{MOST_PLACES, match_record};
+use std::env;
+use std::ffi::OsString;
+use std::io::{self, Write};
+use std::process::{Command, Stdio};
+
+const VARIABLE: &str = "PLACE_BIN";
+const DEFAULT: &str = "../target/bin/place";
+
+/// Records of each kind, as far as there are so many.
+const OF_EACH_KIND: usize = 160;
+
+/// The program has places enough for every record that is not refused before.
+pub fn compare() -> Vec<Subject> {
+    let program = env::var_os(VARIABLE).unwrap_or_else(|| DEFAULT.into());
+    let mut subject = Subject::new("program place");
+    for kind in &KINDS {
+        for (place, given) in kind.first(OF_EACH_KIND).enumerate() {
+            let answer = match_record(&given.record, &mut [0; MOST_PLACES]);
+            subject.check(
+                printed(&program, &given),
+                Ok((true, answer.to_string())),
+                format_args!("{}, {}", kind.name, Shown(place, &given)),
+            );
+        }
+    }
+    vec![subject]
+}
+
+/// Whether it ended well, and what it printed; or why it could not be run.
+fn printed(program: &OsString, given: &Given) -> Result<(bool, String), String> {
+    let run = || -> io::Result<(bool, String)> {
+        let mut child = Command::new(program)
+            .stdin(Stdio::piped())
+            .stdout(Stdio::piped())
+            .spawn()?;
+        let mut stdin = child.stdin.take().expect("a pipe");
+        // A program that has seen enough may leave the rest of a record that is too long.
+        let written = stdin.write_all(&given.record);
+        drop(stdin);
+        let output = child.wait_with_output()?;
+        if let Err(error) = written
+            && error.kind() != io::ErrorKind::BrokenPipe
+        {
+            return Err(error);
+        }
+        let text = String::from_utf8_lossy(&output.stdout).into_owned();
+        Ok((output.status.success(), text))
+    };
+    run().map_err(|error| format!("{}: {error}", program.display()))
+}

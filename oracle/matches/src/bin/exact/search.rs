@@ -1,0 +1,232 @@
+//! A search for shots whose reported evidence is far from the exact one: greys, weights and the table are changed step by
+//! step, and a change stays if the error grows.
+//!
+//! All cells lie at one point, on a board of two markers of 8 by 8 bits. Marker 0 has all bits and is what the cells show,
+//! so that the shot is placed. Marker 1 has none: its evidence sums the entries below the middle of the table, 64 for each
+//! cell, as far from 0 as they can be. The placement that expects it is the one that errs.
+
+use cases::prng::Prng;
+use matches::Wide;
+use records::{Cell, Sample, Shot, TABLE_LENGTH, built_in_table, settings};
+use theirs::null_score;
+
+const BITS: u8 = 8;
+const SIDE: usize = 10;
+const ENTRIES: usize = 64;
+const MIDDLE: usize = 255;
+
+/// Cells that are tried before one is taken, and changes that are tried afterwards.
+const TRIED: usize = 300;
+const CHANGES: usize = 30_000;
+
+type Table = [u32; TABLE_LENGTH];
+
+/// Entries just above -8, an ulp apart; what the cells show adds 0.
+pub fn near_the_floor() -> Table {
+    let mut table = [0; TABLE_LENGTH];
+    let floor = (-8.0f32).to_bits();
+    for (entry, below) in table[..=MIDDLE].iter_mut().zip(0..) {
+        *entry = floor - below;
+    }
+    table
+}
+
+pub fn built_in() -> Table {
+    built_in_table()
+}
+
+/// A cell by the differences of threshold and grey in its bits, 1 to 255, and its weight.
+#[derive(Clone)]
+struct Row {
+    differences: [u8; ENTRIES],
+    weight: f32,
+}
+
+/// What a cell adds: as reported, and exactly.
+#[derive(Clone, Copy)]
+struct Part {
+    reported: f32,
+    exact: Wide,
+}
+
+pub struct Search {
+    prng: Prng,
+    table: Table,
+    is_table_fixed: bool,
+    cells: usize,
+    is_up: bool,
+    rows: Vec<Row>,
+    parts: Vec<Part>,
+}
+
+impl Search {
+    pub fn new(table: Table, cells: usize, is_up: bool) -> Self {
+        Self {
+            prng: Prng::new(cells as u64),
+            is_table_fixed: table == built_in_table(),
+            table,
+            cells,
+            is_up,
+            rows: Vec::new(),
+            parts: Vec::new(),
+        }
+    }
+
+    pub fn run(mut self) -> Shot {
+        for _ in 0..self.cells {
+            self.take_best_cell();
+        }
+        let mut error = self.error(&self.parts);
+        for _ in 0..CHANGES {
+            if self.prng.below(8) == 0 && !self.is_table_fixed && self.cells <= 16 {
+                self.change_table(&mut error);
+            } else {
+                self.change_cell(&mut error);
+            }
+        }
+        self.shot()
+    }
+
+    fn entry(&self, difference: u8) -> f32 {
+        f32::from_bits(self.table[MIDDLE - usize::from(difference)])
+    }
+
+    fn part(&self, row: &Row) -> Part {
+        let mut score = 0.0f32;
+        let mut exact = Wide::ZERO;
+        for &difference in &row.differences {
+            let entry = self.entry(difference);
+            score += entry;
+            exact = exact + Wide::of_float(entry);
+        }
+        let null_score = null_score(BITS);
+        Part {
+            reported: row.weight * (score - null_score),
+            exact: Wide::of_float(row.weight) * (exact - Wide::of_float(null_score)),
+        }
+    }
+
+    /// Of the sum over cells, in the direction that is looked for.
+    fn error(&self, parts: &[Part]) -> f64 {
+        let reported = parts.iter().fold(0.0, |sum, part| sum + part.reported);
+        let exact = parts.iter().fold(Wide::ZERO, |sum, part| sum + part.exact);
+        let error = (Wide::of_float(reported).shifted(149) - exact).about();
+        if self.is_up { error } else { -error }
+    }
+
+    fn take_best_cell(&mut self) {
+        let mut best: Option<(f64, Row, Part)> = None;
+        for _ in 0..TRIED {
+            let row = self.greedy_row();
+            let part = self.part(&row);
+            self.parts.push(part);
+            let error = self.error(&self.parts);
+            self.parts.pop();
+            if best.as_ref().is_none_or(|&(most, ..)| error > most) {
+                best = Some((error, row, part));
+            }
+        }
+        let (_, row, part) = best.expect("some cells were tried");
+        self.rows.push(row);
+        self.parts.push(part);
+    }
+
+    /// Each entry is the one among some whose addition errs most.
+    fn greedy_row(&mut self) -> Row {
+        let mut score = 0.0f32;
+        let mut differences = [1; ENTRIES];
+        for place in &mut differences {
+            let tried = (0..48).map(|_| 1 + self.prng.below(255) as u8);
+            let tried: Vec<u8> = tried.collect();
+            let error = |difference: u8| {
+                let entry = self.entry(difference);
+                let error = f64::from(score + entry) - (f64::from(score) + f64::from(entry));
+                if self.is_up { error } else { -error }
+            };
+            let best = tried
+                .into_iter()
+                .max_by(|&a, &b| error(a).total_cmp(&error(b)));
+            *place = best.expect("some entries were tried");
+            score += self.entry(*place);
+        }
+        Row {
+            differences,
+            weight: self.weight(),
+        }
+    }
+
+    fn weight(&mut self) -> f32 {
+        let below = self.prng.pick(&[0, 1, 64, 4096]);
+        f32::from_bits(1.0f32.to_bits() - self.prng.below(below + 1) as u32)
+    }
+
+    fn change_cell(&mut self, error: &mut f64) {
+        let cell = self.prng.below(self.cells as u64) as usize;
+        let mut row = self.rows[cell].clone();
+        match self.prng.below(4) {
+            0 => row.weight = self.weight(),
+            1 => {
+                let [a, b] = [(); 2].map(|()| self.prng.below(ENTRIES as u64) as usize);
+                row.differences.swap(a, b);
+            }
+            _ => {
+                let place = self.prng.below(ENTRIES as u64) as usize;
+                row.differences[place] = 1 + self.prng.below(255) as u8;
+            }
+        }
+        let mut parts = self.parts.clone();
+        parts[cell] = self.part(&row);
+        let changed = self.error(&parts);
+        if changed >= *error {
+            *error = changed;
+            self.rows[cell] = row;
+            self.parts = parts;
+        }
+    }
+
+    fn change_table(&mut self, error: &mut f64) {
+        let place = self.prng.below(MIDDLE as u64) as usize;
+        let before = self.table[place];
+        let lower = self.prng.pick(&[64, 4096, 1 << 22]);
+        self.table[place] = (-8.0f32).to_bits() - self.prng.below(lower) as u32;
+        let parts: Vec<Part> = self.rows.iter().map(|row| self.part(row)).collect();
+        let changed = self.error(&parts);
+        if changed >= *error {
+            *error = changed;
+            self.parts = parts;
+        } else {
+            self.table[place] = before;
+        }
+    }
+
+    fn shot(self) -> Shot {
+        let cells = self.rows.iter().map(|row| Cell {
+            u: 0,
+            v: 0,
+            sample: Some(sample(row)),
+        });
+        Shot {
+            map: settings::MINIMUM_MARGIN | settings::BORDER_THRESHOLD | settings::TABLE,
+            minimum_margin: 0,
+            border_threshold: 1.0f32.to_bits(),
+            table: self.table,
+            bits: BITS,
+            codes: vec![u64::MAX, 0],
+            cells: cells.collect(),
+            ..Shot::default()
+        }
+    }
+}
+
+fn sample(row: &Row) -> Sample {
+    let mut grid = vec![0; SIDE * SIDE];
+    for (k, difference) in row.differences.iter().enumerate() {
+        let [column, line] = [1 + k % usize::from(BITS), 1 + k / usize::from(BITS)];
+        grid[line * SIDE + column] = 255 - difference;
+    }
+    Sample {
+        fraction: row.weight.to_bits(),
+        threshold: 255,
+        grid,
+    }
+}

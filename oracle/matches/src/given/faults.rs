@@ -1,0 +1,180 @@
+//! Good shots with one fault or two, so that every question is answered with no and the order of the questions shows.
+
+use super::Given;
+use super::scene::{Look, Scene, markers_of};
+use crate::answer::MARKER_WORDS;
+use cases::floats::{BAD_CELL_SIZES, BAD_MARKER_SIZES, NOT_FINITE};
+use cases::prng::Prng;
+use cases::tables::{ODD_ENTRIES, PLACES};
+use records::{Cell, Shot, settings, write};
+
+struct Faulty {
+    shot: Shot,
+    is_list_short: bool,
+    is_broken: bool,
+}
+
+type Fault = fn(&mut Prng, &mut Faulty);
+
+/// By the number of the question, in the order in which they are asked.
+const FAULTS: [Fault; 18] = [
+    |_, faulty| faulty.is_broken = true,
+    |prng, Faulty { shot, .. }| {
+        let size = prng.below(2) as u8;
+        match prng.below(3) {
+            0 => shot.rows = size,
+            1 => shot.cols = size,
+            _ => [shot.rows, shot.cols] = [size; 2],
+        }
+    },
+    |prng, Faulty { shot, .. }| shot.cell_size = prng.pick(&BAD_CELL_SIZES).to_bits(),
+    |prng, Faulty { shot, .. }| shot.marker_size_rel = prng.pick(&BAD_MARKER_SIZES).to_bits(),
+    |_, Faulty { shot, .. }| shot.border = 0,
+    |_, Faulty { shot, .. }| shot.codes.clear(),
+    |prng, Faulty { shot, .. }| match prng.below(5) {
+        0 => shot.rows = prng.pick(&[33, 64, 255]),
+        1 => shot.cols = prng.pick(&[33, 64, 255]),
+        2 => shot.border = prng.pick(&[5, 6]),
+        3 => shot.bits = prng.pick(&[0, 9, 10]),
+        _ => shot.codes.resize(prng.pick(&[1025, 2000]), 1),
+    },
+    |prng, Faulty { shot, .. }| {
+        let needed = markers_of(shot.rows, shot.cols);
+        let missing = prng.pick(&[1, 1, 2]);
+        shot.codes.truncate(needed.saturating_sub(missing).max(1));
+    },
+    |prng, Faulty { shot, .. }| {
+        let place = prng.below(shot.codes.len().max(1) as u64) as usize;
+        let bit = u32::from(shot.bits).pow(2);
+        if let Some(code) = shot.codes.get_mut(place) {
+            *code |= 1u64.checked_shl(bit).unwrap_or(0);
+        }
+    },
+    |prng, Faulty { shot, .. }| {
+        let odd = prng.pick(&NOT_FINITE).to_bits();
+        let which = prng.below(3);
+        shot.map |= 1 << which;
+        match which {
+            0 => shot.minimum_margin = odd,
+            1 => shot.border_threshold = odd,
+            _ => shot.px_per_square = odd,
+        }
+    },
+    |prng, Faulty { shot, .. }| {
+        let bad: Vec<f32> = ODD_ENTRIES
+            .into_iter()
+            .filter(|entry| !(-8.0..=0.0).contains(entry))
+            .collect();
+        shot.map |= settings::TABLE;
+        shot.table[prng.pick(&PLACES)] = prng.pick(&bad).to_bits();
+    },
+    |_, Faulty { shot, .. }| shot.cells.clear(),
+    |prng, Faulty { shot, .. }| {
+        let far = prng.pick(&[-4097, 4097, i16::MIN, i16::MAX]);
+        let count = shot.cells.len() as u64;
+        match (prng.below(3), shot.cells.is_empty()) {
+            (0, _) | (_, true) => shot.cells.resize(prng.pick(&[257, 300]), UNSAMPLED),
+            (1, _) => shot.cells[prng.below(count) as usize].u = far,
+            _ => shot.cells[prng.below(count) as usize].v = far,
+        }
+    },
+    |prng, Faulty { shot, .. }| {
+        let samples = shot
+            .cells
+            .iter_mut()
+            .filter_map(|cell| cell.sample.as_mut());
+        let mut samples: Vec<_> = samples.collect();
+        if !samples.is_empty() {
+            let place = prng.below(samples.len() as u64) as usize;
+            samples[place].fraction = prng.pick(&BAD_FRACTIONS).to_bits();
+        }
+    },
+    |_, faulty| faulty.is_list_short = true,
+    |prng, Faulty { shot, .. }| {
+        if let Some(first) = shot.cells.first() {
+            let [u, v] = [first.u, first.v];
+            let far: i16 = prng.pick(&[32, 33, 60, -32, -33, -60]);
+            let [u, v] = prng.pick(&[[u.saturating_add(far), v], [u, v.saturating_add(far)]]);
+            shot.cells.push(Cell { u, v, ..UNSAMPLED });
+        }
+    },
+    |prng, Faulty { shot, .. }| {
+        shot.map |= settings::MINIMUM_MARGIN;
+        shot.minimum_margin = prng.pick(&[f32::MAX, 20.0, 1e30]).to_bits();
+    },
+    |prng, Faulty { shot, .. }| {
+        if shot.map & settings::MINIMUM_MARGIN == 0 {
+            shot.map |= settings::MINIMUM_MARGIN;
+            shot.minimum_margin = prng.pick(&[0.0f32, -0.0, -1.0]).to_bits();
+        }
+        for cell in &mut shot.cells {
+            if let Some(sample) = &mut cell.sample {
+                sample.fraction = prng.pick(&[0.0f32, -0.0]).to_bits();
+            }
+        }
+    },
+];
+
+const UNSAMPLED: Cell = Cell {
+    u: 0,
+    v: 0,
+    sample: None,
+};
+
+const BAD_FRACTIONS: [f32; 8] = [
+    -f32::from_bits(1),
+    -0.5,
+    1.0f32.next_up(),
+    2.0,
+    f32::MAX,
+    f32::INFINITY,
+    f32::NEG_INFINITY,
+    f32::NAN,
+];
+
+/// One fault, or two of which the later question goes unasked.
+pub fn given(prng: &mut Prng) -> Given {
+    let mut faulty = Faulty {
+        shot: Scene::random(prng).shot(prng, Look::Clear),
+        is_list_short: false,
+        is_broken: false,
+    };
+    for _ in 0..2 {
+        prng.pick(&FAULTS)(prng, &mut faulty);
+    }
+    faulty.given(prng)
+}
+
+impl Faulty {
+    /// Grids are made whole again where bits or border have changed.
+    fn given(mut self, prng: &mut Prng) -> Given {
+        let greys = self.shot.greys();
+        let samples = self.shot.cells.iter_mut();
+        for sample in samples.filter_map(|cell| cell.sample.as_mut()) {
+            sample.grid.resize(greys, 77);
+        }
+        let mut record = write(&self.shot).bytes;
+        if self.is_broken {
+            broken(prng, &mut record);
+        }
+        let needed = self.shot.cells.len() * MARKER_WORDS;
+        let short = prng.pick(&[1, 1, 17, MARKER_WORDS, needed]);
+        let places = if self.is_list_short {
+            needed.saturating_sub(short)
+        } else {
+            needed
+        };
+        Given { record, places }
+    }
+}
+
+/// A spare bit, a byte less, a byte more.
+fn broken(prng: &mut Prng, record: &mut Vec<u8>) {
+    match prng.below(3) {
+        0 => record[0] |= prng.pick(&settings::SPARE),
+        1 => {
+            record.pop();
+        }
+        _ => record.push(0),
+    }
+}

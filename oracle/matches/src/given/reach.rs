@@ -1,0 +1,132 @@
+//! Which placements there are: single cells, cells along the rim, cells that just fit or just do not, far cells, many cells.
+
+use super::scene::{LOOKS, Look, Scene, shuffle};
+use cases::prng::Prng;
+use records::{Cell, Shot, settings};
+
+const FARTHEST: i32 = 4096;
+
+pub fn shot(prng: &mut Prng) -> Shot {
+    let kinds: [fn(&mut Prng) -> Shot; 5] = [
+        one_cell,
+        along_the_rim,
+        just_fitting,
+        far_off,
+        no_marker_seen,
+    ];
+    prng.pick(&kinds)(prng)
+}
+
+fn any_board(prng: &mut Prng) -> Scene {
+    let most = prng.pick(&[3, 7, 7, 15, 31]);
+    let [rows, cols] = [(); 2].map(|()| 2 + prng.below(most) as u8);
+    Scene::of_board(prng, rows, cols)
+}
+
+fn any_square(prng: &mut Prng, scene: &Scene) -> [i32; 2] {
+    [scene.cols, scene.rows].map(|n| prng.below(u64::from(n)) as i32)
+}
+
+fn one_cell(prng: &mut Prng) -> Shot {
+    let mut scene = any_board(prng);
+    scene.squares = vec![any_square(prng, &scene)];
+    let look = prng.pick(&LOOKS);
+    scene.shot(prng, look)
+}
+
+/// Some squares of the rim, among them opposite corners half of the time, so that few translations fit.
+fn along_the_rim(prng: &mut Prng) -> Shot {
+    let mut scene = any_board(prng);
+    let last = [scene.cols, scene.rows].map(|n| i32::from(n) - 1);
+    if prng.below(2) == 0 {
+        scene.squares = vec![[0, 0], last];
+    }
+    for _ in 0..1 + prng.below(6) {
+        let mut square = any_square(prng, &scene);
+        let axis = prng.below(2) as usize;
+        square[axis] = prng.pick(&[0, last[axis]]);
+        scene.squares.push(square);
+    }
+    shuffle(prng, &mut scene.squares);
+    let look = prng.pick(&LOOKS);
+    scene.shot(prng, look)
+}
+
+/// As wide or as high as the board, or by one more; a board that is not square may take them in two turns only.
+fn just_fitting(prng: &mut Prng) -> Shot {
+    let mut scene = any_board(prng);
+    let [cols, rows] = [scene.cols, scene.rows].map(i32::from);
+    let [width, height] = [cols, rows].map(|n| n - 1 + prng.pick(&[0, 0, 0, 1]));
+    let [width, height] = if prng.below(4) == 0 {
+        [height, width]
+    } else {
+        [width, height]
+    };
+    scene.squares = vec![any_square(prng, &scene), any_square(prng, &scene)];
+    let look = prng.pick(&LOOKS);
+    let mut shot = scene.shot(prng, look);
+    let [u, v] = scene.translation.map(|x| x.clamp(-4000, 4000));
+    let corners = [[0, 0], [width, 0], [0, height], [width, height]];
+    for [du, dv] in corners.into_iter().take(2 + prng.below(3) as usize) {
+        let sample = shot.cells[prng.below(2) as usize].sample.clone();
+        let [u, v] = [u + du, v + dv].map(|x| x as i16);
+        shot.cells.push(Cell { u, v, sample });
+    }
+    shot.cells.drain(..2);
+    shot
+}
+
+/// With cells at the ends of the range.
+fn far_off(prng: &mut Prng) -> Shot {
+    let mut scene = any_board(prng).with_part_seen(prng);
+    scene.translation = [0; 2];
+    let points: Vec<[i16; 2]> = scene.squares.iter().map(|&s| scene.point(s)).collect();
+    let axis = |k: usize| points.iter().map(move |point| i32::from(point[k]));
+    let shifts = [0, 1].map(|k| {
+        let low = axis(k).min().expect("a cell");
+        let high = axis(k).max().expect("a cell");
+        prng.pick(&[-FARTHEST - low, FARTHEST - high, 0])
+    });
+    let look = prng.pick(&LOOKS);
+    let mut shot = scene.shot(prng, look);
+    for cell in &mut shot.cells {
+        cell.u += shifts[0] as i16;
+        cell.v += shifts[1] as i16;
+    }
+    shot
+}
+
+/// Every cell lies on a square without a marker, as the true placement has it.
+fn no_marker_seen(prng: &mut Prng) -> Shot {
+    let mut scene = any_board(prng);
+    let seen = (0..1 + prng.below(5)).map(|_| any_square(prng, &scene));
+    let plain = seen.map(|[i, j]| if (i + j) % 2 == 0 { [i, j] } else { [i, 0] });
+    scene.squares = plain.collect();
+    scene.shot(prng, Look::Noisy)
+}
+
+/// 250 to 257 cells, on boards where they have few places or many.
+pub fn many_cells(prng: &mut Prng) -> Shot {
+    let [rows, cols] = prng.pick(&[[16, 17], [17, 17], [16, 32], [32, 32], [22, 12], [32, 9]]);
+    let mut scene = Scene::of_board(prng, rows, cols);
+    scene.border = 1;
+    let all = (0..i32::from(rows)).flat_map(|j| (0..i32::from(cols)).map(move |i| [i, j]));
+    scene.squares = match prng.below(3) {
+        0 => all.filter(|[i, j]| (i + j) % 2 == 1).collect(),
+        1 => all.filter(|&[i, j]| i < 16 && j < 16).collect(),
+        _ => all.collect(),
+    };
+    if prng.below(2) == 0 {
+        shuffle(prng, &mut scene.squares);
+    }
+    scene
+        .squares
+        .truncate(prng.pick(&[250, 255, 256, 256, 256, 257]));
+    let look = prng.pick(&LOOKS);
+    let mut shot = scene.shot(prng, look);
+    if prng.below(2) == 0 {
+        shot.map |= settings::MINIMUM_MARGIN;
+        shot.minimum_margin = 0;
+    }
+    shot
+}

@@ -1,0 +1,18 @@
+//! The whole match, from a record to the answer that document 01 and the upstream Rust give; records to ask about; and the
+//! exact evidence, to which the accuracy rule holds the reported one.
+
+mod answer;
+pub mod exact;
+pub mod given;
+mod model;
+mod questions;
+mod rust;
+mod text;
+mod wide;
+
+pub use answer::{
+    ANSWER_WORDS, Alignment, Answer, Hypothesis, MARKER_WORDS, MOST_PLACES, Marker, Placed,
+};
+pub use questions::{by_rust_and_model, match_record, match_shot};
+pub use rust::{Matching, Samples};
+pub use wide::Wide;

@@ -1,0 +1,272 @@
+"""Draw ChArUco boards with OpenCV, photograph them in software and write what was sampled as shot records.
+
+usage: python3 make_samples.py [--pictures] [directory]
+
+The sheets go to the given directory, or to the one of this file, with `truth.tsv`: the placement that each picture was
+taken with. With --pictures the pictures go there too. All noise comes from fixed seeds, so a second run writes the same
+bytes. Nothing here comes from the library: boards, markers and codes are OpenCV's, the record is written from document 01.
+"""
+
+import struct
+import sys
+from fractions import Fraction
+from pathlib import Path
+
+try:
+    import cv2
+    import numpy as np
+except ImportError as error:
+    sys.exit(f"{error}: this needs Debian's python3 with python3-opencv")
+
+if not hasattr(getattr(cv2, "aruco", None), "CharucoBoard_create"):
+    sys.exit(f"OpenCV {cv2.__version__} has no aruco.CharucoBoard_create (Debian's 4.6.0 has)")
+
+WIDTH, HEIGHT = 640, 480        # of the picture
+SQUARE_PX = 96                  # of a square in the drawing: 12 pixels a module of a 4 x 4 marker, 9 of a 6 x 6 one
+MARKER_REL = 0.75
+BORDER = 1
+INK, PAPER, ROOM = 28.0, 205.0, 110.0
+RIM_PX = 10                     # a cell with a corner nearer to the picture's rim is not sampled
+
+# Quarter turns, document 01: where (u, v) goes
+TURNS = [((1, 0), (0, 1)), ((0, 1), (-1, 0)), ((-1, 0), (0, -1)), ((0, -1), (1, 0))]
+
+
+# ---------------------------------------------------------------- boards
+
+class Board:
+    def __init__(self, cols, rows, dictionary, codes):
+        self.cols, self.rows = cols, rows
+        self.dictionary = cv2.aruco.Dictionary_get(dictionary)
+        self.bits = self.dictionary.markerSize
+        self.side = self.bits + 2 * BORDER
+        self.codes = [self.code(id) for id in range(codes)]
+
+    def marker(self, id):
+        """The marker as OpenCV draws it, one pixel a module: 0 is black."""
+        return cv2.aruco.drawMarker(self.dictionary, id, self.side, borderBits=BORDER)
+
+    def code(self, id):
+        inner = self.marker(id)[BORDER:-BORDER, BORDER:-BORDER]
+        return sum(1 << k for k, grey in enumerate(inner.flatten()) if grey == 0)
+
+    def drawing(self):
+        """OpenCV's picture of the board, held against document 01's layout module by module."""
+        board = cv2.aruco.CharucoBoard_create(self.cols, self.rows, 1.0, MARKER_REL, self.dictionary)
+        picture = board.draw((self.cols * SQUARE_PX, self.rows * SQUARE_PX), marginSize=0, borderBits=BORDER)
+        rim = round(SQUARE_PX * (1 - MARKER_REL) / 2)
+        module = (SQUARE_PX - 2 * rim) // self.side
+        next_id = 0
+        for j in range(self.rows):
+            for i in range(self.cols):
+                square = picture[j * SQUARE_PX:(j + 1) * SQUARE_PX, i * SQUARE_PX:(i + 1) * SQUARE_PX]
+                if (i + j) % 2 == 0:
+                    assert (square == 0).all(), f"square ({i}, {j}) should be plain"
+                    continue
+                seen = square[rim:-rim, rim:-rim][module // 2::module, module // 2::module]
+                assert (square[0] == 255).all(), f"square ({i}, {j}) should have a white rim"
+                assert (seen == self.marker(next_id)).all(), f"square ({i}, {j}) should hold marker {next_id}"
+                next_id += 1
+        return picture
+
+
+LANE = Board(5, 7, cv2.aruco.DICT_4X4_50, 50)
+WALL = Board(12, 9, cv2.aruco.DICT_6X6_100, 100)
+
+
+def printed(board):
+    """The board on its sheet of paper, with one square of room around."""
+    greys = np.where(board.drawing() == 0, INK, PAPER)
+    sheet = cv2.copyMakeBorder(greys, *[SQUARE_PX // 2] * 4, cv2.BORDER_CONSTANT, value=PAPER)
+    return cv2.copyMakeBorder(sheet, *[SQUARE_PX // 2] * 4, cv2.BORDER_CONSTANT, value=ROOM)
+
+
+def tiles(board):
+    """A wall of white tiles in place of the board."""
+    wall = np.full(((board.rows + 2) * SQUARE_PX, (board.cols + 2) * SQUARE_PX), PAPER)
+    for k in range(0, max(wall.shape), SQUARE_PX):
+        wall[max(k - 2, 0):k + 2, :] = 150.0
+        wall[:, max(k - 2, 0):k + 2] = 150.0
+    return wall
+
+
+# ---------------------------------------------------------------- a picture
+
+class Shot:
+    """A board seen by a camera.
+
+    turn: the quarter turn that takes the picture's grid to the board's
+    quad: where the grid's corners top left, top right, bottom right, bottom left are in the picture, in pixels
+    origin: what the corner finder calls the grid's top left corner
+    glare: place and radius of a bright spot, in pixels
+    settings: minimum margin, border threshold, px_per_square; None is left out of the record
+    """
+
+    def __init__(self, name, seed, board, turn, quad, origin, glare=None, settings=(None, None, None), drawn=printed):
+        self.name, self.board, self.turn, self.origin, self.settings = name, board, turn, origin, settings
+        self.noise = np.random.RandomState(seed)
+        self.is_board = drawn is printed
+        size = (board.cols, board.rows) if turn % 2 == 0 else (board.rows, board.cols)
+        self.width, self.height = size
+        # picture's grid corner -> board corner: the turn, moved so that all is on the board
+        matrix = np.array(TURNS[turn])
+        rectangle = np.array([(0, 0), (self.width, 0), (self.width, self.height), (0, self.height)])
+        self.to_board = lambda point: matrix @ np.array(point) - (rectangle @ matrix.T).min(axis=0)
+        self.view = cv2.getPerspectiveTransform(rectangle.astype(np.float32), np.array(quad, np.float32))
+        self.picture = self.photograph(drawn(board), rectangle, quad, glare)
+
+    def photograph(self, scene, rectangle, quad, glare):
+        on_scene = [(self.to_board(corner) + 1) * SQUARE_PX for corner in rectangle]
+        lens = cv2.getPerspectiveTransform(np.array(on_scene, np.float32), np.array(quad, np.float32))
+        # drawn four times as large and averaged, so that edges fall between pixels
+        fine = np.diag([4.0, 4.0, 1.0]) @ lens
+        large = cv2.warpPerspective(scene, fine, (4 * WIDTH, 4 * HEIGHT), flags=cv2.INTER_LINEAR, borderValue=ROOM)
+        picture = large.reshape(HEIGHT, 4, WIDTH, 4).mean(axis=(1, 3))
+        y, x = np.mgrid[0:HEIGHT, 0:WIDTH]
+        light = 1.05 - 0.35 * x / WIDTH - 0.15 * y / HEIGHT
+        picture = picture * light
+        if glare:
+            gx, gy, radius = glare
+            picture = picture + 420.0 * np.exp(-((x - gx) ** 2 + (y - gy) ** 2) / (2.0 * radius ** 2))
+        picture = cv2.GaussianBlur(picture, (0, 0), 1.1)
+        picture = picture + self.noise.normal(0.0, 4.0, picture.shape)
+        return np.clip(np.rint(picture), 0, 255).astype(np.uint8)
+
+    def corners(self):
+        """Grid corner -> its place in the picture, as a corner finder has it: inner corners in view, a little off."""
+        found = {}
+        for b in range(self.height + 1):
+            for a in range(self.width + 1):
+                i, j = self.to_board((a, b))
+                x, y, w = self.view @ (a, b, 1.0)
+                place = np.array([x, y]) / w + self.noise.normal(0.0, 0.3, 2)
+                inner = 1 <= i < self.board.cols and 1 <= j < self.board.rows
+                if inner and 0 <= place[0] < WIDTH and 0 <= place[1] < HEIGHT:
+                    found[a, b] = place
+        return found
+
+    def cells(self):
+        """The whole cells row by row: point, board square, samples or None."""
+        found = self.corners()
+        cells = []
+        for b in range(self.height):
+            for a in range(self.width):
+                four = [found.get(corner) for corner in ((a, b), (a + 1, b), (a + 1, b + 1), (a, b + 1))]
+                if any(corner is None for corner in four):
+                    continue
+                square = np.minimum(self.to_board((a, b)), self.to_board((a + 1, b + 1)))
+                cells.append(((a + self.origin[0], b + self.origin[1]), tuple(square), self.sample(np.array(four))))
+        return cells
+
+    def sample(self, four):
+        """Fraction, threshold and grid of the marker in the middle of a cell; None where it cannot be read."""
+        near = np.concatenate([four.min(axis=0), (WIDTH - 1, HEIGHT - 1) - four.max(axis=0)])
+        if near.min() < RIM_PX:
+            return None
+        side = self.board.side
+        unit = np.array([(0, 0), (1, 0), (1, 1), (0, 1)], np.float32)
+        view = cv2.getPerspectiveTransform(unit, four.astype(np.float32))
+        # 5 x 5 points in the middle of each module
+        steps = (np.arange(side)[:, None] + np.linspace(0.25, 0.75, 5)[None, :]).flatten() / side
+        line = (1 - MARKER_REL) / 2 + MARKER_REL * steps
+        x, y = np.meshgrid(line, line)
+        at = view @ np.stack([x.flatten(), y.flatten(), np.ones(x.size)])
+        greys = self.bilinear(at[0] / at[2], at[1] / at[2]).reshape(side, 5, side, 5).mean(axis=(1, 3))
+        grid = np.rint(greys).astype(int)
+        if (grid == 255).sum() * 2 > grid.size:
+            return None
+        threshold = otsu(grid.flatten())
+        border = np.ones((side, side), bool)
+        border[BORDER:-BORDER, BORDER:-BORDER] = False
+        fraction = (grid[border] < threshold).sum() / border.sum()
+        return fraction, threshold, bytes(int(grey) for grey in grid.flatten())
+
+    def bilinear(self, x, y):
+        left, top = np.floor(x).astype(int), np.floor(y).astype(int)
+        right, down = x - left, y - top
+        p = self.picture.astype(float)
+        return ((p[top, left] * (1 - right) + p[top, left + 1] * right) * (1 - down)
+                + (p[top + 1, left] * (1 - right) + p[top + 1, left + 1] * right) * down)
+
+
+def otsu(greys):
+    """The threshold t with the greatest variance between greys below t and the others; of equal ones the middle."""
+    greys = [int(grey) for grey in greys]
+    best, chosen = 0, [min(greys)]
+    for t in range(min(greys) + 1, max(greys) + 1):
+        dark = [grey for grey in greys if grey < t]
+        n0, n1 = len(dark), len(greys) - len(dark)
+        # between-class variance, exact, times the square of their count
+        variance = Fraction((sum(dark) * len(greys) - sum(greys) * n0) ** 2, n0 * n1)
+        if variance > best:
+            best, chosen = variance, [t]
+        elif variance == best:
+            chosen.append(t)
+    return chosen[len(chosen) // 2]
+
+
+# ---------------------------------------------------------------- records
+
+def record(board, settings, cells):
+    """The shot record of document 01. The table is left out: the built-in one serves."""
+    given = [value is not None for value in settings]
+    out = bytes([sum(1 << k for k in range(3) if given[k])])
+    out += b"".join(struct.pack("<f", value) for value in settings if value is not None)
+    out += bytes([board.rows, board.cols, board.bits, BORDER])
+    out += struct.pack("<ff", 0.04, MARKER_REL)
+    out += struct.pack("<H", len(board.codes)) + b"".join(struct.pack("<Q", code) for code in board.codes)
+    out += struct.pack("<H", len(cells))
+    cell_map = sum(1 << k for k, (_, _, samples) in enumerate(cells) if samples is not None)
+    out += cell_map.to_bytes((len(cells) + 7) // 8, "little")
+    for (u, v), _, samples in cells:
+        out += struct.pack("<hh", u, v)
+        if samples is not None:
+            fraction, threshold, grid = samples
+            out += struct.pack("<fB", fraction, threshold) + grid
+    return out
+
+
+def truth(shot, cells):
+    """Turn and translation that take every cell to the square that it was drawn on."""
+    shifts = set()
+    for point, square, _ in cells:
+        u, v = np.array(TURNS[shot.turn]) @ point
+        shifts.add((square[0] - u, square[1] - v))
+    assert len(shifts) == 1, f"{shot.name}: {shifts}"
+    return shot.turn, *shifts.pop()
+
+
+SHOTS = [
+    lambda: Shot("lane4", 4, LANE, 0, [(196, 34), (459, 52), (478, 440), (169, 425)], (-1, -1)),
+    lambda: Shot("turned", 5, LANE, 1, [(92, 118), (549, 61), (571, 418), (104, 371)], (-3, 2)),
+    lambda: Shot("glare", 6, LANE, 2, [(188, 51), (452, 28), (491, 436), (172, 447)], (7, -12),
+                 glare=(255, 190, 62), settings=(0.1, 0.6, None)),
+    lambda: Shot("part", 7, WALL, 3, [(-133, -61), (548, -158), (630, 742), (-64, 701)], (-6, 40),
+                 settings=(None, None, 48.0)),
+    lambda: Shot("blank", 8, LANE, 0, [(196, 34), (459, 52), (478, 440), (169, 425)], (-1, -1), drawn=tiles),
+]
+
+
+def main():
+    words = sys.argv[1:]
+    pictures = words[:1] == ["--pictures"]
+    words = words[pictures:]
+    directory = Path(words[0]) if words else Path(__file__).resolve().parent
+    rows = []
+    for make in SHOTS:
+        shot = make()
+        cells = shot.cells()
+        data = record(shot.board, shot.settings, cells)
+        assert len(data) <= 65535
+        (directory / f"{shot.name}.shot").write_bytes(data)
+        placed = "\t".join(str(number) for number in truth(shot, cells)) if shot.is_board else "none"
+        rows.append(f"{shot.name}\t{placed}\n")
+        unsampled = sum(samples is None for _, _, samples in cells)
+        print(f"{shot.name}: {len(data)} bytes, {len(cells)} cells, {unsampled} of them not sampled")
+        if pictures:
+            cv2.imwrite(str(directory / f"{shot.name}.png"), shot.picture)
+    (directory / "truth.tsv").write_text("".join(rows))
+
+
+if __name__ == "__main__":
+    main()
