@@ -14,11 +14,11 @@ use Rattle.refusal.specs.declared.Refusal.the-variants as refusal
 use Rattle.refusal.specs.Questions.{ask}
 use Rattle.shot_record.specs.Shots.{Shot, shot, whole, parse}
 use Rattle.shot_record.proofs.Reading.{Small}
-use Rattle.hypothesis.specs.declared.Evidence.{Evidence}
-use Rattle.hypothesis.specs.declared.Evidence.the-variants as evidence
-use Rattle.hypothesis.specs.declared.Hypothesis.{Hypothesis}
-use Rattle.hypothesis.specs.declared.Choice.{Choice}
-use Rattle.hypothesis.specs.declared.Choice.the-variants as choice
+use Rattle.ranking.specs.declared.Evidence.{Evidence}
+use Rattle.ranking.specs.declared.Evidence.the-variants as evidence
+use Rattle.ranking.specs.declared.Hypothesis.{Hypothesis}
+use Rattle.ranking.specs.declared.Choice.{Choice}
+use Rattle.ranking.specs.declared.Choice.the-variants as choice
 use Rattle.hypothesis.specs.Evidence.{reported, exact}
 use Rattle.hypothesis.specs.Search.{best}
 use Rattle.hypothesis.specs.Accuracy.{Placement}
@@ -27,6 +27,8 @@ use Rattle.hypothesis.proofs.Accuracy.{accuracy}
 use Rattle.hypothesis.proofs.Best.{best-placed}
 use Rattle.emit.specs.Markers.{markers}
 use Rattle.emit.proofs.Laws.{emitted-number}
+use Rattle.board_match.specs.declared.Matched.{Matched}
+use Rattle.board_match.specs.declared.Matched.the-variants as matched
 use Rattle.board_match.specs.Questions.{askedBefore15}
 use Rattle.board_match.specs.Match.{markersWith, markersOf, fitsAnswer, marginOf, marginAnswer, markersAnswer, askedFrom15, earlier, refusedBy, matchOf, answerWith, answerOf, matchAnswer}
 use Rattle.board_match.specs.Accuracy.{PlacedAccurately, Accuracy}
@@ -77,21 +79,28 @@ some-emitted s e =
     let r = yes-to (marginAnswer s) (refusal.Margin (marginOf s)) (ask (markersAnswer s) refusal.NoMarkers none) (q .1) in
     ltb-true 0 (length (markersOf s)) (yes-to (markersAnswer s) refusal.NoMarkers none (r .1) .0)
 
-pub match-accurate : (bytes lent : List ℕ) → Small bytes → Accuracy bytes (matchAnswer bytes lent)
+-- of every answer, from what holds of a refusal and of a match
+pub of-answer : (bytes lent : List ℕ) → Small bytes → (P : Matched → Type 0) → ((r : Refusal) → P (matched.Refused r))
+    → ((b : Hypothesis) → Passed (shot bytes) → best (shot bytes) ≡ choice.Placement b → 0 < length (markers (shot bytes) (b .alignment)) → P (matched.Placed (matchOf (shot bytes) b)))
+    → P (matchAnswer bytes lent)
 unfolding parse
-match-accurate bytes lent small = by-record (whole bytes) refl
+of-answer bytes lent small P refused placed = by-record (whole bytes) refl
   where
     s : Shot
     s = shot bytes
 
-    by-refusal : whole bytes ≡ true → (o : Option Refusal) → refusedBy s (length lent) ≡ o → (c : Choice) → best s ≡ c → Accuracy bytes (answerWith o s c)
-    by-refusal w (some r) e c is = tt
-    by-refusal w none e choice.Absent is = tt
+    by-refusal : whole bytes ≡ true → (o : Option Refusal) → refusedBy s (length lent) ≡ o → (c : Choice) → best s ≡ c → P (answerWith o s c)
+    by-refusal w (some r) e c is = refused r
+    by-refusal w none e choice.Absent is = refused refusal.TranslationWindow
     by-refusal w none e (choice.Placement b) is =
         let q = both-none (askedBefore15 s (length lent)) (askedFrom15 s) e in
         let p = passes bytes small w (length lent) (sound s (length lent) (q .0)) in
-        accurately s p b is (subst (λ (c : Choice). 0 < length (markersWith s c)) is (some-emitted s (q .1)))
+        placed b p is (subst (λ (c : Choice). 0 < length (markersWith s c)) is (some-emitted s (q .1)))
 
-    by-record : (w : Bool) → whole bytes ≡ w → Accuracy bytes (answerOf (cond w (some s) none) (length lent))
-    by-record false w = tt
+    by-record : (w : Bool) → whole bytes ≡ w → P (answerOf (cond w (some s) none) (length lent))
+    by-record false w = refused refusal.InvalidRecord
     by-record true w = by-refusal w (refusedBy s (length lent)) refl (best s) refl
+
+pub match-accurate : (bytes lent : List ℕ) → Small bytes → Accuracy bytes (matchAnswer bytes lent)
+match-accurate bytes lent small =
+    of-answer bytes lent small (Accuracy bytes) (λ r. tt) (λ b p is n. accurately (shot bytes) p b is n)

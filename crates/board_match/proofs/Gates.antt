@@ -15,12 +15,12 @@ use Rattle.shot_record.specs.Fields.{cellCount}
 use Rattle.shot_record.specs.Shots.{Shot, shot, whole}
 use Rattle.shot_record.specs.Answers.{configOf}
 use Rattle.shot_record.proofs.CellReads.{cell-count}
+use Rattle.ranking.specs.declared.Hypothesis.{Hypothesis}
+use Rattle.ranking.specs.declared.Choice.{Choice}
+use Rattle.ranking.specs.declared.Choice.the-variants as choice
 use Rattle.hypothesis.specs.declared.Inputs.{Inputs}
 use Rattle.hypothesis.specs.declared.Selection.{Selection}
 use Rattle.hypothesis.specs.declared.Enumerated.the-variants as enumerated
-use Rattle.hypothesis.specs.declared.Hypothesis.{Hypothesis}
-use Rattle.hypothesis.specs.declared.Choice.{Choice}
-use Rattle.hypothesis.specs.declared.Choice.the-variants as choice
 use Rattle.hypothesis.specs.Search.{enumerate}
 use Rattle.hypothesis.specs.Inputs.{Loaded}
 use Rattle.hypothesis.proofs.Best.{best-placed, Chosen, chosen, some-placement}

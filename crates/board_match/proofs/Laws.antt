@@ -1,5 +1,5 @@
--- The margin gate refuses exactly below the minimum. Assumes nothing.
-use mathlib.Core.Path.{_≡_, refl, sym, ap, _∙_}
+-- The margin gate refuses exactly below the minimum, and the corners of a match are aligned with its best placement. Assumes nothing.
+use mathlib.Core.Path.{_≡_, refl, sym, ap, subst, _∙_}
 use mathlib.Core.Bool.{Bool, true, false, not}
 use mathlib.Core.Option.{Option, none, some, Option·none-ne-some, Option·some-injective}
 use Prim.Native.Nat.{ℕ, _<_}
@@ -12,17 +12,25 @@ use Rattle.refusal.specs.declared.Refusal.{Refusal}
 use Rattle.refusal.specs.declared.Refusal.the-variants as refusal
 use Rattle.refusal.specs.Questions.{ask}
 use Rattle.shot_record.specs.Shots.{Shot, shot}
-use Rattle.hypothesis.specs.declared.Choice.{Choice}
-use Rattle.hypothesis.specs.declared.Choice.the-variants as choice
+use Rattle.ranking.specs.declared.Hypothesis.{Hypothesis}
+use Rattle.ranking.specs.declared.Choice.{Choice}
+use Rattle.ranking.specs.declared.Choice.the-variants as choice
 use Rattle.hypothesis.specs.Placements.{placements}
 use Rattle.hypothesis.specs.Search.{best}
 use Rattle.hypothesis.specs.Accuracy.{Checked}
+use Rattle.hypothesis.specs.Inputs.{Passed}
+use Rattle.hypothesis.proofs.Best.{best-placed}
 use Rattle.hypothesis.proofs.Margins.{margin-is-number}
+use Rattle.board_match.specs.declared.Match.{Match}
+use Rattle.board_match.specs.declared.Matched.{Matched}
+use Rattle.board_match.specs.declared.Matched.the-variants as matched
 use Rattle.board_match.specs.Questions.{askedBefore15}
-use Rattle.board_match.specs.Match.{marginWith, marginOf, marginAnswer, markersAnswer, askedFrom15, earlier, refusedBy}
+use Rattle.board_match.specs.Match.{marginWith, marginOf, marginAnswer, markersAnswer, askedFrom15, earlier, refusedBy, matchOf}
 use Rattle.board_match.specs.Accuracy.{GateRule}
+use Rattle.board_match.specs.Corners.{CornersAligned, CornersRule}
 use Rattle.board_match.proofs.Sound.{sound}
 use Rattle.board_match.proofs.Passing.{passes}
+use Rattle.board_match.proofs.Accurately.{of-answer}
 
 number : (s : Shot) → Checked s → T (not (isNan (marginOf s)))
 unfolding isNan
@@ -58,3 +66,16 @@ margin-gate bytes words small w asked fits =
           not-by-margin (markersAnswer s) m
           (sym (ap (λ (q : Bool). ask (not q) (refusal.Margin (marginOf s)) (ask (markersAnswer s) refusal.NoMarkers none)) t) ∙ sym f ∙ e);
     }
+
+-- ---- corners
+module _ (s : Shot) (p : Passed s) (b : Hypothesis) (is : best s ≡ choice.Placement b) where
+  aligned : (m : Match) → _≡_ {A = Matched} (matched.Placed (matchOf s b)) (matched.Placed m) → CornersAligned m
+  aligned m e =
+      let same : matchOf s b ≡ m = cc in
+      let q = best-placed s p b is in
+      subst CornersAligned same (record { are = refl; turn = q .turn; tx = q .tx; ty = q .ty })
+
+pub match-corners : CornersRule
+match-corners bytes lent small m =
+    of-answer bytes lent small (λ a. a ≡ matched.Placed m → CornersAligned m) (λ r e. let z : _≡_ {A = ℕ} 0 1 = cc in absurd (omega arith))
+    (λ b p is n. aligned (shot bytes) p b is m)

@@ -14,9 +14,9 @@ use Rattle.refusal.specs.declared.Refusal.the-variants as refusal
 use Rattle.refusal.specs.Questions.{ask}
 use Rattle.shot_record.specs.Shots.{Shot, shot, whole, parse}
 use Rattle.shot_record.proofs.Whole.{passed, parse-whole}
-use Rattle.hypothesis.specs.declared.Hypothesis.{Hypothesis}
-use Rattle.hypothesis.specs.declared.Choice.{Choice}
-use Rattle.hypothesis.specs.declared.Choice.the-variants as choice
+use Rattle.ranking.specs.declared.Hypothesis.{Hypothesis}
+use Rattle.ranking.specs.declared.Choice.{Choice}
+use Rattle.ranking.specs.declared.Choice.the-variants as choice
 use Rattle.hypothesis.specs.Placements.{placements}
 use Rattle.hypothesis.specs.Search.{best}
 use Rattle.emit.specs.Markers.{Marker, markers, wordsOf}

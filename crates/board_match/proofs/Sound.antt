@@ -1,13 +1,11 @@
 -- What is known of a shot that passed the questions before 15. Assumes nothing.
 use mathlib.Core.Path.{_≡_, refl, sym, ap, _∙_, subst}
-use mathlib.Core.Bool.{Bool, true, false, false≢true}
+use mathlib.Core.Bool.{Bool, true, false}
 use mathlib.Core.List.{map}
 use mathlib.Core.Option.{Option, none, some, Option·none-ne-some, Option·some-injective}
-use Prim.Native.Nat.{ℕ, zero, suc, _*_, _≤_, _<_}
-use native.Mathlib.Omega.{arith}
+use Prim.Native.Nat.{ℕ, _*_, _≤_, _<_}
 use lib.Dec.{T, leb, eqb}
-use lib.IntN.{ℤ, pos, negsuc, negℤ, natAbs}
-use lib.Signed.{leZ}
+use lib.IntN.{natAbs}
 use lib.ListN.{length}
 use lib.Ieee.{le}
 use lib.Ieee.Scale.{finite}
@@ -28,6 +26,7 @@ use Rattle.shot_record.specs.Shots.{Sample, Shot}
 use Rattle.shot_record.specs.Answers.{float, configOf, specOf}
 use Rattle.hypothesis.specs.Placements.{cell}
 use Rattle.integers.specs.Distance.{within}
+use Rattle.integers.proofs.Distances.{within-abs}
 use Rattle.board_match.specs.Questions.{placedAnswer, sampleAnswer, settingsAnswer, tableAnswer, someAnswer, cellsAnswer, samplesAnswer, roomAnswer, askedFrom9, afterBoard, askedBefore15}
 use Rattle.board_match.proofs.Every.{each}
 use Rattle.board_match.proofs.Order.{from9, from10, from11, from12, from13, from14}
@@ -53,11 +52,6 @@ answered false r next e = absurd (Option·none-ne-some r (sym e))
 
 true-holds : (b : Bool) → b ≡ true → T b
 true-holds b e = subst T (sym e) tt
-
-within-abs : (m : ℕ) (z : ℤ) → within m z ≡ true → natAbs z ≤ m
-within-abs m (pos n) e = leb-true n m (both (leZ (negℤ (pos m)) (pos n)) _ e .1)
-within-abs zero (negsuc n) e = absurd (false≢true e)
-within-abs (suc m) (negsuc n) e = let h = leb-true n m (both (leZ (negsuc m) (negsuc n)) _ e .0) in omega (arith, h)
 
 sample-holds : (size : ℕ) (o : Option Sample) → sampleAnswer size o ≡ true → (x : Sample) → o ≡ some x → Between nought one (float (x .fraction)) × (length (x .grid) ≡ size)
 sample-holds size none h x e = absurd (Option·none-ne-some x e)

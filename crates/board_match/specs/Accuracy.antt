@@ -14,8 +14,8 @@ use Rattle.floats.specs.Units.{Finite}
 use Rattle.grid_alignment.specs.declared.GridAlignment.{GridAlignment}
 use Rattle.refusal.specs.declared.Refusal.the-variants as refusal
 use Rattle.shot_record.specs.Shots.{Shot, shot, whole}
-use Rattle.hypothesis.specs.declared.Evidence.the-variants as evidence
-use Rattle.hypothesis.specs.declared.Choice.the-variants as choice
+use Rattle.ranking.specs.declared.Evidence.the-variants as evidence
+use Rattle.ranking.specs.declared.Choice.the-variants as choice
 use Rattle.hypothesis.specs.Placements.{placements}
 use Rattle.hypothesis.specs.Evidence.{reported, exact}
 use Rattle.hypothesis.specs.Search.{best}

@@ -2,3 +2,4 @@ pub mod Questions
 pub mod Reads
 pub mod Match
 pub mod Accuracy
+pub mod Corners

@@ -14,12 +14,13 @@ use Rattle.refusal.specs.Questions.{ask}
 use Rattle.grid_alignment.specs.Alignment.{cornerAlignment}
 use Rattle.shot_record.specs.Shots.{Shot, parse}
 use Rattle.shot_record.specs.Answers.{float}
-use Rattle.hypothesis.specs.declared.Hypothesis.{Hypothesis}
-use Rattle.hypothesis.specs.declared.Choice.{Choice}
-use Rattle.hypothesis.specs.declared.Choice.the-variants as choice
+use Rattle.ranking.specs.declared.Hypothesis.{Hypothesis}
+use Rattle.ranking.specs.declared.Choice.{Choice}
+use Rattle.ranking.specs.declared.Choice.the-variants as choice
+use Rattle.ranking.specs.Margin.{margin}
 use Rattle.hypothesis.specs.Placements.{placements}
 use Rattle.hypothesis.specs.Evidence.{capacity}
-use Rattle.hypothesis.specs.Search.{best, runnerUp, margin}
+use Rattle.hypothesis.specs.Search.{best, runnerUp}
 use Rattle.emit.specs.Markers.{Marker, markers, wordsOf}
 use Rattle.board_match.specs.declared.Match.{Match}
 use Rattle.board_match.specs.declared.Matched.{Matched}

@@ -1,5 +1,5 @@
 // Match (board_match/mod.rs): where a board lies under the cells of a shot record. Leans on `refusal`, `floats`, `grid_alignment`, `board`,
-// `score_matrix`, `shot_record`, `hypothesis` and `emit`, and for its definitions and laws on `integers`.
+// `score_matrix`, `shot_record`, `ranking`, `hypothesis` and `emit`, and for its definitions and laws on `integers`.
 ghost use mathlib.Core.Path.{_≡_};
 ghost use mathlib.Core.List.{map};
 ghost use mathlib.Core.Option.{none};
@@ -19,13 +19,13 @@ mod questions;
 use board::Board;
 use board::NewBoard;
 use grid_alignment::GridAlignment;
-use hypothesis::Choice;
 use hypothesis::Enumerated;
-use hypothesis::Hypothesis;
 use hypothesis::Inputs;
 use hypothesis::Selection;
 use hypothesis::search;
 use questions::Answer;
+use ranking::Choice;
+use ranking::Hypothesis;
 use refusal::Refusal;
 use score_matrix::BoardMatchConfig;
 use shot_record::bulk;

@@ -14,7 +14,7 @@ use Rattle.board.specs.declared.Numbered.{Numbered}
 use Rattle.board.specs.declared.Numbered.the-variants as numbered
 use Rattle.score_matrix.specs.Scores.{evidence as evidenceOf}
 use Rattle.shot_record.specs.Shots.{Sample, Shot}
-use Rattle.hypothesis.specs.declared.Evidence.the-variants as evidence
+use Rattle.ranking.specs.declared.Evidence.the-variants as evidence
 use Rattle.hypothesis.specs.Placements.{cellTotal, cell}
 use Rattle.hypothesis.specs.Evidence.{tableOf, samplesOf, weightOf, codeOf, expected, Contribution, onlyIf, contributing, contribution, joined, mapped, sumOver, reportedTerm, reportedTo, number, reported}
 use Rattle.emit.specs.Markers.{Marker, markerWith, marker, asList, markersTo, markers}

@@ -8,7 +8,7 @@ use native.Mathlib.Nat.{add-zero}
 use native.Mathlib.Numerals.{add-one}
 use native.Mathlib.Omega.{arith}
 use lib.ListN.{length, take, drop, take-append-drop, length-append, length-drop}
-use lib.Seq.{paste, take-at, drop-append-add, drop-drop}
+use lib.Seq.{paste, take-at, take-length, drop-append-add, drop-drop}
 use Rattle.grid_alignment.specs.declared.GridAlignment.{GridAlignment}
 use Rattle.shot_record.specs.Shots.{Shot}
 use Rattle.hypothesis.specs.Placements.{cellTotal}
@@ -37,17 +37,17 @@ left-alone n none l e =
 left-alone n (some m) l e = let z : _≡_ {A = ℕ} 0 1 = cc in absurd (omega arith)
 
 -- a marker: its words are pasted
-pub put-behind : (n : ℕ) (o : Option Marker) (m : Marker) (ws before after : List ℕ) → o ≡ some m → ws ≡ words m → after ≡ paste before (18 * n) ws 18 → Written n o before after (n + 1)
+pub put-behind : (n : ℕ) (o : Option Marker) (m : Marker) (ws before after : List ℕ) → o ≡ some m → ws ≡ words m → after ≡ paste before (18 * n) ws (length ws) → Written n o before after (n + 1)
 unfolding words wordsOf
 put-behind n none m ws before after e f g = let z : _≡_ {A = ℕ} 0 1 = cc in absurd (omega arith)
 put-behind n (some k) m ws before after e f g =
     let same : m ≡ k = cc in
-    let next : 18 * n + 18 ≡ 18 * (n + 1) = omega arith in
+    let next : 18 * n + length ws ≡ 18 * (n + 1) = omega (arith, ap length f) in
     record {
       count = refl;
       list =
           g
-          ∙ ap₂ (λ (l : List ℕ) (j : ℕ). take (18 * n) before ++ take 18 l ++ drop j before) (f ∙ ap words same) next;
+          ∙ ap₂ (λ (l : List ℕ) (j : ℕ). take (18 * n) before ++ l ++ drop j before) (take-length ws ∙ f ∙ ap words same) next;
     }
 
 -- ---- of the first k cells

@@ -1,5 +1,5 @@
-// Marker emission for a chosen placement (emit.rs): the markers whose own cells speak for them. Leans on `floats`, `matcher`,
-// `grid_alignment`, `board`, `score_matrix`, `shot_record` and `hypothesis`.
+// Marker emission for a chosen placement (emit.rs): the markers whose own cells speak for them. Leans on `floats`, `lent_list`,
+// `matcher`, `grid_alignment`, `board`, `score_matrix`, `shot_record`, `ranking` and `hypothesis`.
 ghost use Prim.Native.Nat.{_+_, _*_, _<_, _≤_};
 ghost use lib.ListN.{length};
 ghost use Rattle.shot_record.specs.Fields.{cellCount};

@@ -2,7 +2,6 @@
 ghost use mathlib.Core.Path.{_≡_};
 ghost use Prim.Native.Nat.{_+_, _*_, _≤_, _<_};
 ghost use lib.ListN.{length};
-ghost use lib.Seq.{paste};
 ghost use lib.IntN.{pos};
 ghost use lib.Ieee.{binary32, div, ofInt};
 ghost use Rattle.score_matrix.specs.Scores.{samples, side};
@@ -48,18 +47,6 @@ fn quotient(score: f32, bits: u8) -> f32
     score / (n * n) as f32
 }
 
-// A marker's words are put into the list from the place `at` on.
-fn put(marker: &[u32], markers: &mut [u32], at: usize)
-    requires { ⌜ (length (now marker) ≡ 18) × (at + 18 ≤ length (now markers)) ⌝ }
-    ensures { λ _. ⌜ now (markers .exit) ≡ paste (now (markers .entry)) at (now (marker .entry)) 18 ⌝ }
-{
-    let mut i = 0;
-    while i < 18 {
-        markers[at + i] = marker[i];
-        i += 1;
-    }
-}
-
 // The cell's marker, if the cell has weight and speaks for the marker, is put behind the `n` markers before it.
 pub fn emit_marker(
     c: Candidate,
@@ -86,6 +73,6 @@ pub fn emit_marker(
     }
     let read = cell::read_code(grid, c.threshold, bits, border);
     let marker = marker_words(c, read, quotient(score, bits), config.px_per_square);
-    put(&marker, markers, 18 * n);
+    lent_list::put(markers, 18 * n, &marker);
     n + 1
 }

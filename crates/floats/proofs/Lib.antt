@@ -4,6 +4,7 @@ pub mod Close
 pub mod Sums
 pub mod Products
 pub mod Compare
+pub mod Order
 pub mod Ranges
 pub mod Folds
 mod Examples

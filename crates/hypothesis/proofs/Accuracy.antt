@@ -7,24 +7,19 @@ use mathlib.Core.Option.{Option, none, some, Option·none-ne-some, Option·some-
 use lib.Dec.{T}
 use lib.IntN.{ℤ, pos, _-ℤ_}
 use lib.Signed.{ltZ}
-use lib.Ieee.{Float, binary32}
+use lib.Ieee.{Float}
 use Rattle.integers.proofs.Parts.{plus, minus, sub-is-parts}
 use Rattle.integers.proofs.Distances.{Near, near→within, ltZ→Lt, Lt→ltZ}
-use Rattle.floats.proofs.Folds.{Item}
 use Rattle.grid_alignment.specs.declared.GridAlignment.{GridAlignment}
 use Rattle.shot_record.specs.Shots.{Shot}
-use Rattle.hypothesis.specs.declared.Evidence.{Evidence}
-use Rattle.hypothesis.specs.declared.Evidence.the-variants as evidence
+use Rattle.ranking.specs.declared.Evidence.{Evidence}
+use Rattle.ranking.specs.declared.Evidence.the-variants as evidence
+use Rattle.ranking.specs.Rules.{FiniteEvidence}
+use Rattle.ranking.proofs.Margins.{Small}
 use Rattle.hypothesis.specs.Placements.{cellTotal}
 use Rattle.hypothesis.specs.Evidence.{reportedTo, exactTo, number, reported, exact}
-use Rattle.hypothesis.specs.Rules.{FiniteEvidence}
 use Rattle.hypothesis.specs.Accuracy.{Checked, AccuracyRule, bound, wide}
 use Rattle.hypothesis.proofs.Partial.{Agree, agree, sums-near, sum-item}
-
--- none, or of size at most 256 × 512
-abbrev pub Small : Evidence → Type 0
-Small evidence.Absent = Unit {0}
-Small (evidence.Number x) = Item binary32 (2 ^ 166) x
 
 -- ---- from sums that agree
 module _ (n : ℕ) where

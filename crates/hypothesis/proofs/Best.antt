@@ -11,28 +11,29 @@ use lib.IntN.{ℤ, pos, natAbs, _-ℤ_}
 use Rattle.integers.proofs.Parts.{abs-sub}
 use Rattle.grid_alignment.specs.declared.GridAlignment.{GridAlignment}
 use Rattle.shot_record.specs.Shots.{Shot}
-use Rattle.shot_record.specs.Answers.{nth}
-use Rattle.hypothesis.specs.declared.Hypothesis.{Hypothesis}
-use Rattle.hypothesis.specs.declared.Choice.{Choice}
-use Rattle.hypothesis.specs.declared.Choice.the-variants as choice
+use Rattle.lent_list.specs.Places.{nth}
+use Rattle.ranking.specs.declared.Hypothesis.{Hypothesis}
+use Rattle.ranking.specs.declared.Choice.{Choice}
+use Rattle.ranking.specs.declared.Choice.the-variants as choice
+use Rattle.ranking.specs.Greatest.{firstGreatest}
+use Rattle.ranking.proofs.Greatest.{empty, greatest-rule}
 use Rattle.hypothesis.specs.declared.Selection.{Selection}
 use Rattle.hypothesis.specs.declared.Enumerated.the-variants as enumerated
 use Rattle.hypothesis.specs.Placements.{cellTotal, frame, across, down, placements}
 use Rattle.hypothesis.specs.Evidence.{reported}
-use Rattle.hypothesis.specs.Search.{hypothesis, hypotheses, firstGreatest, best, selection, selected, enumerate}
+use Rattle.hypothesis.specs.Search.{hypothesis, hypotheses, best, selection, selected, enumerate}
 use Rattle.hypothesis.specs.Inputs.{Passed}
 use Rattle.hypothesis.proofs.Sides.{near-sides}
 use Rattle.hypothesis.proofs.Places.{Stands, stands}
 use Rattle.hypothesis.proofs.Placements.{positive}
-use Rattle.hypothesis.proofs.Greatest.{empty, greatest-rule}
 use Rattle.hypothesis.proofs.Turned.{across-small, down-small, all-finite}
 
 -- ---- the best placement
 pub record BestPlaced (s : Shot) (b : Hypothesis) : Type 0 where
   pub placement : (k : ℕ) × (nth (placements s) k ≡ some (b .alignment))
   pub turn : b .alignment .turn < 4
-  pub tx : natAbs (b .alignment .tx) ≤ 8192
-  pub ty : natAbs (b .alignment .ty) ≤ 8192
+  pub tx : natAbs (b .alignment .tx) ≤ 4127
+  pub ty : natAbs (b .alignment .ty) ≤ 4127
   pub evidence-is : b .evidence ≡ reported s (b .alignment)
 
 -- a hypothesis of the list: its placement stands at the same place
@@ -44,7 +45,7 @@ mapped s (p ∷ ps) zero h e =
     (ap (λ (x : Hypothesis). some (x .alignment)) q, sym (ap (λ (x : Hypothesis). x .evidence) q) ∙ ap (λ (x : Hypothesis). reported s (x .alignment)) q)
 mapped s (p ∷ ps) (suc k) h e = mapped s ps k h e
 
-small-move : (a n : ℕ) (least : ℤ) → a < n → n ≤ 32 → natAbs least ≤ 4096 → natAbs (pos a -ℤ least) ≤ 8192
+small-move : (a n : ℕ) (least : ℤ) → a < n → n ≤ 32 → natAbs least ≤ 4096 → natAbs (pos a -ℤ least) ≤ 4127
 small-move a n least l m h = omega (arith, l, m, h, abs-sub (pos a) least)
 
 module _ (s : Shot) (p : Passed s) where
@@ -53,7 +54,7 @@ module _ (s : Shot) (p : Passed s) where
   unfolding frame
   near-frame r = let n = near-sides s p r (cellTotal s - 1) in (n .left, n .top)
 
-  small-translation : (k : ℕ) (q : GridAlignment) → Stands s 4 k q → (natAbs (q .tx) ≤ 8192) × (natAbs (q .ty) ≤ 8192)
+  small-translation : (k : ℕ) (q : GridAlignment) → Stands s 4 k q → (natAbs (q .tx) ≤ 4127) × (natAbs (q .ty) ≤ 4127)
   small-translation k q o =
       let r = o .r in
       let d₀ = positive (across s r) (down s r) (o .j) (o .inside) in

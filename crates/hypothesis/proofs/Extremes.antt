@@ -11,8 +11,8 @@ use borrow.Author.Tests.{leb-true, leb-false}
 use Rattle.integers.proofs.Parts.{plus, minus, add-is, sub-is-parts, abs-is, parts-le, ext}
 use Rattle.integers.proofs.Distances.{Le}
 use Rattle.grid_alignment.specs.Alignment.{least}
+use Rattle.ranking.proofs.Order.{clash}
 use Rattle.hypothesis.specs.Placements.{leastTo, greatest, greatestTo, squares}
-use Rattle.hypothesis.proofs.Order.{clash}
 
 -- ---- the tests of order
 passed : (x y : ℤ) → leZ x y ≡ true → Le x y

@@ -2,10 +2,6 @@ mod Terms
 mod Partial
 pub mod Accuracy
 pub mod Margins
-pub mod Order
-pub mod Ranking
-pub mod Behind
-pub mod Greatest
 pub mod Extremes
 pub mod Frames
 pub mod Places

@@ -16,7 +16,7 @@ use Rattle.integers.proofs.Parts.{plus, minus, sub-is-parts}
 use Rattle.integers.proofs.Distances.{Lt→ltZ, lt-or-le}
 use Rattle.grid_alignment.specs.declared.GridAlignment.{GridAlignment}
 use Rattle.shot_record.specs.Shots.{Shot}
-use Rattle.shot_record.specs.Answers.{nth}
+use Rattle.lent_list.specs.Places.{nth}
 use Rattle.hypothesis.specs.Placements.{cellTotal, frame, across, down, shifted, placementAt, withTurnsBelow, placements}
 use Rattle.hypothesis.specs.Rules.{Fits, Before, countWith, countOf, PlacementsRule}
 use Rattle.hypothesis.proofs.Frames.{moves-fit, fit-moves}

@@ -10,7 +10,7 @@ use lib.ListN.{length, length-append}
 use Rattle.integers.proofs.Distances.{lt-or-le}
 use Rattle.grid_alignment.specs.declared.GridAlignment.{GridAlignment}
 use Rattle.shot_record.specs.Shots.{Shot, list}
-use Rattle.shot_record.specs.Answers.{nth}
+use Rattle.lent_list.specs.Places.{nth}
 use Rattle.shot_record.proofs.Lists.{length-list, nth-list, nth-list-past}
 use Rattle.hypothesis.specs.Placements.{across, down, placementAt, withTurn, withTurnsBelow}
 

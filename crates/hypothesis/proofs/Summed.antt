@@ -11,7 +11,7 @@ use lib.ListN.{getD, replicate, length-replicate, getD-replicate}
 use lib.Ieee.{Float, binary32, nan, ofBits, ofFields, odd}
 use Rattle.floats.specs.Units.{nought}
 use Rattle.shot_record.specs.Shots.{Shot}
-use Rattle.hypothesis.specs.declared.Evidence.the-variants as evidence
+use Rattle.ranking.specs.declared.Evidence.the-variants as evidence
 use Rattle.hypothesis.specs.declared.turns.Seen.{Seen}
 use Rattle.hypothesis.specs.Placements.{cellTotal, across, down, shifted}
 use Rattle.hypothesis.specs.Evidence.{sumOver, reportedTo, number, orNought, reported}

@@ -1,72 +1,37 @@
 -- A ranking after all placements of a turn, from their sums, is that of the list with them at its end; and the answer of the search is what
 -- the ranking of all placements makes. Assumes nothing.
-use mathlib.Core.Path.{_≡_, refl, sym, ap, ap₂, _∙_}
+use mathlib.Core.Path.{_≡_, refl, sym, ap, _∙_}
 use Prim.Native.Nat.{ℕ, zero, suc, _+_, _*_, _/_, _%_, _≤_, _<_}
 use native.Mathlib.Nat.{div-lt-iff-lt-mul, mod-lt, mul-le-mul}
 use native.Mathlib.Omega.{arith}
 use mathlib.Core.List.{List, [], _∷_, _++_, map, append-nil, append-assoc}
-use lib.Arith.{digits-div, digits-mod}
 use lib.ListN.{length-map}
 use lib.Ieee.{Float}
 use Rattle.grid_alignment.specs.declared.GridAlignment.{GridAlignment}
 use Rattle.shot_record.specs.Shots.{Shot, list}
-use Rattle.shot_record.specs.Answers.{nth}
-use Rattle.hypothesis.specs.declared.Evidence.{Evidence}
-use Rattle.hypothesis.specs.declared.Hypothesis.{Hypothesis}
-use Rattle.hypothesis.specs.declared.Choice.{Choice}
-use Rattle.hypothesis.specs.declared.Choice.the-variants as choice
+use Rattle.lent_list.specs.Places.{nth}
+use Rattle.ranking.specs.declared.Evidence.{Evidence}
+use Rattle.ranking.specs.declared.Hypothesis.{Hypothesis}
+use Rattle.ranking.specs.declared.Choice.{Choice}
+use Rattle.ranking.specs.declared.Choice.the-variants as choice
+use Rattle.ranking.specs.declared.Ranking.{Ranking}
+use Rattle.ranking.specs.Margin.{margin}
+use Rattle.ranking.specs.Ranking.{rankingOf, ranked, rankedTo}
+use Rattle.ranking.specs.Rules.{AllFinite}
+use Rattle.ranking.proofs.OnePass.{pass}
+use Rattle.ranking.proofs.RankedTo.{ranked-same}
 use Rattle.hypothesis.specs.declared.Enumerated.{Enumerated}
 use Rattle.hypothesis.specs.declared.Enumerated.the-variants as enumerated
 use Rattle.hypothesis.specs.declared.Frame.{Frame}
-use Rattle.hypothesis.specs.declared.rank.Ranking.{Ranking}
 use Rattle.hypothesis.specs.declared.turns.Seen.{Seen}
 use Rattle.hypothesis.specs.Placements.{frame, across, down, placementAt, withTurnsBelow, placements}
 use Rattle.hypothesis.specs.Evidence.{capacity}
-use Rattle.hypothesis.specs.Search.{hypothesis, best, runnerUp, margin, selected, enumerate}
-use Rattle.hypothesis.specs.Ranking.{rankingOf, ranked}
-use Rattle.hypothesis.specs.Rules.{AllFinite}
+use Rattle.hypothesis.specs.Search.{hypothesis, best, runnerUp, selected, enumerate}
 use Rattle.hypothesis.specs.Accuracy.{Checked}
-use Rattle.hypothesis.specs.Turns.{Summed, movedTo, rankedTo, rankedTurn, selectionOf}
+use Rattle.hypothesis.specs.Turns.{Summed, movedTo, rankedTurn, selectionOf}
 use Rattle.hypothesis.proofs.Accuracy.{reported-finite}
-use Rattle.hypothesis.proofs.Ranking.{pass}
 use Rattle.hypothesis.proofs.Places.{start, many, start-next}
 use Rattle.hypothesis.proofs.Placements.{positive}
-
--- ---- a ranking after n hypotheses
-pub ranked-total : (k : Ranking) (f : ℕ → Hypothesis) (n : ℕ) → rankedTo k f n .total ≡ k .total + n
-unfolding rankedTo
-ranked-total k f zero = omega arith
-ranked-total k f (suc n) = omega (arith, ranked-total k f n)
-
-pub ranked-next : (k : Ranking) (f : ℕ → Hypothesis) (n : ℕ) → ranked (rankedTo k f n) (f n) ≡ rankedTo k f (n + 1)
-unfolding rankedTo
-ranked-next k f n = let e : suc n ≡ n + 1 = omega arith in ap (rankedTo k f) e
-
-pub ranked-none : (k : Ranking) (f : ℕ → Hypothesis) → k ≡ rankedTo k f 0
-unfolding rankedTo
-ranked-none k f = refl
-
--- the same hypotheses
-ranked-same : (k : Ranking) (f g : ℕ → Hypothesis) (n : ℕ) → ((j : ℕ) → j < n → f j ≡ g j) → rankedTo k f n ≡ rankedTo k g n
-unfolding rankedTo
-ranked-same k f g zero e = refl
-ranked-same k f g (suc n) e = ap₂ ranked (ranked-same k f g n (λ j h. e j (omega (arith, h)))) (e n (omega arith))
-
--- m of them, and n more
-ranked-more : (k : Ranking) (f : ℕ → Hypothesis) (m n : ℕ) → rankedTo (rankedTo k f m) (λ (j : ℕ). f (m + j)) n ≡ rankedTo k f (m + n)
-unfolding rankedTo
-ranked-more k f m zero = let e : m ≡ m + 0 = omega arith in ap (rankedTo k f) e
-ranked-more k f m (suc n) =
-    let e : suc (m + n) ≡ m + suc n = omega arith in
-    ap (λ (x : Ranking). ranked x (f (m + n))) (ranked-more k f m n) ∙ ap (rankedTo k f) e
-
--- the columns below a, and column a
-pub next-column : (k : Ranking) (g : ℕ → ℕ → Hypothesis) (d a : ℕ) → rankedTo (rankedTo k (λ (j : ℕ). g (j / d) (j % d)) (a * d)) (g a) d ≡ rankedTo k (λ (j : ℕ). g (j / d) (j % d)) ((a + 1) * d)
-next-column k g d a =
-    let f : ℕ → Hypothesis = λ (j : ℕ). g (j / d) (j % d) in
-    ranked-same (rankedTo k f (a * d)) (g a) (λ (j : ℕ). f (a * d + j)) d (λ j h. sym (ap₂ g (digits-div a h) (digits-mod a h)))
-    ∙ ranked-more k f (a * d) d
-    ∙ ap (rankedTo k f) (omega arith)
 
 -- ---- lists
 module _ {A : Type 0} where

@@ -12,10 +12,11 @@ use Rattle.floats.specs.Units.{units, Finite, nought, one, Between}
 use Rattle.grid_alignment.specs.declared.GridAlignment.{GridAlignment}
 use Rattle.score_matrix.specs.Table.{isTable}
 use Rattle.shot_record.specs.Shots.{Sample, Shot}
-use Rattle.shot_record.specs.Answers.{float, nth}
-use Rattle.hypothesis.specs.declared.Evidence.the-variants as evidence
-use Rattle.hypothesis.specs.declared.Hypothesis.{Hypothesis}
-use Rattle.hypothesis.specs.declared.Choice.the-variants as choice
+use Rattle.lent_list.specs.Places.{nth}
+use Rattle.shot_record.specs.Answers.{float}
+use Rattle.ranking.specs.declared.Evidence.the-variants as evidence
+use Rattle.ranking.specs.declared.Hypothesis.{Hypothesis}
+use Rattle.ranking.specs.declared.Choice.the-variants as choice
 use Rattle.hypothesis.specs.Placements.{cellTotal, cell, placements}
 use Rattle.hypothesis.specs.Evidence.{tableOf, reported, exact}
 use Rattle.hypothesis.specs.Search.{best}

@@ -18,8 +18,8 @@ use Rattle.score_matrix.specs.Weights.{sampledWeight}
 use Rattle.score_matrix.specs.Accuracy.{weighted, exactWeighted}
 use Rattle.shot_record.specs.Shots.{Sample, Shot}
 use Rattle.shot_record.specs.Answers.{float}
-use Rattle.hypothesis.specs.declared.Evidence.{Evidence}
-use Rattle.hypothesis.specs.declared.Evidence.the-variants as evidence
+use Rattle.ranking.specs.declared.Evidence.{Evidence}
+use Rattle.ranking.specs.declared.Evidence.the-variants as evidence
 use Rattle.hypothesis.specs.Placements.{cellTotal, cell, pointOf}
 
 -- the likelihood table, and what is sampled of a cell

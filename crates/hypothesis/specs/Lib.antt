@@ -1,7 +1,6 @@
 pub mod Placements
 pub mod Evidence
 pub mod Search
-pub mod Ranking
 pub mod Rules
 pub mod Accuracy
 pub mod Inputs

@@ -1,26 +1,19 @@
--- What `proofs/` shows of the placements, of the first greatest and of the rest.
-use Prim.Native.Nat.{ℕ, suc, _+_, _-_, _*_, _<_}
+-- What `proofs/` shows of the placements.
+use Prim.Native.Nat.{ℕ, _+_, _-_, _*_, _<_}
 use mathlib.Core.Path.{_≡_}
 use mathlib.Core.Logic.{_⊎_}
-use mathlib.Core.Bool.{true, false, _&&_, cond}
-use mathlib.Core.List.{List, _++_}
+use mathlib.Core.Bool.{_&&_, cond}
 use mathlib.Core.Option.{some}
 use lib.Dec.{T, leb}
-use lib.ListN.{length, take, drop}
+use lib.ListN.{length}
 use lib.IntN.{pos}
 use lib.Signed.{ltZ}
-use Rattle.floats.specs.Units.{Finite}
 use Rattle.grid_alignment.specs.declared.Coord.{Coord}
 use Rattle.grid_alignment.specs.declared.GridAlignment.{GridAlignment}
 use Rattle.grid_alignment.specs.Alignment.{applied}
 use Rattle.shot_record.specs.Shots.{Shot}
-use Rattle.shot_record.specs.Answers.{nth}
-use Rattle.hypothesis.specs.declared.Evidence.{Evidence}
-use Rattle.hypothesis.specs.declared.Evidence.the-variants as evidence
-use Rattle.hypothesis.specs.declared.Hypothesis.{Hypothesis}
-use Rattle.hypothesis.specs.declared.Choice.the-variants as choice
+use Rattle.lent_list.specs.Places.{nth}
 use Rattle.hypothesis.specs.Placements.{cellTotal, pointOf, frame, placements}
-use Rattle.hypothesis.specs.Search.{below, firstGreatest, rest}
 
 -- a point on a square of the board
 pub record OnBoard (s : Shot) (p : Coord) : Type 0 where
@@ -56,22 +49,3 @@ pub record InOrder (s : Shot) : Type 0 where
 
 abbrev pub PlacementsRule : Type 0
 PlacementsRule = (s : Shot) → 0 < cellTotal s → InOrder s
-
--- evidence is none or a finite number
-abbrev pub FiniteEvidence : Evidence → Type 0
-FiniteEvidence evidence.Absent = Unit {0}
-FiniteEvidence (evidence.Number x) = Finite x
-
-abbrev pub AllFinite : List Hypothesis → Type 0
-AllFinite hs = (k : ℕ) (h : Hypothesis) → nth hs k ≡ some h → FiniteEvidence (h .evidence)
-
--- none of the list lies above it, and all before it lie below it; the rest is the list without it
-pub record FirstGreatest (hs : List Hypothesis) (b : Hypothesis) : Type 0 where
-  pub place : ℕ
-  pub there : nth hs place ≡ some b
-  pub greatest : (k : ℕ) (h : Hypothesis) → nth hs k ≡ some h → below (b .evidence) (h .evidence) ≡ false
-  pub first : (k : ℕ) (h : Hypothesis) → k < place → nth hs k ≡ some h → below (h .evidence) (b .evidence) ≡ true
-  pub others : rest hs ≡ take place hs ++ drop (suc place) hs
-
-abbrev pub GreatestRule : Type 0
-GreatestRule = (hs : List Hypothesis) (b : Hypothesis) → AllFinite hs → firstGreatest hs ≡ choice.Placement b → FirstGreatest hs b

@@ -2,23 +2,23 @@
 use mathlib.Core.Path.{_≡_}
 use mathlib.Core.Bool.{Bool, cond}
 use mathlib.Core.List.{List}
-use Prim.Native.Nat.{ℕ, zero, suc, _+_, _*_, _/_, _%_, _<_}
+use Prim.Native.Nat.{ℕ, _+_, _*_, _/_, _%_, _<_}
 use lib.Dec.{eqb}
 use lib.ListN.{getD}
 use lib.IntN.{pos, _-ℤ_}
 use lib.Ieee.{Float, nan}
 use Rattle.shot_record.specs.Shots.{Shot}
-use Rattle.hypothesis.specs.declared.Evidence.{Evidence}
-use Rattle.hypothesis.specs.declared.Evidence.the-variants as evidence
-use Rattle.hypothesis.specs.declared.Hypothesis.{Hypothesis}
+use Rattle.ranking.specs.declared.Evidence.{Evidence}
+use Rattle.ranking.specs.declared.Evidence.the-variants as evidence
+use Rattle.ranking.specs.declared.Hypothesis.{Hypothesis}
+use Rattle.ranking.specs.declared.Ranking.{Ranking}
+use Rattle.ranking.specs.Margin.{margin}
+use Rattle.ranking.specs.Ranking.{rankedTo}
 use Rattle.hypothesis.specs.declared.Frame.{Frame}
 use Rattle.hypothesis.specs.declared.Selection.{Selection}
-use Rattle.hypothesis.specs.declared.rank.Ranking.{Ranking}
 use Rattle.hypothesis.specs.declared.turns.Seen.{Seen}
 use Rattle.hypothesis.specs.Placements.{across, down, shifted}
 use Rattle.hypothesis.specs.Evidence.{reported}
-use Rattle.hypothesis.specs.Search.{margin}
-use Rattle.hypothesis.specs.Ranking.{ranked}
 
 -- Whether some cell contributes, of the placements that move the frame by n squares in all.
 abbrev pub seenAt : Seen → ℕ → Bool
@@ -36,11 +36,6 @@ Summed s r sums seen = (a b : ℕ) → a < across s r → b < down s r → evide
 abbrev pub movedTo : List Float → Seen → Frame → ℕ → ℕ → ℕ → ℕ → Hypothesis
 movedTo sums seen frame r d a b =
     record { alignment = record { turn = r; tx = pos a -ℤ frame .u; ty = pos b -ℤ frame .v }; evidence = evidenceAt sums seen d a b }
-
--- a ranking after f 0 to f (n − 1)
-unfoldable pub rankedTo : Ranking → (ℕ → Hypothesis) → ℕ → Ranking
-rankedTo k f zero = k
-rankedTo k f (suc n) = ranked (rankedTo k f n) (f n)
 
 -- after column a of a turn, and after the columns 0 to n − 1
 abbrev pub rankedColumn : Ranking → List Float → Seen → Frame → ℕ → ℕ → ℕ → Ranking

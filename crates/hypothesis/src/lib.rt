@@ -1,34 +1,18 @@
-// The search for the placement (hypothesis.rs). Leans on `integers`, `floats`, `matcher`, `grid_alignment`, `board`, `score_matrix` and `shot_record`.
+// The search for the placement (hypothesis.rs). Leans on `integers`, `floats`, `matcher`, `grid_alignment`, `board`, `score_matrix`,
+// `shot_record` and `ranking`.
 mod capacity;
 mod fill;
 mod framing;
-mod rank;
 mod reads;
 pub mod search;
 mod sums;
 mod turns;
 
 use board::Board;
-use grid_alignment::GridAlignment;
+use ranking::Choice;
+use ranking::Hypothesis;
 use score_matrix::BoardMatchConfig;
 use shot_record::fields::Fields;
-
-// The evidence of a placement. None lies below every number.
-pub enum Evidence {
-    Number(f32),
-    Absent,
-}
-
-// A placement, as an alignment of cells, and its evidence.
-pub struct Hypothesis {
-    pub alignment: GridAlignment,
-    pub evidence: Evidence,
-}
-
-pub enum Choice {
-    Placement(Hypothesis),
-    Absent,
-}
 
 // What the search is given beside the record: what was found in it once.
 pub struct Inputs {

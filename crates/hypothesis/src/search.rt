@@ -3,19 +3,19 @@ ghost use mathlib.Core.Path.{_≡_};
 ghost use mathlib.Core.List.{map};
 ghost use Prim.Native.Nat.{_+_, _-_, _<_};
 ghost use Rattle.shot_record.specs.Shots.{shot};
+ghost use Rattle.ranking.specs.Ranking.{rankingOf};
 ghost use Rattle.hypothesis.specs.Placements.{withTurnsBelow};
 ghost use Rattle.hypothesis.specs.Search.{hypothesis, enumerate};
-ghost use Rattle.hypothesis.specs.Ranking.{rankingOf};
 ghost use Rattle.hypothesis.specs.Inputs.{Loaded};
-use super::Choice;
 use super::Enumerated;
 use super::Inputs;
 use super::capacity;
 use super::fill;
 use super::fill::Turn;
 use super::framing;
-use super::rank::Ranking;
 use super::turns;
+use ranking::Choice;
+use ranking::Ranking;
 use score_matrix::turned;
 
 // In how many ways a frame of so many squares moves on a board side: 0 where it is too long.
@@ -76,7 +76,7 @@ fn search(
     requires { ⌜ Loaded (now bytes) inputs (now starts) (now table) (now codes) ⌝ }
     ensures { λ r. ⌜ r ≡ rankingOf (map (hypothesis (shot (now (bytes .entry)))) (withTurnsBelow (shot (now (bytes .entry))) 4)) ⌝ }
 {
-    let mut ranking = turns::no_ranking();
+    let mut ranking = ranking::no_ranking();
     let mut turn: u8 = 0;
     while turn < 4 {
         ranking = search_turn(ranking, bytes, inputs, starts, table, codes, turn);

@@ -1,19 +1,15 @@
 // The ranking of all placements of one turn, from their sums, and the answer that the last ranking makes. For the placement with its frame
-// moved by (a, b), where there are d moves down, the sum stands at place a d + b. Leans on `rank`.
+// moved by (a, b), where there are d moves down, the sum stands at place a d + b. Leans on `ranking`.
 ghost use mathlib.Core.Path.{_≡_};
-ghost use mathlib.Core.List.{[]};
 ghost use Prim.Native.Nat.{_<_, _≤_};
 ghost use lib.IntN.{pos, natAbs, _-ℤ_};
-ghost use Rattle.hypothesis.specs.Ranking.{rankingOf};
 ghost use Rattle.hypothesis.specs.Turns.{seenAt, evidenceAt, movedTo, rankedColumn, rankedTurn, selectionOf};
-use super::Choice;
-use super::Evidence;
 use super::Frame;
-use super::Hypothesis;
 use super::Selection;
-use super::rank;
-use super::rank::Ranking;
 use grid_alignment::GridAlignment;
+use ranking::Evidence;
+use ranking::Hypothesis;
+use ranking::Ranking;
 
 // Whether some cell contributes: a square holds a marker or not by parity, so all placements with the same parity of a + b agree on it.
 pub struct Seen {
@@ -88,14 +84,14 @@ fn rank_column(
     ensures { λ r. ⌜ r ≡ rankedColumn ranking (now (sums .entry)) seen frame turn down a ⌝ }
 {
     let mut held = ranking;
-    let mut bars = rank::bars_of(held);
+    let mut bars = ranking::bars_of(held);
     let mut b = 0;
     while b < down {
         let evidence = placement_sum(sums, seen, down, a, b);
-        if !rank::stays_behind(bars, evidence) {
+        if !ranking::stays_behind(bars, evidence) {
             let h = moved_to(sums, seen, frame, turn, down, a, b);
-            held = rank::ranked(held, h);
-            bars = rank::bars_of(held);
+            held = ranking::ranked(held, h);
+            bars = ranking::bars_of(held);
         }
         b += 1;
     }
@@ -130,17 +126,6 @@ pub fn rank_turn(
     held
 }
 
-// The ranking of no placement.
-pub fn no_ranking() -> Ranking
-    ensures { λ r. ⌜ r ≡ rankingOf [] ⌝ }
-{
-    Ranking {
-        best: Choice::Absent,
-        runner_up: Choice::Absent,
-        total: 0,
-    }
-}
-
 // The answer, where there is a best placement.
 pub fn selected(ranking: Ranking, best: Hypothesis, best_capacity: f32) -> Selection
     ensures { λ r. ⌜ r ≡ selectionOf ranking best «best_capacity» ⌝ }
@@ -151,6 +136,6 @@ pub fn selected(ranking: Ranking, best: Hypothesis, best_capacity: f32) -> Selec
         best,
         runner_up,
         total: ranking.total,
-        margin: rank::margin(evidence, best_capacity, runner_up),
+        margin: ranking::margin(evidence, best_capacity, runner_up),
     }
 }

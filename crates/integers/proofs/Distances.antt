@@ -1,14 +1,16 @@
 -- Order and distance of whole numbers, as inequalities of their parts, so that `omega` reads them. Assumes nothing.
-use mathlib.Core.Path.{_≡_, sym, ap, _∙_}
+use mathlib.Core.Path.{_≡_, sym, ap, subst, _∙_}
 use mathlib.Core.Logic.{_⊎_, inl, inr}
-use mathlib.Core.Bool.{Bool, true, false, not}
-use Prim.Native.Nat.{ℕ, _+_, _*_, _≤_, _<_}
+use mathlib.Core.Bool.{Bool, true, false, not, false≢true}
+use Prim.Native.Nat.{ℕ, zero, suc, _+_, _*_, _≤_, _<_, zero-le}
 use native.Mathlib.Nat.{le-trans, le-of-eq, mul-comm, mul-le-mul-right}
 use native.Mathlib.Omega.{arith}
-use lib.Dec.{T, ltb, ltb→lt, lt→ltb, nltb→le}
-use lib.Signed.{ltZ}
-use lib.IntN.{ℤ, pos, negsuc, natAbs, _+ℤ_, _-ℤ_, _*ℤ_, *ℤ-comm}
-use Rattle.integers.specs.Distance.{Within}
+use lib.Dec.{T, ltb, leb, ltb→lt, lt→ltb, nltb→le, leb→le}
+use lib.Signed.{ltZ, leZ}
+use lib.IntN.{ℤ, pos, negsuc, negℤ, natAbs, _+ℤ_, _-ℤ_, _*ℤ_, *ℤ-comm}
+use lib.Ieee.Fits.{and-l, and-r}
+use borrow.Author.Tests.{le-leb}
+use Rattle.integers.specs.Distance.{Within, within}
 use Rattle.integers.proofs.Parts.{plus, minus, Is, add-is, sub-is-parts, mul-is, abs-is, abs-mul, parts-le, ext}
 
 -- ---- the order
@@ -106,3 +108,15 @@ lt-or-le a b = go (ltb a b) (ltb→lt a b) (nltb→le a b)
     go : (t : Bool) → (T t → a < b) → (T (not t) → b ≤ a) → (a < b) ⊎ (b ≤ a)
     go true l m = inl (l tt)
     go false l m = inr (m tt)
+
+-- ---- from −m to m
+pub within-abs : (m : ℕ) (z : ℤ) → within m z ≡ true → natAbs z ≤ m
+within-abs m (pos n) e = leb→le n m (and-r (leZ (negℤ (pos m)) (pos n)) (leb n m) (subst T (sym e) tt))
+within-abs zero (negsuc n) e = absurd (false≢true e)
+within-abs (suc m) (negsuc n) e = let h = leb→le n m (and-l (leb n m) true (subst T (sym e) tt)) in omega (arith, h)
+
+pub abs-within : (m : ℕ) (z : ℤ) → natAbs z ≤ m → within m z ≡ true
+abs-within zero (pos n) h = rw (le-leb n 0 h, le-leb 0 n zero-le)
+abs-within (suc m) (pos n) h = le-leb n (suc m) h
+abs-within zero (negsuc n) h = absurd (omega arith)
+abs-within (suc m) (negsuc n) h = rw (le-leb n m (omega arith))

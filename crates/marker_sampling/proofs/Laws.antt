@@ -1,6 +1,6 @@
 -- The whole cells of the definition are in order, complete and without repeats, and its places are those of all points in range.
 -- Assumes nothing.
-use mathlib.Core.Path.{_≡_, refl, sym, ap, ap₂, _∙_}
+use mathlib.Core.Path.{_≡_, refl, sym, ap, ap₂, subst, _∙_}
 use mathlib.Core.Bool.{Bool, true, false, false≢true}
 use mathlib.Core.List.{List, [], _∷_, _++_, map, append-nil}
 use mathlib.Core.Logic.{_⊎_, inl, inr}
@@ -13,31 +13,32 @@ use lib.ListN.{length, getD, length-append, List·getD-append}
 use lib.Seq.{getD-at}
 use Rattle.grid_alignment.specs.declared.Coord.{Coord}
 use Rattle.grid_alignment.specs.Alignment.{point}
-use Rattle.marker_sampling.specs.Cells.{Corners, whole, pointAt, kept, cellsBefore}
+use Rattle.marker_sampling.specs.Cells.{whole, pointAt, kept, cellsBefore}
 use Rattle.marker_sampling.specs.Keys.{side}
 use Rattle.marker_sampling.specs.Rules.{InOrder, CellsInOrder, EveryPoint}
 use Rattle.marker_sampling.proofs.Tests.{offset-of, offset-small, offset-back, offset-only}
 
-map-snoc : (f : ℕ → Coord) (xs : List ℕ) (x : ℕ) → map f (xs ++ x ∷ []) ≡ map f xs ++ f x ∷ []
-map-snoc f [] x = refl
-map-snoc f (y ∷ ys) x = ap (λ (l : List Coord). f y ∷ l) (map-snoc f ys x)
+module _ {A : Type 0} where
+  map-snoc : (f : ℕ → A) (xs : List ℕ) (x : ℕ) → map f (xs ++ x ∷ []) ≡ map f xs ++ f x ∷ []
+  map-snoc f [] x = refl
+  map-snoc f (y ∷ ys) x = ap (λ (l : List A). f y ∷ l) (map-snoc f ys x)
 
-module _ (m : ℕ) (c : Corners) (inliers : List ℕ) where
-  skip : (n : ℕ) → whole c inliers (pointAt m n) ≡ false → InOrder m c inliers n → InOrder m c inliers (suc n)
-  unfolding cellsBefore
-  skip n e h = record {
-    places = h .places;
-    are = ap (λ (b : Bool). cellsBefore m c inliers n ++ kept b (pointAt m n)) e ∙ append-nil _ ∙ h .are;
-    sound = λ i l. let s = h .sound i l in (omega arith, s .1);
-    complete = λ r l t. go r t (eq-or-lt-of-le (le-of-suc-le-suc l));
-    rising = h .rising;
-  }
-    where
-      go : (r : ℕ) → whole c inliers (pointAt m r) ≡ true → (r ≡ n) ⊎ (r < n) → (i : ℕ) × (i < length (h .places)) × (getD (h .places) i 0 ≡ r)
-      go r t (inl q) = absurd (false≢true (sym e ∙ ap (λ (k : ℕ). whole c inliers (pointAt m k)) (sym q) ∙ t))
-      go r t (inr l) = h .complete r l t
+-- ---- a list to which each place adds its element, if the place passes a test
+module _ {A : Type 0} (test : ℕ → Bool) (element : ℕ → A) (before : ℕ → List A) where
+  module _ (n : ℕ) (h : InOrder test element n (before n)) where
+    skip : test n ≡ false → InOrder test element (suc n) (before n)
+    skip e = record {
+      places = h .places;
+      are = h .are;
+      sound = λ i l. let s = h .sound i l in (omega arith, s .1);
+      complete = λ r l t. go r t (eq-or-lt-of-le (le-of-suc-le-suc l));
+      rising = h .rising;
+    }
+      where
+        go : (r : ℕ) → test r ≡ true → (r ≡ n) ⊎ (r < n) → (i : ℕ) × (i < length (h .places)) × (getD (h .places) i 0 ≡ r)
+        go r t (inl q) = absurd (false≢true (sym e ∙ ap test (sym q) ∙ t))
+        go r t (inr l) = h .complete r l t
 
-  module _ (n : ℕ) (e : whole c inliers (pointAt m n) ≡ true) (h : InOrder m c inliers n) where
     abbrev more : List ℕ
     more = h .places ++ n ∷ []
 
@@ -53,11 +54,7 @@ module _ (m : ℕ) (c : Corners) (inliers : List ℕ) where
     split : (i : ℕ) → i < length more → (i ≡ length (h .places)) ⊎ (i < length (h .places))
     split i l = eq-or-lt-of-le (omega (arith, long))
 
-    sound-more : (i : ℕ) → (i ≡ length (h .places)) ⊎ (i < length (h .places)) → (getD more i 0 < suc n) × (whole c inliers (pointAt m (getD more i 0)) ≡ true)
-    sound-more i (inl q) = rw (new i q) (omega arith, e)
-    sound-more i (inr l) = let s = h .sound i l in rw (old i l) (omega arith, s .1)
-
-    complete-more : (r : ℕ) → whole c inliers (pointAt m r) ≡ true → (r ≡ n) ⊎ (r < n) → (i : ℕ) × (i < length more) × (getD more i 0 ≡ r)
+    complete-more : (r : ℕ) → test r ≡ true → (r ≡ n) ⊎ (r < n) → (i : ℕ) × (i < length more) × (getD more i 0 ≡ r)
     complete-more r t (inl q) = (length (h .places), omega (arith, long), new (length (h .places)) refl ∙ sym q)
     complete-more r t (inr l) = let f = h .complete r l t in (f .0, omega (arith, long, f .1), old (f .0) (f .1) ∙ f .2)
 
@@ -65,28 +62,31 @@ module _ (m : ℕ) (c : Corners) (inliers : List ℕ) where
     rising-more i j l (inl q) = let k : i < length (h .places) = omega arith in rw (new j q, old i k) (h .sound i k .0)
     rising-more i j l (inr k) = let k' : i < length (h .places) = omega arith in rw (old i k', old j k) (h .rising i j l k)
 
-    add : InOrder m c inliers (suc n)
-    unfolding cellsBefore
-    add = record {
+    add : test n ≡ true → InOrder test element (suc n) (before n ++ element n ∷ [])
+    add e = record {
       places = more;
-      are =
-          ap₂ (λ (l : List Coord) (b : Bool). l ++ kept b (pointAt m n)) (h .are) e ∙ sym (map-snoc (pointAt m) (h .places) n);
+      are = ap (λ (l : List A). l ++ element n ∷ []) (h .are) ∙ sym (map-snoc element (h .places) n);
       sound = λ i l. sound-more i (split i l);
       complete = λ r l t. complete-more r t (eq-or-lt-of-le (le-of-suc-le-suc l));
       rising = λ i j l k. rising-more i j l (split j k);
     }
+      where
+        sound-more : (i : ℕ) → (i ≡ length (h .places)) ⊎ (i < length (h .places)) → (getD more i 0 < suc n) × (test (getD more i 0) ≡ true)
+        sound-more i (inl q) = rw (new i q) (omega arith, e)
+        sound-more i (inr l) = let s = h .sound i l in rw (old i l) (omega arith, s .1)
 
-  in-order : (n : ℕ) → InOrder m c inliers n
-  unfolding cellsBefore
-  in-order zero = record { places = []; are = refl; sound = λ i l. absurd (omega arith); complete = λ r l t. absurd (omega arith); rising = λ i j l k. absurd (omega arith) }
-  in-order (suc n) = go (whole c inliers (pointAt m n)) refl (in-order n)
-    where
-      go : (b : Bool) → whole c inliers (pointAt m n) ≡ b → InOrder m c inliers n → InOrder m c inliers (suc n)
-      go true e h = add n e h
-      go false e h = skip n e h
+    next : (b : Bool) → test n ≡ b → InOrder test element (suc n) (before n ++ kept b (element n))
+    next true e = add e
+    next false e = subst (InOrder test element (suc n)) (sym (append-nil (before n))) (skip e)
+
+  pub in-order : before 0 ≡ [] → ((n : ℕ) → before (suc n) ≡ before n ++ kept (test n) (element n)) → (n : ℕ) → InOrder test element n (before n)
+  in-order e f zero = record { places = []; are = e; sound = λ i l. absurd (omega arith); complete = λ r l t. absurd (omega arith); rising = λ i j l k. absurd (omega arith) }
+  in-order e f (suc n) = subst (InOrder test element (suc n)) (sym (f n)) (next n (in-order e f n) (test n) refl)
 
 pub cells-in-order : CellsInOrder
-cells-in-order m c inliers = in-order m c inliers (side m * side m)
+unfolding cellsBefore
+cells-in-order m c inliers =
+    in-order (λ r. whole c inliers (pointAt m r)) (pointAt m) (cellsBefore m c inliers) refl (λ n. refl) (side m * side m)
 
 pub every-point : EveryPoint
 every-point m p hu hv =

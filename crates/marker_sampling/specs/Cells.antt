@@ -59,7 +59,7 @@ abbrev pub pointAt : ℕ → ℕ → Coord
 pointAt m r = point (pos (r % (2 * m + 1)) -ℤ pos m) (pos (r / (2 * m + 1)) -ℤ pos m)
 
 -- the whole cells among the first places
-abbrev pub kept : Bool → Coord → List Coord
+abbrev pub kept : {A : Type 0} → Bool → A → List A
 kept true p = p ∷ []
 kept false p = []
 

@@ -1,26 +1,26 @@
 -- What `proofs/Laws.antt` shows of the definitions, for every m, all corners and all inliers.
 use mathlib.Core.Path.{_≡_}
-use mathlib.Core.Bool.{true}
+use mathlib.Core.Bool.{Bool, true}
 use mathlib.Core.List.{List, map}
 use Prim.Native.Nat.{ℕ, _*_, _<_}
 use lib.ListN.{length, getD}
 use Rattle.grid_alignment.specs.declared.Coord.{Coord}
-use Rattle.marker_sampling.specs.Cells.{Corners, whole, pointAt, cellsBefore}
+use Rattle.marker_sampling.specs.Cells.{Corners, whole, pointAt, cells}
 use Rattle.integers.specs.Distance.{within}
 use Rattle.marker_sampling.specs.Keys.{side}
 
--- the whole cells among the first n places are the points at some of these places: whole, all that are whole, and in order, so that
--- none comes twice
-pub record InOrder (m : ℕ) (c : Corners) (inliers : List ℕ) (n : ℕ) : Type 0 where
+-- Of a list: its elements are those of some places below n, each of these passes a test, all places that pass are among them, and they rise, so
+-- that none comes twice.
+pub record InOrder {A : Type 0} (test : ℕ → Bool) (element : ℕ → A) (n : ℕ) (l : List A) : Type 0 where
   pub places : List ℕ
-  pub are : cellsBefore m c inliers n ≡ map (pointAt m) places
-  pub sound : (i : ℕ) → i < length places → (getD places i 0 < n) × (whole c inliers (pointAt m (getD places i 0)) ≡ true)
-  pub complete : (r : ℕ) → r < n → whole c inliers (pointAt m r) ≡ true → (i : ℕ) × (i < length places) × (getD places i 0 ≡ r)
+  pub are : l ≡ map element places
+  pub sound : (i : ℕ) → i < length places → (getD places i 0 < n) × (test (getD places i 0) ≡ true)
+  pub complete : (r : ℕ) → r < n → test r ≡ true → (i : ℕ) × (i < length places) × (getD places i 0 ≡ r)
   pub rising : (i j : ℕ) → i < j → j < length places → getD places i 0 < getD places j 0
 
--- so are all of them: `cells` has the places below (2m + 1)²
+-- so are the whole cells, of all places: `cells` has those below (2m + 1)²
 abbrev pub CellsInOrder : Type 0
-CellsInOrder = (m : ℕ) (c : Corners) (inliers : List ℕ) → InOrder m c inliers (side m * side m)
+CellsInOrder = (m : ℕ) (c : Corners) (inliers : List ℕ) → InOrder (λ r. whole c inliers (pointAt m r)) (pointAt m) (side m * side m) (cells m c inliers)
 
 -- a point with u and v from −m to m has exactly one place
 pub record OnePlace (m : ℕ) (p : Coord) : Type 0 where

@@ -4,7 +4,7 @@ ghost use mathlib.Core.Path.{_≡_};
 ghost use Rattle.marker_sampling.specs.Entry.{cornersAnswer, markerCells, markerCellsList};
 
 mod corner_map;
-mod questions;
+pub mod questions;
 mod sort;
 mod walk;
 

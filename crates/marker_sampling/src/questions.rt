@@ -18,10 +18,12 @@ pub fn word(grid: &[i32], at: usize) -> i32
     0
 }
 
-fn within(z: i32) -> bool
-    ensures { λ r. ⌜ r ≡ within 4096 z ⌝ }
+// Does a number lie from −limit to limit?
+pub fn within(limit: u16, z: i32) -> bool
+    ensures { λ r. ⌜ r ≡ within limit z ⌝ }
 {
-    -4096 <= z && z <= 4096
+    let most = limit as i32;
+    -most <= z && z <= most
 }
 
 // Has corner k a grid point?
@@ -40,10 +42,10 @@ fn placed(grid: &[i32], k: usize) -> bool
     if !labelled(grid, k) {
         return true;
     }
-    if !within(word(grid, 3 * k + 1)) {
+    if !within(4096, word(grid, 3 * k + 1)) {
         return false;
     }
-    within(word(grid, 3 * k + 2))
+    within(4096, word(grid, 3 * k + 2))
 }
 
 pub fn all_placed(count: usize, grid: &[i32]) -> bool

@@ -1,6 +1,6 @@
-// The C functions by which the Rust oracle asks our library, for one number each, all scores of a cell, a list of cells, or a match. For
-// tests only. Every function accepts every number and list. Leans on `refusal`, `matcher`, `grid_alignment`, `board`, `score_matrix`,
-// `shot_record`, `marker_sampling`, `hypothesis` and `board_match`, and for proofs on `integers` and `floats`.
+// The C functions by which the Rust oracle asks for what no entry tells by itself: one number each, or all scores of a cell. The entries it asks
+// through `charuco`. For tests only. Every function accepts every number and list. Leans on `refusal`, `matcher`, `grid_alignment`, `board`,
+// `score_matrix` and `shot_record`, and for proofs on `integers` and `floats`.
 ghost use mathlib.Core.Path.{_≡_};
 ghost use Prim.Native.Nat.{_%_};
 ghost use Rattle.matcher.specs.Codes.{turnedWord, differing};
@@ -18,8 +18,6 @@ use board::Surrounding;
 use grid_alignment::Coord;
 use grid_alignment::GridAlignment;
 
-mod marker_cells;
-mod matches;
 mod records;
 mod scores;
 

@@ -5,8 +5,8 @@ use lib.ListN.{length, getD}
 use mir.Syntax.{w32}
 use mir.Val.{SFits}
 use Rattle.grid_alignment.specs.declared.GridAlignment.{GridAlignment}
-use Rattle.hypothesis.specs.declared.Choice.{Choice}
-use Rattle.hypothesis.specs.declared.Choice.the-variants as choice
+use Rattle.ranking.specs.declared.Choice.{Choice}
+use Rattle.ranking.specs.declared.Choice.the-variants as choice
 use Rattle.board_match.specs.declared.Match.{Match}
 use Rattle.board_match.specs.declared.Matched.{Matched}
 use Rattle.board_match.specs.declared.Matched.the-variants as matched

@@ -1,5 +1,5 @@
 // The text of an answer of Match, as the program `place` prints it (document 01). Leans on `refusal`, `floats`, `grid_alignment`,
-// `hypothesis` and `board_match`.
+// `ranking` and `board_match`.
 ghost use mathlib.Core.Path.{_≡_};
 ghost use Prim.Native.Nat.{min};
 ghost use lib.ListN.{length};

@@ -5,8 +5,8 @@ ghost use Rattle.place_text.specs.Text.{line, float, evidenceWord, nextL
 ghost use Rattle.place_text.specs.Writing.{Put};
 use super::words;
 use super::writer;
-use hypothesis::Choice;
-use hypothesis::Evidence;
+use ranking::Choice;
+use ranking::Evidence;
 use refusal::Refusal;
 
 pub fn put_hypothesis(

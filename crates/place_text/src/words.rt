@@ -4,7 +4,7 @@ ghost use Rattle.place_text.specs.Numerals.{hex8, decimal, signed, signe
 ghost use Rattle.place_text.specs.Text.{evidenceWord};
 ghost use Rattle.place_text.specs.Writing.{Put};
 use super::writer;
-use hypothesis::Evidence;
+use ranking::Evidence;
 
 pub fn and_decimal(text: &mut [u8], at: usize, n: u64) -> usize
     ensures { λ r. ⌜ Put (32 ∷ decimal n) at r (now (text .entry)) (now (text .exit)) ⌝ }

@@ -4,9 +4,9 @@ ghost use lib.ListN.{length};
 use crate::layout;
 use crate::scores;
 use board::Board;
-use board::CharucoBoardSpec;
 use board::NewBoard;
 use grid_alignment::GridAlignment;
+use stored_rows::boards;
 use stored_rows::tally;
 use stored_rows::tally::Outcome;
 use stored_rows::values;
@@ -155,43 +155,12 @@ fn answers_of(board: NewBoard) -> [u64; 3]
     ]
 }
 
-// Zeros, but for `value` at `place` if there is such a place. The caller lends as many of them as there are codes.
-fn code_list(place: u64, value: u64) -> [u64; 1025]
-    ensures { λ r. ⌜ 1025 ≡ length r ⌝ }
-{
-    let mut codes = [0; 1025];
-    if place < 1025 {
-        codes[place as usize] = value;
-    }
-    codes
-}
-
-// The most that the kind, the six arguments of 32 bits and the count of codes may be: there is room for no more codes.
-const MOST: [u64; 8] = [
-    3,
-    0xFFFF_FFFF,
-    0xFFFF_FFFF,
-    0xFFFF_FFFF,
-    0xFFFF_FFFF,
-    0xFFFF_FFFF,
-    0xFFFF_FFFF,
-    1025,
-];
-
 fn new_board(words: [u64; 32]) -> bool {
-    if !values::within(words, MOST) {
+    if !boards::is_asked(words) {
         return false;
     }
-    let spec = CharucoBoardSpec {
-        rows: words[1] as u32,
-        cols: words[2] as u32,
-        bits: words[3] as u32,
-        border_bits: words[4] as u32,
-        cell_size: floats::from_bits(words[5] as u32),
-        marker_size_rel: floats::from_bits(words[6] as u32),
-    };
-    let count = words[7] as usize;
-    let codes = code_list(words[8], words[9]);
-    let answers = answers_of(Board::new(spec, &codes[..count]));
+    let count = boards::code_count(words);
+    let codes = boards::code_list(words);
+    let answers = answers_of(Board::new(boards::spec_of(words), &codes[..count]));
     values::same_words(&answers, words, 10)
 }

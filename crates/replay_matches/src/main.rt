@@ -1,10 +1,9 @@
 // Asks our library for the matches of the file `stdin`, and prints how many answers agree.
-// Leans on `refusal`, `floats`, `grid_alignment`, `hypothesis`, `board_match` and `stored_rows`.
+// Leans on `charuco` and `stored_rows`.
 mod effect;
 mod matches;
 mod records;
 mod rows;
-mod words;
 
 use stored_rows::input;
 use stored_rows::print::print_all;

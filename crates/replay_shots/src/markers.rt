@@ -1,7 +1,7 @@
 // Kind 9: the cells entry, on the corners and inliers that stand there.
 use crate::effect::Sizes;
-use crate::lists;
 use marker_sampling::MarkerCells;
+use stored_rows::corners;
 use stored_rows::digest;
 
 // What stands at place i of the list before it is lent.
@@ -16,7 +16,7 @@ fn fill(cells: &mut [i32]) {
     let end = cells.len();
     let mut i = 0;
     while i < end {
-        lists::put_word(cells, i, filling(i));
+        corners::put_word(cells, i, filling(i));
         i += 1;
     }
 }

@@ -6,9 +6,10 @@ use native.Mathlib.Omega.{arith}
 use mathlib.Core.List.{List, []}
 use lib.ListN.{length, getD, take, drop}
 use borrow.Author.Tests.{lt-ltb}
+use Rattle.shot_record.specs.declared.cells.Part.{Part}
 use Rattle.shot_record.specs.Fields.{bitsOf, borderOf, gridSize, cellCount, sampled, cellLength, cellAt}
 use Rattle.shot_record.specs.Shots.{Cell, sampleAt, cellOf, shot}
-use Rattle.shot_record.specs.Answers.{gridWith, startOf, starts}
+use Rattle.shot_record.specs.Answers.{gridWith, partWith, startOf, starts}
 use Rattle.shot_record.specs.Writing.{FitCell}
 use Rattle.shot_record.proofs.Lists.{length-list, getD-list}
 use Rattle.shot_record.proofs.Reading.{Small, starts-rise}
@@ -23,6 +24,13 @@ without-grid b grid at bytes e = rw e refl
 pub with-grid : (b grid at : ℕ) (bytes : List ℕ) → (b ≡ 0 → ⊥) → take grid (drop (at + 9) bytes) ≡ gridWith (sampleAt b grid at bytes)
 with-grid zero grid at bytes h = absurd (h refl)
 with-grid (suc b) grid at bytes h = refl
+
+pub without-part : (b grid at : ℕ) (bytes : List ℕ) → b ≡ 0 → _≡_ {A = Part} (record { first = 0; end = 0 }) (partWith at grid (sampleAt b grid at bytes))
+without-part b grid at bytes e = rw e refl
+
+pub with-part : (b grid at : ℕ) (bytes : List ℕ) → (b ≡ 0 → ⊥) → _≡_ {A = Part} (record { first = at + 9; end = at + 9 + grid }) (partWith at grid (sampleAt b grid at bytes))
+with-part zero grid at bytes h = absurd (h refl)
+with-part (suc b) grid at bytes h = refl
 
 sampled-size : (b grid : ℕ) → (b ≡ 0 → ⊥) → cellLength b grid ≡ 9 + grid
 sampled-size zero grid h = absurd (h refl)

@@ -7,7 +7,7 @@ use mathlib.Core.List.{List, [], _∷_}
 use mathlib.Core.Option.{none, some}
 use lib.ListN.{length, getD}
 use Rattle.shot_record.specs.Shots.{list}
-use Rattle.shot_record.specs.Answers.{nth}
+use Rattle.lent_list.specs.Places.{nth}
 
 module _ {A : Type 0} where
   pub length-list : (f : ℕ → A) (n : ℕ) → length (list f n) ≡ n

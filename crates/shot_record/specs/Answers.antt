@@ -1,12 +1,13 @@
 -- What the reader answers, from the shot that the record holds: each field, absent past the last, refused without a shot.
 use mathlib.Core.Path.{_≡_}
-use Prim.Native.Nat.{ℕ, zero, suc}
+use Prim.Native.Nat.{ℕ, zero, suc, _+_}
 use mathlib.Core.Bool.{true}
 use mathlib.Core.List.{List, [], _∷_}
 use mathlib.Core.Option.{Option, none, some}
 use lib.Dec.{ltb}
 use lib.ListN.{length}
 use lib.Ieee.{Float, binary32, ofBits}
+use Rattle.lent_list.specs.Places.{nth}
 use Rattle.board.specs.declared.CharucoBoardSpec.{CharucoBoardSpec}
 use Rattle.score_matrix.specs.declared.BoardMatchConfig.{BoardMatchConfig}
 use Rattle.refusal.specs.declared.Refusal.the-variants as refusal
@@ -21,14 +22,9 @@ use Rattle.shot_record.specs.declared.ReadCell.{ReadCell}
 use Rattle.shot_record.specs.declared.ReadCell.the-variants as cell
 use Rattle.matcher.specs.Codes.{pick}
 use Rattle.shot_record.specs.declared.fields.Fields.{Fields}
-use Rattle.shot_record.specs.Fields.{fieldsOf, mapByte, cellCount, cellAt}
+use Rattle.shot_record.specs.declared.cells.Part.{Part}
+use Rattle.shot_record.specs.Fields.{fieldsOf, mapByte, cellCount, gridSize, cellAt}
 use Rattle.shot_record.specs.Shots.{Sample, Cell, Shot, list, whole, parse}
-
--- the element at a place
-unfoldable pub nth : {A : Type 0} → List A → ℕ → Option A
-nth [] k = none
-nth (x ∷ xs) zero = some x
-nth (x ∷ xs) (suc k) = nth xs k
 
 -- the f32 of a pattern
 abbrev pub float : ℕ → Float
@@ -93,6 +89,19 @@ gridRead (some c) = gridWith (c .sample)
 abbrev pub gridAnswer : Option Shot → ℕ → List ℕ
 gridAnswer none k = []
 gridAnswer (some s) k = gridRead (nth (s .cells) k)
+
+-- Where in the record that grid is, for a cell that starts at a place: no bytes from the first on where there is no grid.
+abbrev pub partWith : ℕ → ℕ → Option Sample → Part
+partWith at size none = record { first = 0; end = 0 }
+partWith at size (some s) = record { first = at + 9; end = at + 9 + size }
+
+abbrev pub partRead : ℕ → ℕ → Option Cell → Part
+partRead at size none = record { first = 0; end = 0 }
+partRead at size (some c) = partWith at size (c .sample)
+
+abbrev pub partAnswer : List ℕ → Option Shot → ℕ → Part
+partAnswer bytes none k = record { first = 0; end = 0 }
+partAnswer bytes (some s) k = partRead (cellAt bytes k) (gridSize (s .bits) (s .border)) (nth (s .cells) k)
 
 -- Where each of the first 256 cells starts, in 16 bits: 0 for an absent cell, and for a start that a record of at most 65,535 bytes
 -- cannot have.

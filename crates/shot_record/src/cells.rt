@@ -6,7 +6,7 @@ ghost use lib.Dec.{ltb};
 ghost use lib.ListN.{take, drop};
 ghost use Rattle.shot_record.specs.Fields.{fieldsOf, cellCount, cellMap, sampled as sampledAt, cellLength, cellAt};
 ghost use Rattle.shot_record.specs.Shots.{whole, parse, cellFrom, cellOf};
-ghost use Rattle.shot_record.specs.Answers.{cellRead, gridRead, gridAnswer, narrow as narrowed, starts as startsOf, Indexed};
+ghost use Rattle.shot_record.specs.Answers.{cellRead, gridRead, gridAnswer, partAnswer, narrow as narrowed, starts as startsOf, Indexed};
 use super::ReadCell;
 use super::fields;
 use super::fields::Fields;
@@ -115,6 +115,7 @@ pub struct Part {
 pub fn grid_part(bytes: &[u8], k: usize) -> Part
     ensures lies { λ r. do ⌜ (r .first ≤ r .end) × (r .end ≤ (← ⟦bytes.len()⟧ .entry)) ⌝ }
     ensures holds { λ r. ⌜ take (r .end - r .first) (drop (r .first) (now (bytes .entry))) ≡ gridAnswer (parse (now (bytes .entry))) k ⌝ }
+    ensures place { λ r. ⌜ r ≡ partAnswer (now (bytes .entry)) (parse (now (bytes .entry))) k ⌝ }
 {
     let f = fields::locate(bytes);
     if !is_whole(bytes, f) {

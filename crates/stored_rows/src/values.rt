@@ -43,6 +43,25 @@ pub fn same_float(x: f32, w: u64) -> bool {
     floats::to_bits(x) == floats::to_bits(floats::from_bits(w as u32))
 }
 
+// The signed number with these 32 bits; 0 for a longer word. The complement of n is −1 − n.
+pub fn signed_of(w: u64) -> i32 {
+    if 0xFFFF_FFFF < w {
+        return 0;
+    }
+    if w < 0x8000_0000 {
+        return w as i32;
+    }
+    !((0xFFFF_FFFF - w) as i32)
+}
+
+// The f32 with these 32 bits; 0 for a longer word.
+pub fn float_of(w: u64) -> f32 {
+    if 0xFFFF_FFFF < w {
+        return 0.0;
+    }
+    floats::from_bits(w as u32)
+}
+
 // Is none of the first eight words above the one at its place in `most`?
 pub fn within(words: [u64; 32], most: [u64; 8]) -> bool
     ensures { λ r. ⌜ (r ≡ true → AtMost words most) ⌝ }

@@ -6,11 +6,14 @@ use Rattle.grid_alignment.specs.Alignment.{sends, lowest}
 use Rattle.board.specs.Numbering.{count, numberAt, numberAtℤ, search}
 use Rattle.shot_record.specs.Shots.{list}
 use Rattle.hypothesis.specs.Placements.{leastTo, greatestTo, frame, withTurnsBelow, placements}
+use Rattle.lent_list.specs.Front.{upTo}
+use Rattle.link_check.specs.Links.{anyBelow}
+use Rattle.link_check.specs.Violations.{expectation, without}
 use Rattle.worked_examples.specs.Table.{Table}
 use Rattle.worked_examples.proofs.Refused.{refused-5, record-refused}
 
 pub table : Table
-unfolding fromBits source sends lowest count numberAt numberAtℤ search ofBits toBits ofInt neg sub mul div le lt eq list leastTo greatestTo frame withTurnsBelow placements
+unfolding fromBits source sends lowest count numberAt numberAtℤ search ofBits toBits ofInt neg sub mul div le lt eq list leastTo greatestTo frame withTurnsBelow placements upTo anyBelow expectation without
 table =
     record {
       P1 = (refl, refl);
@@ -20,6 +23,7 @@ table =
       P5 = (refl, refl, refl, refl);
       P6 = (refl, refl, refl, refl);
       P7 = (refl, refl, refl, refl);
+      P8 = (refl, refl);
       P9 = (λ capacity next. refl, λ capacity. refl, λ p. refl);
       P10 = refl;
       P11 = (λ s first second. (refl, refl), λ s first second. (refl, refl), refused-5, record-refused, refl);

@@ -1,4 +1,4 @@
--- Document 01, "Proved table": its rows, all but P8 (the links), as statements about the definitions.
+-- Document 01, "Proved table": its rows P1 to P12, as statements about the definitions.
 use mathlib.Core.Path.{_≡_}
 use Prim.Native.Nat.{ℕ, _≤_}
 use mathlib.Core.Bool.{true}
@@ -21,15 +21,21 @@ use Rattle.score_matrix.specs.Weights.{weight}
 use Rattle.score_matrix.specs.Table.{patterns}
 use Rattle.shot_record.specs.Shots.{Sample, Cell, Shot, defaultMargin, defaultThreshold, defaultPx}
 use Rattle.shot_record.specs.Writing.{bytesOf}
-use Rattle.hypothesis.specs.declared.Evidence.the-variants as evidence
-use Rattle.hypothesis.specs.declared.Hypothesis.{Hypothesis}
-use Rattle.hypothesis.specs.declared.Choice.{Choice}
-use Rattle.hypothesis.specs.declared.Choice.the-variants as choice
+use Rattle.ranking.specs.declared.Evidence.the-variants as evidence
+use Rattle.ranking.specs.declared.Hypothesis.{Hypothesis}
+use Rattle.ranking.specs.declared.Choice.{Choice}
+use Rattle.ranking.specs.declared.Choice.the-variants as choice
+use Rattle.ranking.specs.Margin.{margin}
 use Rattle.hypothesis.specs.Placements.{placements}
 use Rattle.hypothesis.specs.Rules.{countOf}
-use Rattle.hypothesis.specs.Search.{margin}
 use Rattle.board_match.specs.declared.Matched.the-variants as matched
 use Rattle.board_match.specs.Match.{askedFrom15, matchAnswer}
+use Rattle.link_check.specs.declared.LinkCheckMode.{LinkCheckMode}
+use Rattle.link_check.specs.declared.LinkCheckMode.the-variants as mode
+use Rattle.link_check.specs.declared.LinkViolationKind.{LinkViolationKind}
+use Rattle.link_check.specs.declared.LinkViolationKind.the-variants as kind
+use Rattle.link_check.specs.Links.{linkCount}
+use Rattle.link_check.specs.Violations.{Violation, expectation, violations}
 
 -- an alignment
 abbrev pub align : ℕ → ℤ → ℤ → GridAlignment
@@ -103,6 +109,18 @@ tooWide =
       cells = twoCells 5 none none;
     }
 
+-- P8's links: a marker and a corner each
+abbrev pub links : List ℕ
+links = 3 ∷ 1 ∷ 3 ∷ 1 ∷ 3 ∷ 9 ∷ []
+
+-- an entry of marker 3, whose corners are P7's
+abbrev pub entry : LinkViolationKind → Option ℕ → List ℕ → Violation
+entry k reported missing =
+    record { marker = 3; kind = k; reported = reported; expected = 1 ∷ 2 ∷ 6 ∷ 5 ∷ []; missing = missing }
+
+abbrev pub violationsIn : LinkCheckMode → List Violation
+violationsIn m = violations links (linkCount links) m (expectation odd 4 5)
+
 pub record Table : Type 0 where
   -- 2 by 2 board: marker 0 at (1, 0), 1 at (0, 1)
   pub P1 : (squareOf odd 2 2 0 ≡ located.At 1 0) × (squareOf odd 2 2 1 ≡ located.At 0 1)
@@ -126,6 +144,10 @@ pub record Table : Type 0 where
   pub P7 :
       (fourCorners odd 4 5 3 ≡ surrounding.Corners 1 2 6 5) × (squareOf odd 4 5 2 ≡ located.At 0 1) × (fourCorners odd 4 5 2 ≡ surrounding.Absent)
       × (squareOf odd 4 5 10 ≡ located.Absent)
+  -- there, links (3, 1), (3, 1), (3, 9): 9 not in neighbourhood, then 1 repeated; all-four mode adds missing 2, 6, 5
+  pub P8 :
+      (violationsIn mode.SubsetOk ≡ entry kind.CornerNotInNeighborhood (some 9) [] ∷ entry kind.DuplicateCorner (some 1) [] ∷ [])
+      × (violationsIn mode.MustMatchAll4 ≡ entry kind.CornerNotInNeighborhood (some 9) [] ∷ entry kind.DuplicateCorner (some 1) [] ∷ entry kind.MissingCorners none (2 ∷ 6 ∷ 5 ∷ []) ∷ [])
   -- margins: best 0 gives 0; best 2 with runner-up absent gives 1; best 2, runner-up −6, capacity 4 gives 2
   pub P9 :
       ((capacity : Float) (next : Choice) → margin (evidence.Number zero) capacity next ≡ zero)

@@ -1,1 +1,1 @@
-// Document 01's proved table, all rows but P8: `specs/Table.antt` states them and `proofs/Rows.antt` proves them. No code.
+// Document 01's proved table, P1 to P12: `specs/Table.antt` states them and `proofs/Rows.antt` proves them. No code.

@@ -1,8 +1,8 @@
 //! Corners and inliers, from which the cells entry makes marker cells.
 
 mod dense;
-mod limits;
-mod random;
+pub(crate) mod limits;
+pub(crate) mod random;
 mod shapes;
 mod traps;
 

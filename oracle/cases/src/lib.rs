@@ -3,9 +3,12 @@
 pub mod boards;
 pub mod cells;
 pub mod codes;
+pub mod corner_entry;
 pub mod corner_lists;
+pub mod entries;
 pub mod floats;
 pub mod layout;
+pub mod link_entry;
 pub mod points;
 pub mod prng;
 pub mod tables;

@@ -53,7 +53,7 @@ pub enum Answer {
 /// Words of a marker in the lent list.
 pub const MARKER_WORDS: usize = 18;
 
-/// Words of an answer, of which a refusal uses two.
+/// Words of an answer, of which a refusal uses two at most.
 pub const ANSWER_WORDS: usize = 17;
 
 /// Words of a lent list with a place for each of 256 cells.
@@ -75,11 +75,13 @@ impl Answer {
         }
     }
 
-    /// Two words for a refusal, else 17.
+    /// 17 words for a placed shot; for a refusal as many as it gives values.
     pub fn words(&self) -> Vec<u32> {
         match self {
             Self::Placed(placed) => placed.words().to_vec(),
-            Self::Refused { values, .. } => values.to_vec(),
+            Self::Refused { number: 7, values } => values.to_vec(),
+            Self::Refused { number: 16, values } => vec![values[0]],
+            Self::Refused { .. } => Vec::new(),
         }
     }
 

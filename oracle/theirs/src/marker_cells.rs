@@ -37,7 +37,7 @@ const fn refused(number: u32) -> CellsAnswer {
 }
 
 /// Question 18 without turn and translation. The range binds only corners that have a grid point, scores all corners.
-fn within_limits(lists: &CornerLists) -> bool {
+pub fn within_limits(lists: &CornerLists) -> bool {
     let in_range = |point: [i32; 2]| point.iter().all(|x| (-FARTHEST..=FARTHEST).contains(x));
     lists.count() <= MOST_CORNERS
         && lists.inliers.len() <= MOST_INLIERS
@@ -45,8 +45,7 @@ fn within_limits(lists: &CornerLists) -> bool {
         && lists.scores.iter().all(|score| score.is_finite())
 }
 
-/// The lists as the Rust takes them. It knows corners by their positions in a picture; here the x of a position is the
-/// index of the corner.
+/// The lists as the Rust takes them.
 pub struct Labeled<'a> {
     corners: Vec<LabeledCorner>,
     inliers: &'a [usize],
@@ -54,16 +53,8 @@ pub struct Labeled<'a> {
 
 impl<'a> Labeled<'a> {
     pub fn new(lists: &'a CornerLists) -> Self {
-        let corners = (0..lists.count()).map(|corner| {
-            let mut labeled = LabeledCorner {
-                position: Default::default(),
-                grid: lists.point(corner).map(|[u, v]| Coord::new(u, v)),
-            };
-            labeled.position.x = corner as f32;
-            labeled
-        });
         Self {
-            corners: corners.collect(),
+            corners: labeled_corners(lists),
             inliers: &lists.inliers,
         }
     }
@@ -71,6 +62,17 @@ impl<'a> Labeled<'a> {
     pub fn cells(&self) -> Vec<MarkerCell> {
         cells_of_the_rust(&self.corners, self.inliers)
     }
+}
+
+/// The Rust knows corners by their positions in a picture; here the x of a position is the index of the corner.
+pub fn labeled_corners(lists: &CornerLists) -> Vec<LabeledCorner> {
+    let labeled = (0..lists.count()).map(|corner| {
+        let mut labeled = LabeledCorner::new(Default::default(), lists.scores[corner]);
+        labeled.position.x = corner as f32;
+        labeled.grid = lists.point(corner).map(|[u, v]| Coord::new(u, v));
+        labeled
+    });
+    labeled.collect()
 }
 
 /// Six words for each cell.

@@ -22,6 +22,16 @@ pub fn board_new(asked: &BoardArguments, codes: &'static [u64]) -> BoardAnswer {
 }
 
 fn answer_of_the_rust(asked: &BoardArguments, codes: &'static [u64]) -> BoardAnswer {
+    match board_of_the_rust(asked, codes) {
+        Ok(_) => BoardAnswer::ACCEPTED,
+        Err(error) => answer_for(error),
+    }
+}
+
+fn board_of_the_rust(
+    asked: &BoardArguments,
+    codes: &'static [u64],
+) -> Result<CharucoBoard, CharucoBoardError> {
     let spec = CharucoBoardSpec::new(
         asked.rows.min(LARGEST_SHOWN),
         asked.cols.min(LARGEST_SHOWN),
@@ -30,9 +40,19 @@ fn answer_of_the_rust(asked: &BoardArguments, codes: &'static [u64]) -> BoardAns
         Dictionary::new(asked.bits as usize, codes),
     )
     .with_border_bits(asked.border_bits as usize);
-    match CharucoBoard::new(spec) {
-        Ok(_) => BoardAnswer::ACCEPTED,
-        Err(error) => answer_for(error),
+    CharucoBoard::new(spec)
+}
+
+/// A board that passes all questions, or the answer to the first that it does not.
+pub fn accepted_board(
+    asked: &BoardArguments,
+    codes: &'static [u64],
+) -> Result<CharucoBoard, BoardAnswer> {
+    match board_new(asked, codes) {
+        BoardAnswer::ACCEPTED => {
+            Ok(board_of_the_rust(asked, codes).expect("a board that the Rust accepts"))
+        }
+        refused => Err(refused),
     }
 }
 

@@ -1,7 +1,12 @@
-//! The examples that document 01 gives for these modules (P1 to P7, P10, P12), asked of the upstream Rust. They also
+//! The examples that document 01 gives for these modules (P1 to P8, P10, P12), asked of the upstream Rust. They also
 //! hold the stand-ins to that paper, above all the table of quarter turns, which is not in the given upstream text.
 
-use theirs::{Board, cell_weight, corner_translation, null_score, rotate_code, turned};
+use cases::boards::CodeLists;
+use cases::link_entry::example;
+use theirs::{
+    Board, cell_weight, corner_translation, links_by_rules, links_by_rust, null_score, rotate_code,
+    sorted, turned,
+};
 
 fn board(rows: u8, cols: u8) -> Board {
     Board::new(rows, cols, 1.0)
@@ -54,6 +59,29 @@ fn p7_surrounding_corners() {
     assert_eq!(board.surrounding_corners(10), None);
     assert!(board.marker_position(2).is_some());
     assert!(board.marker_position(10).is_none());
+}
+
+#[test]
+fn p8_links() {
+    #[rustfmt::skip]
+    let expected = [
+        [3, 3, 9, 1, 2, 6, 5, 0, 0, 0, 0, 0],
+        [3, 4, 1, 1, 2, 6, 5, 0, 0, 0, 0, 0],
+        [3, 5, 0, 1, 2, 6, 5, 3, 2, 6, 5, 0],
+    ];
+    let mut lists = CodeLists::default();
+    for (all_four, count) in [(false, 2), (true, 3)] {
+        let input = example(all_four);
+        let codes = lists.of(&input.board);
+        let mut lent = vec![0; input.places];
+        let answer = links_by_rules(&input, codes, &mut lent);
+        assert_eq!(answer.number(), 0);
+        assert_eq!(answer.count(), count);
+        assert_eq!(lent[..12 * count], expected[..count].concat());
+        assert!(lent[12 * count..].iter().all(|&word| word == 0));
+        let by_rust = links_by_rust(&input, codes).expect("it is checked");
+        assert_eq!(sorted(&by_rust), sorted(&expected[..count]));
+    }
 }
 
 #[test]

@@ -3,6 +3,14 @@ fn main() {
         ("alignment", "crates/calib-targets-charuco/src/alignment.rs"),
         ("board", "crates/calib-targets-charuco/src/board.rs"),
         (
+            "corner_mapping",
+            "crates/calib-targets-charuco/src/detector/corner_mapping.rs",
+        ),
+        (
+            "link_check",
+            "crates/calib-targets-charuco/src/link_check.rs",
+        ),
+        (
             "marker_sampling",
             "crates/calib-targets-charuco/src/detector/marker_sampling.rs",
         ),

@@ -20,7 +20,8 @@ const REFUSALS: [Change; 12] = [
     |lists| add_rectangle(lists, [-30, 10], [20, 20]),
 ];
 
-const SCORES: [f32; 10] = [
+/// Telling scores; the last five are not finite.
+pub const SCORES: [f32; 10] = [
     0.0,
     -0.0,
     f32::from_bits(1),
@@ -33,7 +34,7 @@ const SCORES: [f32; 10] = [
     f32::from_bits(0x7F80_0001),
 ];
 
-const COORDINATES: [i32; 12] = [
+pub const COORDINATES: [i32; 12] = [
     FARTHEST,
     FARTHEST + 1,
     -FARTHEST,

@@ -4,7 +4,7 @@ use super::{CornerLists, PLACES, rectangle};
 use crate::prng::Prng;
 
 /// What the first word of a corner may be: with a grid point, unless it is 0.
-const HAS: [i32; 8] = [1, 1, 1, 1, -1, 2, i32::MIN, 0];
+pub const HAS: [i32; 8] = [1, 1, 1, 1, -1, 2, i32::MIN, 0];
 
 /// Points of a small range, so that cells occur and points are repeated; inliers in any order, some repeated, some
 /// beyond the list.

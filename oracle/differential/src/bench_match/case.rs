@@ -102,7 +102,7 @@ impl Case {
     /// From the bytes of the record to the markers in the lent list.
     #[inline(never)]
     pub fn ours(&self, lent: &mut [u32], answer: &mut [u32; ANSWER_WORDS]) -> u32 {
-        ours::matches::match_board(&self.record, lent, answer)
+        charuco::words::match_board(&self.record, lent, answer)
     }
 
     pub fn samples(&self) -> Samples {

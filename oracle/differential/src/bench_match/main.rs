@@ -4,9 +4,13 @@
 #[path = "../bench/arguments.rs"]
 mod arguments;
 mod case;
+#[path = "../bench/heap.rs"]
 mod heap;
+#[path = "../bench/memory.rs"]
+mod memory;
 #[path = "../bench/overflow.rs"]
 mod overflow;
+#[path = "../bench/stack.rs"]
 mod stack;
 #[path = "../bench/times.rs"]
 mod times;
@@ -84,20 +88,13 @@ fn measure(case: &Case, arguments: &Arguments) -> bool {
 fn print_memory(case: &Case) {
     let mut lent = case.list();
     let mut answer = [0; ANSWER_WORDS];
-    let mut ours = || {
+    memory::print_used("ours", || {
         black_box(case.ours(&mut lent, &mut answer));
-    };
-    print_side("ours", heap::most_used(&mut ours), stack::used(&mut ours));
-    let [first, second] = [case.samples(), case.samples()];
-    let heap = heap::most_used(|| {
-        black_box(case.theirs(&first));
     });
-    let stack = stack::used(move || {
-        black_box(case.theirs(&second));
+    // A run uses its samples up.
+    let mut samples = [case.samples(), case.samples()].into_iter();
+    memory::print_used("theirs", || {
+        let samples = samples.next().expect("samples for two runs");
+        black_box(case.theirs(&samples));
     });
-    print_side("theirs", heap, stack);
-}
-
-fn print_side(side: &str, heap: usize, stack: usize) {
-    println!("    {side:6}  {heap:9} bytes of heap, {stack:7} of stack");
 }

@@ -3,7 +3,10 @@
 
 mod alignments;
 mod codes;
+mod corners;
+mod entry;
 mod layout;
+mod links;
 mod marker_cells;
 mod matches;
 mod records;
@@ -17,13 +20,15 @@ use subject::Subject;
 /// A group of subjects by its name, in the order of the run.
 type Group = (&'static str, fn() -> Vec<Subject>);
 
-const GROUPS: [Group; 9] = [
+const GROUPS: [Group; 11] = [
     ("codes", codes::compare),
     ("layout", layout::compare),
     ("refusals", refusals::compare),
     ("alignments", alignments::compare),
     ("scores", scores::compare),
     ("cells", marker_cells::compare),
+    ("corners", corners::compare),
+    ("links", links::compare),
     ("records", records::compare),
     ("matches", matches::compare),
     ("program", matches::compare_program),

@@ -85,7 +85,7 @@ impl Matches {
             let before: Vec<u32> = (0..given.places as u32).map(|i| 0xFFC0_0000 + i).collect();
             let [mut our_list, mut their_list] = [before.clone(), before];
             let mut our_words = [0xFFC0_0000; LENT_FOR_ANSWER];
-            let number = ours::matches::match_board(&given.record, &mut our_list, &mut our_words);
+            let number = charuco::words::match_board(&given.record, &mut our_list, &mut our_words);
             let answer = match_record(&given.record, &mut their_list);
             let mut their_words = [0xFFC0_0000; LENT_FOR_ANSWER];
             let words = answer.words();

@@ -1,8 +1,8 @@
-//! Our library as a Rust program calls it: the exported functions of the static library, and safe functions over them
-//! in the shapes of the crate `theirs`.
+//! Parts of our library that its C functions do not show by themselves: the functions that `oracle_exports` exports for
+//! tests, and safe functions over them in the shapes of the crate `theirs`. The entries are asked through `charuco`.
 
+pub mod entries;
 pub mod marker_cells;
-pub mod matches;
 pub mod records;
 pub mod scores;
 

@@ -1,5 +1,6 @@
 //! Upstream's `bit_likelihood.rs`, `corner_map.rs`, `grid_alignment.rs` and `image.rs`, and the names that other
-//! upstream files look for in this crate. The file of a labelled corner is not given; it has a stand-in.
+//! upstream files look for in this crate. The files of a labelled corner and of a detection are not given; they have
+//! stand-ins.
 
 mod labeled_corner;
 include!(concat!(env!("OUT_DIR"), "/bit_likelihood.rs"));
@@ -14,5 +15,5 @@ pub use grid_alignment::{
     GRID_TRANSFORMS_C4, GRID_TRANSFORMS_D4,
 };
 pub use image::GrayImageView;
-pub use labeled_corner::LabeledCorner;
+pub use labeled_corner::{LabeledCorner, TargetDetection, TargetKind};
 pub use projective_grid::Coord;

@@ -78,7 +78,7 @@ returns-3 c =
     let w = p .before .before .before in
     let e = w .before .before .before in
     let s = first e in
-    put-behind (s .args .n) _ (marker s) (w .marker-words .result) (s .args .markers .now) (p .put .last .1 .0) (both-hold (weighs s) (speaks s) (marker s) (weighed e) (for e)) (told w) (p .put .ensures)
+    put-behind (s .args .n) _ (marker s) (w .marker-words .result) (s .args .markers .now) (p .put .last .0) (both-hold (weighs s) (speaks s) (marker s) (weighed e) (for e)) (told w) (p .put .ensures)
 
 pub emit-marker-spec : {M : Type 1} → statement M
 emit-marker-spec =

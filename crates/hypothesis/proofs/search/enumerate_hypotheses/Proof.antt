@@ -3,8 +3,8 @@ use mathlib.Core.Path.{_≡_, sym, ap, _∙_}
 use native.Mathlib.Omega.{arith}
 use borrow.Author.Needs.{needs}
 use Rattle.shot_record.specs.Shots.{Shot, shot}
-use Rattle.hypothesis.specs.declared.Hypothesis.{Hypothesis}
-use Rattle.hypothesis.specs.declared.Choice.the-variants as choice
+use Rattle.ranking.specs.declared.Hypothesis.{Hypothesis}
+use Rattle.ranking.specs.declared.Choice.the-variants as choice
 use Rattle.hypothesis.specs.declared.Selection.{Selection}
 use Rattle.hypothesis.specs.declared.Enumerated.the-variants as enumerated
 use Rattle.hypothesis.specs.Inputs.{Passed}

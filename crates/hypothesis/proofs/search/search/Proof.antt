@@ -4,9 +4,9 @@ use mathlib.Core.List.{map}
 use Prim.Native.Nat.{ℕ, _-_, _≤_}
 use native.Mathlib.Omega.{arith}
 use Rattle.shot_record.specs.Shots.{shot}
+use Rattle.ranking.specs.Ranking.{rankingOf}
 use Rattle.hypothesis.specs.Placements.{withTurnsBelow}
 use Rattle.hypothesis.specs.Search.{hypothesis}
-use Rattle.hypothesis.specs.Ranking.{rankingOf}
 use Rattle.hypothesis.proofs.Turned.{no-turn-ranked}
 use Rattle.hypothesis.proofs.search.search.Statement.{statement}
 use Rattle.hypothesis.proofs.search.search.Tie as tie

@@ -6,8 +6,8 @@ use lib.IntN.{ℤ, pos, natAbs, _-ℤ_}
 use borrow.Author.Needs.{needs}
 use Rattle.integers.proofs.Parts.{abs-sub}
 use Rattle.integers.proofs.Words.{word, word-is}
-use Rattle.hypothesis.specs.declared.Evidence.{Evidence}
-use Rattle.hypothesis.specs.declared.Hypothesis.{Hypothesis}
+use Rattle.ranking.specs.declared.Evidence.{Evidence}
+use Rattle.ranking.specs.declared.Hypothesis.{Hypothesis}
 use Rattle.hypothesis.specs.Turns.{evidenceAt}
 use Rattle.hypothesis.proofs.turns.moved_to.Statement.{statement}
 use Rattle.hypothesis.proofs.turns.moved_to.Tie as tie

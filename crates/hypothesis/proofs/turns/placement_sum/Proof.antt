@@ -8,7 +8,7 @@ use native.Mathlib.Omega.{arith}
 use lib.ListN.{getD}
 use lib.Ieee.{Float, nan}
 use borrow.Author.Needs.{needs}
-use Rattle.hypothesis.specs.declared.Evidence.the-variants as evidence
+use Rattle.ranking.specs.declared.Evidence.the-variants as evidence
 use Rattle.hypothesis.specs.declared.turns.Seen.{Seen}
 use Rattle.hypothesis.specs.Turns.{seenAt, evidenceAt}
 use Rattle.hypothesis.proofs.Columns.{fits-small}

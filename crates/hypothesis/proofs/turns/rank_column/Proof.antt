@@ -7,10 +7,10 @@ use native.Mathlib.Nat.{le-antisymm}
 use native.Mathlib.Omega.{arith}
 use borrow.Author.Needs.{needs}
 use borrow.Author.Tests.{not-false}
-use Rattle.hypothesis.specs.declared.Hypothesis.{Hypothesis}
+use Rattle.ranking.specs.declared.Hypothesis.{Hypothesis}
+use Rattle.ranking.proofs.Behind.{Follows, follows-none, follows-ranked, follows-behind, follows-all}
 use Rattle.hypothesis.specs.Turns.{movedTo}
 use Rattle.hypothesis.proofs.Columns.{fits-small}
-use Rattle.hypothesis.proofs.Behind.{Follows, follows-none, follows-ranked, follows-behind, follows-all}
 use Rattle.hypothesis.proofs.turns.rank_column.Statement.{statement}
 use Rattle.hypothesis.proofs.turns.rank_column.Tie as tie
 

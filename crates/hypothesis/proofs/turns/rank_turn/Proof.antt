@@ -3,11 +3,12 @@ use mathlib.Core.Path.{_≡_, ap, _∙_}
 use Prim.Native.Nat.{ℕ, _+_, _-_, _*_, _/_, _%_, _≤_, _<_}
 use native.Mathlib.Nat.{le-antisymm, mul-le-mul}
 use native.Mathlib.Omega.{arith}
-use Rattle.hypothesis.specs.declared.Hypothesis.{Hypothesis}
-use Rattle.hypothesis.specs.declared.rank.Ranking.{Ranking}
-use Rattle.hypothesis.specs.Turns.{movedTo, rankedTo, rankedTurn}
+use Rattle.ranking.specs.declared.Hypothesis.{Hypothesis}
+use Rattle.ranking.specs.declared.Ranking.{Ranking}
+use Rattle.ranking.specs.Ranking.{rankedTo}
+use Rattle.ranking.proofs.RankedTo.{ranked-none, ranked-total, next-column}
+use Rattle.hypothesis.specs.Turns.{movedTo, rankedTurn}
 use Rattle.hypothesis.proofs.Columns.{fits-small}
-use Rattle.hypothesis.proofs.Turned.{ranked-none, ranked-total, next-column}
 use Rattle.hypothesis.proofs.turns.rank_turn.Statement.{statement}
 use Rattle.hypothesis.proofs.turns.rank_turn.Tie as tie
 

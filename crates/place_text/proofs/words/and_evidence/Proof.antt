@@ -3,7 +3,7 @@ use mathlib.Core.Path.{sym, ap, _∙_}
 use mathlib.Core.List.{_∷_}
 use Prim.Native.Nat.{ℕ}
 use borrow.Author.Needs.{needs}
-use Rattle.hypothesis.specs.declared.Evidence.{Evidence}
+use Rattle.ranking.specs.declared.Evidence.{Evidence}
 use Rattle.place_text.specs.Numerals.{hex8}
 use Rattle.place_text.specs.Text.{evidenceWord}
 use Rattle.place_text.proofs.Puts.{said}

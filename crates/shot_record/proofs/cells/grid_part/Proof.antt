@@ -6,14 +6,18 @@ use native.Mathlib.Omega.{arith}
 use mathlib.Core.List.{List}
 use lib.ListN.{length, take, drop}
 use borrow.Author.Needs.{needs}
+use Rattle.shot_record.specs.declared.cells.Part.{Part}
 use Rattle.shot_record.specs.Fields.{bitsOf, borderOf, gridSize, cellCount, sampled, cellAt}
 use Rattle.shot_record.specs.Shots.{cellOf}
 use Rattle.shot_record.proofs.Lists.{nth-list, nth-list-past}
 use Rattle.shot_record.proofs.Reading.{Found, found}
-use Rattle.shot_record.proofs.CellReads.{without-grid, with-grid, grid-lies}
+use Rattle.shot_record.proofs.CellReads.{without-grid, with-grid, without-part, with-part, grid-lies}
 use Rattle.shot_record.proofs.Whole.{Whole, whole-if, refused-if, parse-whole}
 use Rattle.shot_record.proofs.cells.grid_part.Statement.{statement}
 use Rattle.shot_record.proofs.cells.grid_part.Tie as tie
+
+abbrev part : ℕ → ℕ → Part
+part at size = record { first = at + 9; end = at + 9 + size }
 
 is-whole : (c : tie.Else1) → Whole (c .before .before .before .before .args .bytes .now)
 is-whole c = let w = c .before .is-whole in whole-if _ (w .result) (w .ensures) (c .if1 .left)
@@ -37,12 +41,15 @@ module _ (e : tie.Else1) where
 returns : tie.Need-returns
 returns c =
     let w = c .before .is-whole in
-    ((le-refl 0, zero-le), rw (refused-if _ (w .result) (w .ensures) (c .if1 .taken)) refl)
+    let e = refused-if _ (w .result) (w .ensures) (c .if1 .taken) in
+    ((le-refl 0, zero-le), (rw e refl, rw e refl))
 
 returns-2 : tie.Need-returns-2
 returns-2 c =
     let e = c .before .before in
-    ((le-refl 0, zero-le), rw (parse-whole _ (is-whole e), nth-list-past (cellOf (bytes e)) (cellCount (bytes e)) (k e) (omega (arith, f e .cell-count, c .if2 .taken))) refl)
+    let p = parse-whole _ (is-whole e) in
+    let n = nth-list-past (cellOf (bytes e)) (cellCount (bytes e)) (k e) (omega (arith, f e .cell-count, c .if2 .taken)) in
+    ((le-refl 0, zero-le), (rw (p, n) refl, rw (p, n) refl))
 
 -- a cell of the list
 module _ (d : tie.Else2) where
@@ -55,10 +62,15 @@ module _ (d : tie.Else2) where
 returns-3 : tie.Need-returns-3
 returns-3 c =
     let d = c .before .before in
-    let e = there d in (
+    let e = there d in
+    let p = parse-whole _ (is-whole e) in
+    let n = nth-list (cellOf (bytes e)) (cellCount (bytes e)) (k e) (inside d) in
+    let z = sym (c .before .sampled .ensures) ∙ c .if3 .taken in (
       (le-refl 0, zero-le),
-      rw (parse-whole _ (is-whole e), nth-list (cellOf (bytes e)) (cellCount (bytes e)) (k e) (inside d))
-          (without-grid (sampled (bytes e) (k e)) (size e) (cellAt (bytes e) (k e)) (bytes e) (sym (c .before .sampled .ensures) ∙ c .if3 .taken)),
+      (
+        rw (p, n) (without-grid (sampled (bytes e) (k e)) (size e) (cellAt (bytes e) (k e)) (bytes e) z),
+        rw (p, n) (without-part (sampled (bytes e) (k e)) (size e) (cellAt (bytes e) (k e)) (bytes e) z),
+      ),
     )
 
 -- a sampled cell
@@ -88,10 +100,14 @@ returns-4 c =
     let s = c .before in
     let e = at s in
     let first : s .cell-start .result ≡ cellAt (bytes e) (k e) = s .cell-start .ensures in
-    let length : s .cell-start .result + 9 + f-size e - (s .cell-start .result + 9) ≡ size e = omega (arith, f e .grid-size) in (
+    let length : s .cell-start .result + 9 + f-size e - (s .cell-start .result + 9) ≡ size e = omega (arith, f e .grid-size) in
+    let p = parse-whole _ (is-whole e) in
+    let n = nth-list (cellOf (bytes e)) (cellCount (bytes e)) (k e) (inside (cell s)) in (
       (omega arith, omega (arith, first, lies s, f e .grid-size)),
-      rw (parse-whole _ (is-whole e), nth-list (cellOf (bytes e)) (cellCount (bytes e)) (k e) (inside (cell s)))
-          (ap₂ (λ (n at : ℕ). take n (drop (at + 9) (bytes e))) length first ∙ with-grid (sampled (bytes e) (k e)) (size e) (cellAt (bytes e) (k e)) (bytes e) (marked s)),
+      (
+        rw (p, n) (ap₂ (λ (n at : ℕ). take n (drop (at + 9) (bytes e))) length first ∙ with-grid (sampled (bytes e) (k e)) (size e) (cellAt (bytes e) (k e)) (bytes e) (marked s)),
+        rw (p, n) (ap₂ part first (f e .grid-size) ∙ with-part (sampled (bytes e) (k e)) (size e) (cellAt (bytes e) (k e)) (bytes e) (marked s)),
+      ),
     )
 
 pub grid-part-spec : {M : Type 1} → statement M

@@ -4,16 +4,17 @@ use crate::subject::{Subject, float_bits};
 use records::{Cell, REFUSED, Read, TABLE_LENGTH};
 use std::fmt::{self, Display, Formatter};
 
-/// Numbers for `which` up to the last that means something, the next, and the largest.
-const HEADER: [u8; 15] = [0, 1, 2, 3, 4, 5, 6, 7, 8, 9, 10, 11, 12, 13, 255];
-const CODE: [u8; 4] = [0, 1, 2, 255];
-const CELL: [u8; 7] = [0, 1, 2, 3, 4, 5, 255];
+/// Words of the longest list that is lent for values.
+const LENT: usize = 15;
 
 /// Starts are told for so many cells.
 const STARTS: usize = 256;
 
-/// What is said where there is nothing to say.
+/// What is said of a start where there is nothing to say.
 const NONE: u64 = u64::MAX;
+
+/// u, v, fraction and threshold.
+const BEFORE_THE_GRID: usize = 9;
 
 pub struct Fields {
     read: Subject,
@@ -84,79 +85,75 @@ impl Fields {
     }
 
     fn compare_header(&mut self, record: &[u8], read: Option<&Read>) {
-        for which in HEADER {
-            let (subject, theirs) = match (which, read) {
-                (0, Some(_)) => (&mut self.read, 0),
-                (0, None) => (&mut self.refused, REFUSED),
-                (_, Some(read)) => (&mut self.header, header(read, which)),
-                (_, None) => (&mut self.header, NONE),
-            };
-            subject.check(
-                ours::records::header(record, which),
-                theirs,
-                format_args!("field {which} of {}", Shown(record)),
-            );
-        }
+        let subject = match read {
+            Some(_) => &mut self.read,
+            None => &mut self.refused,
+        };
+        let ask = |values: &mut [u32]| charuco::words::read_header(record, values);
+        subject.check(
+            ask(&mut []).into(),
+            read.map_or(REFUSED, |_| 0),
+            format_args!("number of {}", Shown(record)),
+        );
+        self.header.check(
+            answers(ask),
+            expected(read, header),
+            format_args!("header of {}", Shown(record)),
+        );
     }
 
     fn compare_table_entry(&mut self, record: &[u8], read: Option<&Read>, k: usize) {
-        let entry = read.and_then(|read| read.shot.table.get(k));
         self.table_entry.check(
-            ours::records::table_entry(record, k),
-            entry.map_or(NONE, |&entry| one_nan(entry)),
+            answers(|values| charuco::words::table_entry(record, k, values)),
+            expected(read, |read| {
+                let entry = read.shot.table.get(k);
+                entry.map_or(vec![0; 2], |&entry| vec![1, one_nan(entry)])
+            }),
             format_args!("entry {k} of {}", Shown(record)),
         );
     }
 
     fn compare_code(&mut self, record: &[u8], read: Option<&Read>, k: usize) {
-        let code = read.and_then(|read| read.shot.codes.get(k));
-        for which in CODE {
-            let theirs = match (which, read, code) {
-                (0, None, _) => REFUSED,
-                (0, _, _) => u64::from(code.is_some()),
-                (_, _, code) => code.copied().unwrap_or(0),
-            };
-            self.code.check(
-                ours::records::code(record, k, which),
-                theirs,
-                format_args!("{which} of code {k} of {}", Shown(record)),
-            );
-        }
+        self.code.check(
+            answers(|values| charuco::words::code(record, k, values)),
+            expected(read, |read| {
+                let code = read.shot.codes.get(k);
+                code.map_or(vec![0; 3], |&code| {
+                    vec![1, code as u32, (code >> 32) as u32]
+                })
+            }),
+            format_args!("code {k} of {}", Shown(record)),
+        );
     }
 
     fn compare_cell(&mut self, record: &[u8], read: Option<&Read>, k: usize) {
-        let cell = read.and_then(|read| read.shot.cells.get(k));
-        for which in CELL {
-            let theirs = match (which, read) {
-                (0, None) => REFUSED as i64,
-                _ => cell.map_or(0, |cell| of_cell(cell, which)),
-            };
-            self.cell.check(
-                ours::records::cell(record, k, which),
-                theirs,
-                format_args!("{which} of cell {k} of {}", Shown(record)),
-            );
-        }
+        self.cell.check(
+            answers(|values| charuco::words::cell(record, k, values)),
+            expected(read, |read| {
+                read.shot.cells.get(k).map_or(vec![0; 5], of_cell)
+            }),
+            format_args!("cell {k} of {}", Shown(record)),
+        );
     }
 
-    /// With room for none of the grid, for a part, for just the grid, and for more.
+    /// The words, and the bytes at the place that they name.
     fn compare_grid(&mut self, record: &[u8], read: Option<&Read>, k: usize) {
         let cell = read.and_then(|read| read.shot.cells.get(k));
         let sample = cell.and_then(|cell| cell.sample.as_ref());
-        let grid = sample.map_or(&[][..], |sample| &sample.grid);
-        for room in [0, grid.len() / 2, grid.len(), grid.len() + 3] {
-            let before: Vec<u8> = (0..room).map(|place| (7 * place + 3) as u8).collect();
-            let mut theirs = before.clone();
-            let copied = room.min(grid.len());
-            theirs[..copied].copy_from_slice(&grid[..copied]);
-            let mut ours = before;
-            let length = ours::records::grid(record, k, &mut ours);
-            self.grid.check(
-                (length, ours),
-                (grid.len(), theirs),
-                format_args!("room for {room}, cell {k} of {}", Shown(record)),
-            );
-        }
+        let start = read.and_then(|read| read.starts.get(k));
+        let words = sample.zip(start).map_or([0; 2], |(sample, start)| {
+            [start + BEFORE_THE_GRID, sample.grid.len()].map(|place| place as u32)
+        });
+        self.grid.check(
+            answers(|values| charuco::words::grid(record, k, values)),
+            expected(read, |_| words.to_vec()),
+            format_args!("grid of cell {k} of {}", Shown(record)),
+        );
+        self.grid.check(
+            charuco::grid(record, k).unwrap_or_default(),
+            sample.map_or(&[][..], |sample| &sample.grid),
+            format_args!("greys of cell {k} of {}", Shown(record)),
+        );
     }
 
     /// Of a record that is refused, any start may be told.
@@ -192,39 +189,71 @@ fn places(count: usize, extent: Extent) -> Vec<usize> {
     places
 }
 
-fn header(read: &Read, which: u8) -> u64 {
+/// A number, and the words that a list holds after the call.
+type Answers = Vec<(u32, Vec<u32>)>;
+
+/// What a list holds before the call.
+fn before(length: usize) -> Vec<u32> {
+    (0..length as u32)
+        .map(|place| 0xFFC0_0000 + place)
+        .collect()
+}
+
+/// With lists of every length.
+fn answers(ask: impl Fn(&mut [u32]) -> u32) -> Answers {
+    (0..=LENT)
+        .map(|length| {
+            let mut values = before(length);
+            (ask(&mut values), values)
+        })
+        .collect()
+}
+
+/// As many of the words as there is room for; none of a record that is refused.
+fn expected(read: Option<&Read>, words: impl Fn(&Read) -> Vec<u32>) -> Answers {
+    let (number, words) = read.map_or((REFUSED as u32, Vec::new()), |read| (0, words(read)));
+    (0..=LENT)
+        .map(|length| {
+            let mut values = before(length);
+            let given = words.len().min(length);
+            values[..given].copy_from_slice(&words[..given]);
+            (number, values)
+        })
+        .collect()
+}
+
+fn header(read: &Read) -> Vec<u32> {
     let shot = &read.shot;
-    match which {
-        1 => shot.map.into(),
-        2 => one_nan(shot.minimum_margin),
-        3 => one_nan(shot.border_threshold),
-        4 => one_nan(shot.px_per_square),
-        5 => shot.rows.into(),
-        6 => shot.cols.into(),
-        7 => shot.bits.into(),
-        8 => shot.border.into(),
-        9 => one_nan(shot.cell_size),
-        10 => one_nan(shot.marker_size_rel),
-        11 => shot.codes.len() as u64,
-        12 => shot.cells.len() as u64,
-        _ => NONE,
-    }
+    vec![
+        shot.map.into(),
+        one_nan(shot.minimum_margin),
+        one_nan(shot.border_threshold),
+        one_nan(shot.px_per_square),
+        shot.rows.into(),
+        shot.cols.into(),
+        shot.bits.into(),
+        shot.border.into(),
+        one_nan(shot.cell_size),
+        one_nan(shot.marker_size_rel),
+        shot.codes.len() as u32,
+        shot.cells.len() as u32,
+    ]
 }
 
 /// The last two are 0 for a cell that is not sampled.
-fn of_cell(cell: &Cell, which: u8) -> i64 {
+fn of_cell(cell: &Cell) -> Vec<u32> {
     let sample = cell.sample.as_ref();
-    match which {
-        0 => 1 + i64::from(sample.is_some()),
-        1 => cell.u.into(),
-        2 => cell.v.into(),
-        3 => sample.map_or(0, |sample| one_nan(sample.fraction) as i64),
-        _ => sample.map_or(0, |sample| sample.threshold.into()),
-    }
+    vec![
+        1 + u32::from(sample.is_some()),
+        i32::from(cell.u).cast_unsigned(),
+        i32::from(cell.v).cast_unsigned(),
+        sample.map_or(0, |sample| one_nan(sample.fraction)),
+        sample.map_or(0, |sample| sample.threshold.into()),
+    ]
 }
 
-fn one_nan(bits: u32) -> u64 {
-    float_bits(f32::from_bits(bits)).into()
+fn one_nan(bits: u32) -> u32 {
+    float_bits(f32::from_bits(bits))
 }
 
 /// The first bytes of a record, and how many there are.

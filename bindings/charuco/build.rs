@@ -1,0 +1,7 @@
+//! Links the static library that `rt staticlib charuco` builds.
+
+include!("link.rs");
+
+fn main() {
+    link("charuco");
+}

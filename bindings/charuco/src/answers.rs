@@ -1,0 +1,268 @@
+//! What the entries answer, and how each is read from its words.
+
+/// A quarter turn, then a translation.
+#[derive(Clone, Copy, Debug, PartialEq, Eq)]
+pub struct Alignment {
+    pub turn: u32,
+    pub tx: i32,
+    pub ty: i32,
+}
+
+impl Alignment {
+    fn new([turn, tx, ty]: [u32; 3]) -> Self {
+        Self {
+            turn,
+            tx: tx.cast_signed(),
+            ty: ty.cast_signed(),
+        }
+    }
+}
+
+/// What a record says before its cells.
+#[derive(Clone, Copy, Debug, PartialEq)]
+pub struct Header {
+    pub map: u32,
+    pub minimum_margin: f32,
+    pub border_threshold: f32,
+    pub px_per_square: f32,
+    pub spec: crate::BoardSpec,
+    pub codes: usize,
+    pub cells: usize,
+}
+
+pub(crate) const HEADER_WORDS: usize = 12;
+
+impl Header {
+    pub(crate) fn new(words: [u32; HEADER_WORDS]) -> Self {
+        Self {
+            map: words[0],
+            minimum_margin: f32::from_bits(words[1]),
+            border_threshold: f32::from_bits(words[2]),
+            px_per_square: f32::from_bits(words[3]),
+            spec: crate::BoardSpec {
+                rows: words[4],
+                cols: words[5],
+                bits: words[6],
+                border_bits: words[7],
+                cell_size: f32::from_bits(words[8]),
+                marker_size_rel: f32::from_bits(words[9]),
+            },
+            codes: words[10] as usize,
+            cells: words[11] as usize,
+        }
+    }
+}
+
+/// What is sampled of a cell, beside its grid.
+#[derive(Clone, Copy, Debug, PartialEq)]
+pub struct Sample {
+    pub fraction: f32,
+    pub threshold: u8,
+}
+
+#[derive(Clone, Copy, Debug, PartialEq)]
+pub struct Cell {
+    pub u: i32,
+    pub v: i32,
+    pub sample: Option<Sample>,
+}
+
+pub(crate) const CELL_WORDS: usize = 5;
+
+impl Cell {
+    /// Nothing for an absent cell.
+    pub(crate) fn new([kind, u, v, fraction, threshold]: [u32; CELL_WORDS]) -> Option<Self> {
+        let sample = (kind == 2).then(|| Sample {
+            fraction: f32::from_bits(fraction),
+            threshold: threshold as u8,
+        });
+        (kind != 0).then(|| Self {
+            u: u.cast_signed(),
+            v: v.cast_signed(),
+            sample,
+        })
+    }
+}
+
+/// A cell of the cells entry: its point, and the indices of its corners, top left, top right, bottom right, bottom left.
+#[derive(Clone, Copy, Debug, PartialEq, Eq)]
+pub struct MarkerCell {
+    pub u: i32,
+    pub v: i32,
+    pub corners: [usize; 4],
+}
+
+pub(crate) const MARKER_CELL_WORDS: usize = 6;
+
+impl MarkerCell {
+    pub(crate) fn new([u, v, corners @ ..]: [i32; MARKER_CELL_WORDS]) -> Self {
+        Self {
+            u,
+            v,
+            corners: corners.map(|index| index as usize),
+        }
+    }
+}
+
+/// A placement of the cells. Its evidence is none where no cell contributes.
+#[derive(Clone, Copy, Debug, PartialEq)]
+pub struct Hypothesis {
+    pub alignment: Alignment,
+    pub evidence: Option<f32>,
+}
+
+impl Hypothesis {
+    fn new([turn, tx, ty, is_number, bits]: [u32; 5]) -> Self {
+        Self {
+            alignment: Alignment::new([turn, tx, ty]),
+            evidence: (is_number == 1).then(|| f32::from_bits(bits)),
+        }
+    }
+}
+
+#[derive(Clone, Copy, Debug, PartialEq)]
+pub struct Marker {
+    /// The cell's place in the record.
+    pub cell: usize,
+    pub id: u32,
+    pub point: [i32; 2],
+    pub turn: u32,
+    pub differing_bits: u32,
+    pub code: u64,
+    /// Score / bits².
+    pub quotient: f32,
+    pub fraction: f32,
+    /// Top left, top right, bottom right, bottom left.
+    pub rectified: [[f32; 2]; 4],
+}
+
+pub(crate) const MARKER_WORDS: usize = 18;
+
+impl Marker {
+    pub(crate) fn new(words: [u32; MARKER_WORDS]) -> Self {
+        let float = |k: usize| f32::from_bits(words[k]);
+        Self {
+            cell: words[0] as usize,
+            id: words[1],
+            point: [words[2], words[3]].map(u32::cast_signed),
+            turn: words[4],
+            differing_bits: words[5],
+            code: u64::from(words[7]) << 32 | u64::from(words[6]),
+            quotient: float(8),
+            fraction: float(9),
+            rectified: [10, 12, 14, 16].map(|k| [float(k), float(k + 1)]),
+        }
+    }
+}
+
+/// A placed shot.
+#[derive(Clone, Debug, PartialEq)]
+pub struct Match {
+    pub best: Hypothesis,
+    pub runner_up: Option<Hypothesis>,
+    pub margin: f32,
+    pub placements: usize,
+    /// The alignment of the corners of the best placement.
+    pub corners: Alignment,
+    pub markers: Vec<Marker>,
+}
+
+pub(crate) const MATCH_WORDS: usize = 17;
+
+impl Match {
+    /// How many markers there are.
+    pub(crate) fn count(words: [u32; MATCH_WORDS]) -> usize {
+        words[16] as usize
+    }
+
+    pub(crate) fn new(w: [u32; MATCH_WORDS], markers: Vec<Marker>) -> Self {
+        Self {
+            best: Hypothesis::new([w[0], w[1], w[2], w[3], w[4]]),
+            runner_up: (w[5] == 1).then(|| Hypothesis::new([w[6], w[7], w[8], w[9], w[10]])),
+            margin: f32::from_bits(w[11]),
+            placements: w[12] as usize,
+            corners: Alignment::new([w[13], w[14], w[15]]),
+            markers,
+        }
+    }
+}
+
+/// An inner corner of the board, and the index of the corner that was taken for it.
+#[derive(Clone, Copy, Debug, PartialEq)]
+pub struct MappedCorner {
+    pub id: u32,
+    pub index: usize,
+    /// The board corner (i, j).
+    pub at: [u32; 2],
+    pub target: [f32; 2],
+}
+
+pub(crate) const CORNER_WORDS: usize = 6;
+
+impl MappedCorner {
+    pub(crate) fn new([id, index, i, j, x, y]: [u32; CORNER_WORDS]) -> Self {
+        Self {
+            id,
+            index: index as usize,
+            at: [i, j],
+            target: [x, y].map(f32::from_bits),
+        }
+    }
+}
+
+/// What is wrong with a link, or with those of a marker. Four corners are the expected ones.
+#[derive(Clone, Debug, PartialEq, Eq)]
+pub enum Violation {
+    UnknownMarker {
+        marker: u32,
+        corner: u32,
+    },
+    MarkerHasNoFourCorners {
+        marker: u32,
+        corner: u32,
+    },
+    CornerNotInNeighborhood {
+        marker: u32,
+        corner: u32,
+        expected: [u32; 4],
+    },
+    DuplicateCorner {
+        marker: u32,
+        corner: u32,
+        expected: [u32; 4],
+    },
+    MissingCorners {
+        marker: u32,
+        expected: [u32; 4],
+        missing: Vec<u32>,
+    },
+}
+
+pub(crate) const VIOLATION_WORDS: usize = 12;
+
+impl Violation {
+    pub(crate) fn new(words: [u32; VIOLATION_WORDS]) -> Self {
+        let [marker, kind, corner, a, b, c, d, count, missing @ ..] = words;
+        let expected = [a, b, c, d];
+        match kind {
+            1 => Self::UnknownMarker { marker, corner },
+            2 => Self::MarkerHasNoFourCorners { marker, corner },
+            3 => Self::CornerNotInNeighborhood {
+                marker,
+                corner,
+                expected,
+            },
+            4 => Self::DuplicateCorner {
+                marker,
+                corner,
+                expected,
+            },
+            5 => Self::MissingCorners {
+                marker,
+                expected,
+                missing: missing[..count as usize].to_vec(),
+            },
+            _ => panic!("the library has no violation of kind {kind}"),
+        }
+    }
+}

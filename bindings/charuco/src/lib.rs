@@ -1,0 +1,148 @@
+//! Places a ChArUco board from sampled marker cells: the verified library `libcharuco.a`, called from Rust. Every function accepts every
+//! argument. [`words`] has the entries as the library gives them, over lists of words.
+
+mod answers;
+mod refusal;
+pub mod words;
+
+pub use answers::{
+    Alignment, Cell, Header, Hypothesis, MappedCorner, Marker, MarkerCell, Match, Sample, Violation,
+};
+pub use refusal::Refusal;
+pub use words::BoardSpec;
+
+use answers::{
+    CELL_WORDS, CORNER_WORDS, HEADER_WORDS, MARKER_CELL_WORDS, MARKER_WORDS, MATCH_WORDS,
+    VIOLATION_WORDS,
+};
+
+/// A detected corner: its score, and its grid point if it has one.
+#[derive(Clone, Copy, Debug, PartialEq)]
+pub struct Corner {
+    pub score: f32,
+    pub grid: Option<[i32; 2]>,
+}
+
+#[derive(Clone, Copy, Debug, PartialEq, Eq)]
+pub enum LinkCheckMode {
+    SubsetOk,
+    MustMatchAll4,
+}
+
+/// No entry wants more places than these, so that none of the functions below is refused 14.
+const MOST_CELLS: usize = 256;
+const MOST_CORNERS: usize = 31 * 31;
+const MOST_LINKS: usize = 4096;
+const VIOLATIONS_PER_LINK: usize = 3;
+
+/// The words of an answer, if it is no refusal.
+fn told<const N: usize>(ask: impl FnOnce(&mut [u32]) -> u32) -> Result<[u32; N], Refusal> {
+    let mut values = [0; 17];
+    match ask(&mut values) {
+        0 => Ok(std::array::from_fn(|k| values[k])),
+        number => Err(Refusal::new(number, [values[0], values[1]])),
+    }
+}
+
+/// The first results of a list, with `N` words each.
+fn results<W: Copy, T, const N: usize>(
+    list: &[W],
+    count: usize,
+    new: impl Fn([W; N]) -> T,
+) -> Vec<T> {
+    let chunks = list.as_chunks::<N>().0;
+    chunks[..count].iter().map(|&words| new(words)).collect()
+}
+
+pub fn read_header(record: &[u8]) -> Result<Header, Refusal> {
+    told::<HEADER_WORDS>(|values| words::read_header(record, values)).map(Header::new)
+}
+
+/// An entry of the record's likelihood table, or of the built-in one.
+pub fn table_entry(record: &[u8], k: usize) -> Result<Option<f32>, Refusal> {
+    let [present, bits] = told(|values| words::table_entry(record, k, values))?;
+    Ok((present == 1).then(|| f32::from_bits(bits)))
+}
+
+pub fn code(record: &[u8], k: usize) -> Result<Option<u64>, Refusal> {
+    let [present, low, high] = told(|values| words::code(record, k, values))?;
+    Ok((present == 1).then(|| u64::from(high) << 32 | u64::from(low)))
+}
+
+pub fn cell(record: &[u8], k: usize) -> Result<Option<Cell>, Refusal> {
+    told::<CELL_WORDS>(|values| words::cell(record, k, values)).map(Cell::new)
+}
+
+/// The grey bytes of a cell, as a part of the record; none for an unsampled or absent cell.
+pub fn grid(record: &[u8], k: usize) -> Result<&[u8], Refusal> {
+    let [start, length] = told(|values| words::grid(record, k, values))?.map(|word| word as usize);
+    Ok(&record[start..start + length])
+}
+
+fn corner_lists(corners: &[Corner]) -> (Vec<f32>, Vec<i32>) {
+    let scores = corners.iter().map(|corner| corner.score).collect();
+    let point = |corner: &Corner| corner.grid.map_or([0; 3], |[u, v]| [1, u, v]);
+    (scores, corners.iter().flat_map(point).collect())
+}
+
+/// The whole cells between the corners that the inliers name, row by row.
+pub fn build_marker_cells(
+    corners: &[Corner],
+    inliers: &[usize],
+) -> Result<Vec<MarkerCell>, Refusal> {
+    let (scores, grid) = corner_lists(corners);
+    let mut cells = vec![0; MOST_CELLS * MARKER_CELL_WORDS];
+    let [count] =
+        told(|values| words::build_marker_cells(&scores, &grid, inliers, &mut cells, values))?;
+    Ok(results(&cells, count as usize, MarkerCell::new))
+}
+
+/// Where the board lies under the cells of a shot record.
+pub fn match_board(record: &[u8]) -> Result<Match, Refusal> {
+    let mut markers = vec![0; MOST_CELLS * MARKER_WORDS];
+    let values = told::<MATCH_WORDS>(|values| words::match_board(record, &mut markers, values))?;
+    let markers = results(&markers, Match::count(values), Marker::new);
+    Ok(Match::new(values, markers))
+}
+
+/// Which inner corner of the board each corner is, by rising id. `alignment` is that of the corners.
+pub fn map_charuco_corners(
+    spec: &BoardSpec,
+    codes: &[u64],
+    corners: &[Corner],
+    alignment: Alignment,
+) -> Result<Vec<MappedCorner>, Refusal> {
+    let (scores, grid) = corner_lists(corners);
+    let input = words::CornerInput {
+        scores: &scores,
+        grid: &grid,
+        alignment: (alignment.turn, alignment.tx, alignment.ty),
+    };
+    let mut mapped = vec![0; MOST_CORNERS * CORNER_WORDS];
+    let [count] =
+        told(|values| words::map_charuco_corners(spec, codes, input, &mut mapped, values))?;
+    Ok(results(&mapped, count as usize, MappedCorner::new))
+}
+
+/// What is wrong with links of markers and corners: pairs of a marker's id and a corner's.
+pub fn validate_marker_corner_links(
+    spec: &BoardSpec,
+    codes: &[u64],
+    links: &[[u32; 2]],
+    mode: LinkCheckMode,
+) -> Result<Vec<Violation>, Refusal> {
+    let places = VIOLATIONS_PER_LINK * links.len().min(MOST_LINKS);
+    let mut violations = vec![0; places * VIOLATION_WORDS];
+    let mode = u32::from(mode == LinkCheckMode::MustMatchAll4);
+    let [count] = told(|values| {
+        words::validate_marker_corner_links(
+            spec,
+            codes,
+            links.as_flattened(),
+            mode,
+            &mut violations,
+            values,
+        )
+    })?;
+    Ok(results(&violations, count as usize, Violation::new))
+}

@@ -1,0 +1,238 @@
+//! The C functions over slices of words, as include/charuco.h has them: the answer is 0 or the number of the refusal, and every list
+//! may have every length.
+
+/// What the corner and link entries are given of a board.
+#[derive(Clone, Copy, Debug, PartialEq)]
+pub struct BoardSpec {
+    pub rows: u32,
+    pub cols: u32,
+    pub bits: u32,
+    pub border_bits: u32,
+    pub cell_size: f32,
+    pub marker_size_rel: f32,
+}
+
+type Reader = unsafe extern "C" fn(*const u8, usize, usize, *mut u32, usize) -> u32;
+
+unsafe extern "C" {
+    fn charuco_read_header(bytes: *const u8, n: usize, values: *mut u32, n_values: usize) -> u32;
+    fn charuco_table_entry(
+        bytes: *const u8,
+        n: usize,
+        k: usize,
+        values: *mut u32,
+        n_values: usize,
+    ) -> u32;
+    fn charuco_code(bytes: *const u8, n: usize, k: usize, values: *mut u32, n_values: usize)
+    -> u32;
+    fn charuco_cell(bytes: *const u8, n: usize, k: usize, values: *mut u32, n_values: usize)
+    -> u32;
+    fn charuco_grid(bytes: *const u8, n: usize, k: usize, values: *mut u32, n_values: usize)
+    -> u32;
+    fn charuco_build_marker_cells(
+        scores: *const f32,
+        n_scores: usize,
+        grid: *const i32,
+        n_grid: usize,
+        inliers: *const usize,
+        n_inliers: usize,
+        cells: *mut i32,
+        n_cells: usize,
+        values: *mut u32,
+        n_values: usize,
+    ) -> u32;
+    fn charuco_match_board(
+        bytes: *const u8,
+        n: usize,
+        markers: *mut u32,
+        n_markers: usize,
+        values: *mut u32,
+        n_values: usize,
+    ) -> u32;
+    fn charuco_map_charuco_corners(
+        rows: u32,
+        cols: u32,
+        bits: u32,
+        border_bits: u32,
+        cell_size: f32,
+        marker_size_rel: f32,
+        codes: *const u64,
+        n_codes: usize,
+        scores: *const f32,
+        n_scores: usize,
+        grid: *const i32,
+        n_grid: usize,
+        turn: u32,
+        tx: i32,
+        ty: i32,
+        corners: *mut u32,
+        n_corners: usize,
+        values: *mut u32,
+        n_values: usize,
+    ) -> u32;
+    fn charuco_validate_marker_corner_links(
+        rows: u32,
+        cols: u32,
+        bits: u32,
+        border_bits: u32,
+        cell_size: f32,
+        marker_size_rel: f32,
+        codes: *const u64,
+        n_codes: usize,
+        links: *const u32,
+        n_links: usize,
+        mode: u32,
+        violations: *mut u32,
+        n_violations: usize,
+        values: *mut u32,
+        n_values: usize,
+    ) -> u32;
+}
+
+// SAFETY, in every function below: each pointer and the length behind it are those of one slice, so it is valid, aligned and not null.
+// What is lent as `&mut` overlaps nothing else. The C functions read and write within these lengths and keep no pointer.
+
+pub fn read_header(record: &[u8], values: &mut [u32]) -> u32 {
+    unsafe {
+        charuco_read_header(
+            record.as_ptr(),
+            record.len(),
+            values.as_mut_ptr(),
+            values.len(),
+        )
+    }
+}
+
+fn read_at(reader: Reader, record: &[u8], k: usize, values: &mut [u32]) -> u32 {
+    unsafe {
+        reader(
+            record.as_ptr(),
+            record.len(),
+            k,
+            values.as_mut_ptr(),
+            values.len(),
+        )
+    }
+}
+
+pub fn table_entry(record: &[u8], k: usize, values: &mut [u32]) -> u32 {
+    read_at(charuco_table_entry, record, k, values)
+}
+
+pub fn code(record: &[u8], k: usize, values: &mut [u32]) -> u32 {
+    read_at(charuco_code, record, k, values)
+}
+
+pub fn cell(record: &[u8], k: usize, values: &mut [u32]) -> u32 {
+    read_at(charuco_cell, record, k, values)
+}
+
+pub fn grid(record: &[u8], k: usize, values: &mut [u32]) -> u32 {
+    read_at(charuco_grid, record, k, values)
+}
+
+pub fn build_marker_cells(
+    scores: &[f32],
+    grid: &[i32],
+    inliers: &[usize],
+    cells: &mut [i32],
+    values: &mut [u32],
+) -> u32 {
+    unsafe {
+        charuco_build_marker_cells(
+            scores.as_ptr(),
+            scores.len(),
+            grid.as_ptr(),
+            grid.len(),
+            inliers.as_ptr(),
+            inliers.len(),
+            cells.as_mut_ptr(),
+            cells.len(),
+            values.as_mut_ptr(),
+            values.len(),
+        )
+    }
+}
+
+pub fn match_board(record: &[u8], markers: &mut [u32], values: &mut [u32]) -> u32 {
+    unsafe {
+        charuco_match_board(
+            record.as_ptr(),
+            record.len(),
+            markers.as_mut_ptr(),
+            markers.len(),
+            values.as_mut_ptr(),
+            values.len(),
+        )
+    }
+}
+
+/// The corners as they are given, and their alignment: turn, tx, ty.
+#[derive(Clone, Copy)]
+pub struct CornerInput<'a> {
+    pub scores: &'a [f32],
+    pub grid: &'a [i32],
+    pub alignment: (u32, i32, i32),
+}
+
+pub fn map_charuco_corners(
+    spec: &BoardSpec,
+    codes: &[u64],
+    input: CornerInput,
+    corners: &mut [u32],
+    values: &mut [u32],
+) -> u32 {
+    let (turn, tx, ty) = input.alignment;
+    unsafe {
+        charuco_map_charuco_corners(
+            spec.rows,
+            spec.cols,
+            spec.bits,
+            spec.border_bits,
+            spec.cell_size,
+            spec.marker_size_rel,
+            codes.as_ptr(),
+            codes.len(),
+            input.scores.as_ptr(),
+            input.scores.len(),
+            input.grid.as_ptr(),
+            input.grid.len(),
+            turn,
+            tx,
+            ty,
+            corners.as_mut_ptr(),
+            corners.len(),
+            values.as_mut_ptr(),
+            values.len(),
+        )
+    }
+}
+
+pub fn validate_marker_corner_links(
+    spec: &BoardSpec,
+    codes: &[u64],
+    links: &[u32],
+    mode: u32,
+    violations: &mut [u32],
+    values: &mut [u32],
+) -> u32 {
+    unsafe {
+        charuco_validate_marker_corner_links(
+            spec.rows,
+            spec.cols,
+            spec.bits,
+            spec.border_bits,
+            spec.cell_size,
+            spec.marker_size_rel,
+            codes.as_ptr(),
+            codes.len(),
+            links.as_ptr(),
+            links.len(),
+            mode,
+            violations.as_mut_ptr(),
+            violations.len(),
+            values.as_mut_ptr(),
+            values.len(),
+        )
+    }
+}

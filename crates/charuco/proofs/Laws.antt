@@ -1,0 +1,26 @@
+-- The corner entry takes a match's corners: its alignment passes question 18, and the corners of a placed cell get the ids of its square's
+-- corners. Assumes nothing.
+use mathlib.Core.Path.{ap, _∙_}
+use native.Mathlib.Omega.{arith}
+use Rattle.grid_alignment.specs.declared.GridAlignment.{GridAlignment}
+use Rattle.grid_alignment.specs.Alignment.{applied, corner}
+use Rattle.grid_alignment.proofs.Laws.{corners-land}
+use Rattle.board_match.proofs.Laws.{match-corners}
+use Rattle.corner_mapping.specs.Corners.{idOf}
+use Rattle.corner_mapping.specs.Entry.{alignmentAnswer}
+use Rattle.corner_mapping.proofs.Laws.{corners-of-marker, corner-alignment-passes}
+use Rattle.charuco.specs.Rules.{CornersOfMatch}
+
+pub corners-of-match : CornersOfMatch
+corners-of-match bytes lent small m e =
+    let c = match-corners bytes lent small m e in
+    let cells = m .best .alignment in
+    record {
+      pass =
+          ap alignmentAnswer (c .are)
+          ∙ corner-alignment-passes cells (c .turn) (omega (arith, c .tx)) (omega (arith, c .ty));
+      land = λ k p h. ap (λ (a : GridAlignment). applied a (corner k p)) (c .are) ∙ corners-land cells k p h;
+      ids = λ parity board grid n p k i a b d f h l g q four.
+          ap (λ (x : GridAlignment). idOf board x grid n) (c .are)
+          ∙ corners-of-marker parity board cells grid n p k i a b d f h l g q four;
+    }

@@ -1,0 +1,3 @@
+mod Giving
+mod Words
+pub mod Laws

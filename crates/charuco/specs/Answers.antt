@@ -1,0 +1,39 @@
+-- What a C function answers: a number, 0 if the entry worked and else document 01's, and words in a list that is lent.
+use Prim.Native.Nat.{ℕ, _%_, _^_}
+use mathlib.Core.Path.{_≡_}
+use mathlib.Core.Bool.{cond}
+use mathlib.Core.List.{List, [], _∷_, _++_}
+use lib.Dec.{eqb}
+use lib.ListN.{length, take, drop}
+use Rattle.refusal.specs.declared.Refusal.{Refusal}
+use Rattle.refusal.specs.Numbers.{numberOf, valuesOf}
+
+pub record Answer : Type 0 where
+  pub number : ℕ
+  pub words : List ℕ
+
+abbrev pub worked : List ℕ → Answer
+worked words = record { number = 0; words = words }
+
+-- a count in 32 bits
+abbrev pub countWord : ℕ → ℕ
+countWord n = n % 2 ^ 32
+
+abbrev pub counted : ℕ → Answer
+counted n = worked (countWord n ∷ [])
+
+abbrev pub refused : Refusal → Answer
+refused r = record { number = numberOf r; words = valuesOf r }
+
+-- as many words as there is room for, in front of the list; the rest untouched
+abbrev pub given : List ℕ → List ℕ → List ℕ
+given words lent = take (length lent) words ++ drop (length words) lent
+
+-- the number that is returned and the list at exit are those of the answer
+pub record Tells (a : Answer) (r : ℕ) (lent exit : List ℕ) : Type 0 where
+  pub number : r ≡ a .number
+  pub values : exit ≡ given (a .words) lent
+
+-- how many values the refusal with a number gives
+abbrev pub valueCount : ℕ → ℕ
+valueCount n = cond (eqb n 7) 2 (cond (eqb n 16) 1 0)

@@ -1,0 +1,87 @@
+-- The words by which the C functions tell the answers of the other entries.
+use Prim.Native.Nat.{ℕ, zero, suc}
+use mathlib.Core.Bool.{cond}
+use mathlib.Core.List.{List, [], _∷_, _++_}
+use lib.Dec.{ltb}
+use lib.IntN.{ℤ}
+use lib.Ieee.{Float, binary32, toBits}
+use mir.Syntax.{w32}
+use mir.Val.{ofZ}
+use Rattle.grid_alignment.specs.declared.GridAlignment.{GridAlignment}
+use Rattle.ranking.specs.declared.Evidence.{Evidence}
+use Rattle.ranking.specs.declared.Evidence.the-variants as evidence
+use Rattle.ranking.specs.declared.Hypothesis.{Hypothesis}
+use Rattle.ranking.specs.declared.Choice.{Choice}
+use Rattle.ranking.specs.declared.Choice.the-variants as choice
+use Rattle.board_match.specs.declared.Match.{Match}
+use Rattle.board_match.specs.declared.Matched.{Matched}
+use Rattle.board_match.specs.declared.Matched.the-variants as matched
+use Rattle.marker_sampling.specs.declared.MarkerCells.{MarkerCells}
+use Rattle.marker_sampling.specs.declared.MarkerCells.the-variants as found
+use Rattle.board.specs.declared.CharucoBoardSpec.{CharucoBoardSpec}
+use Rattle.corner_mapping.specs.declared.MappedCorners.{MappedCorners}
+use Rattle.corner_mapping.specs.declared.MappedCorners.the-variants as mapped
+use Rattle.link_check.specs.declared.LinkCheckMode.{LinkCheckMode}
+use Rattle.link_check.specs.declared.LinkCheckMode.the-variants as mode
+use Rattle.link_check.specs.declared.CheckedLinks.{CheckedLinks}
+use Rattle.link_check.specs.declared.CheckedLinks.the-variants as checked
+use Rattle.charuco.specs.Answers.{Answer, worked, counted, refused, countWord}
+
+-- how many cells were found
+abbrev pub cellsTold : MarkerCells → Answer
+cellsTold (found.Found count) = counted count
+cellsTold (found.Refused r) = refused r
+
+-- Match: the best placement, whether there is a next one and which, the margin, the count of placements, the corners' alignment and the
+-- count of markers. An alignment is turn, tx, ty; evidence is whether it is a number, and its bits.
+abbrev pub alignmentWords : GridAlignment → List ℕ
+alignmentWords a = a .turn ∷ ofZ w32 (a .tx) ∷ ofZ w32 (a .ty) ∷ []
+
+abbrev pub evidenceWords : Evidence → List ℕ
+evidenceWords (evidence.Number x) = 1 ∷ toBits binary32 x ∷ []
+evidenceWords evidence.Absent = 0 ∷ 0 ∷ []
+
+abbrev pub placementWords : Hypothesis → List ℕ
+placementWords h = alignmentWords (h .alignment) ++ evidenceWords (h .evidence)
+
+abbrev pub choiceWords : Choice → List ℕ
+choiceWords (choice.Placement h) = 1 ∷ placementWords h
+choiceWords choice.Absent = 0 ∷ 0 ∷ 0 ∷ 0 ∷ 0 ∷ 0 ∷ []
+
+abbrev pub matchWords : Match → List ℕ
+matchWords m =
+    placementWords (m .best)
+    ++ choiceWords (m .«runner_up»)
+    ++ (toBits binary32 (m .margin) ∷ countWord (m .placements) ∷ [])
+    ++ alignmentWords (m .corners)
+    ++ (countWord (m .markers) ∷ [])
+
+abbrev pub matchTold : Matched → Answer
+matchTold (matched.Placed m) = worked (matchWords m)
+matchTold (matched.Refused r) = refused r
+
+-- The corner and link entries: what they are given of a board,
+abbrev pub specOf : ℕ → ℕ → ℕ → ℕ → Float → Float → CharucoBoardSpec
+specOf rows cols bits border size marker =
+    record { rows = rows; cols = cols; bits = bits; «border_bits» = border; «cell_size» = size; «marker_size_rel» = marker }
+
+-- the alignment of the corners, in which a turn above 3 counts as 4, which question 18 refuses,
+abbrev pub turnByte : ℕ → ℕ
+turnByte turn = cond (ltb turn 4) turn 4
+
+abbrev pub alignmentOf : ℕ → ℤ → ℤ → GridAlignment
+alignmentOf turn tx ty = record { turn = turnByte turn; tx = tx; ty = ty }
+
+-- how strictly links are checked,
+abbrev pub modeOf : ℕ → LinkCheckMode
+modeOf zero = mode.SubsetOk
+modeOf (suc n) = mode.MustMatchAll4
+
+-- and how many corners are mapped, or violations found
+abbrev pub cornersTold : MappedCorners → Answer
+cornersTold (mapped.Mapped count) = counted count
+cornersTold (mapped.Refused r) = refused r
+
+abbrev pub linksTold : CheckedLinks → Answer
+linksTold (checked.Checked count) = counted count
+linksTold (checked.Refused r) = refused r

@@ -1,0 +1,4 @@
+pub mod Answers
+pub mod Records
+pub mod Entries
+pub mod Rules

@@ -1,0 +1,24 @@
+// What the corner and link entries are given of a board.
+ghost use mathlib.Core.Path.{_≡_};
+ghost use Rattle.charuco.specs.Entries.{specOf};
+use board::CharucoBoardSpec;
+
+pub fn spec(
+    rows: u32,
+    cols: u32,
+    bits: u32,
+    border_bits: u32,
+    cell_size: f32,
+    marker_size_rel: f32,
+) -> CharucoBoardSpec
+    ensures { λ r. ⌜ r ≡ specOf rows cols bits «border_bits» «cell_size» «marker_size_rel» ⌝ }
+{
+    CharucoBoardSpec {
+        rows,
+        cols,
+        bits,
+        border_bits,
+        cell_size,
+        marker_size_rel,
+    }
+}

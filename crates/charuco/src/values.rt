@@ -1,0 +1,61 @@
+// A C function's answer: a number, and words in the list `values` that the caller lends, as many as there is room for.
+ghost use mathlib.Core.Path.{_≡_};
+ghost use Rattle.charuco.specs.Answers.{given, worked as workedWith, counted as countedAs, refused as refusedBy, valueCount, countWord, Tells};
+use refusal::Refusal;
+
+// The lower 32 bits of a count, none of which is larger.
+pub fn count_word(n: usize) -> u32
+    ensures { λ r. ⌜ r ≡ countWord n ⌝ }
+{
+    (n % 0x1_0000_0000) as u32
+}
+
+fn put(values: &mut [u32], words: &[u32])
+    ensures { λ _. ⌜ now (values .exit) ≡ given (now (words .entry)) (now (values .entry)) ⌝ }
+{
+    let room = values.len();
+    if words.len() <= room {
+        lent_list::put(values, 0, words);
+        return;
+    }
+    lent_list::put(values, 0, &words[..room]);
+}
+
+// The answer of an entry that worked.
+pub fn worked(values: &mut [u32], words: &[u32]) -> u32
+    ensures { λ r. ⌜ Tells (workedWith (now (words .entry))) r (now (values .entry)) (now (values .exit)) ⌝ }
+{
+    put(values, words);
+    0
+}
+
+// The same for an entry that answers with a count.
+pub fn counted(values: &mut [u32], count: usize) -> u32
+    ensures { λ r. ⌜ Tells (countedAs count) r (now (values .entry)) (now (values .exit)) ⌝ }
+{
+    worked(values, &[count_word(count)])
+}
+
+// How many values the refusal with a number gives.
+fn value_count(number: u32) -> usize
+    ensures { λ r. ⌜ r ≡ valueCount number ⌝ }
+{
+    if number == 7 {
+        return 2;
+    }
+    if number == 16 {
+        return 1;
+    }
+    0
+}
+
+// The answer of an entry that refused: its number, and the values that it gives.
+pub fn refused(values: &mut [u32], refusal: Refusal) -> u32
+    ensures { λ r. ⌜ Tells (refusedBy refusal) r (now (values .entry)) (now (values .exit)) ⌝ }
+{
+    let words: [u32; 2] = [refusal.value(0), refusal.value(1)];
+    let number = refusal.number();
+    let count = value_count(number);
+    put(values, &words[..count]);
+    number
+}

@@ -1,0 +1,4 @@
+pub mod Corners
+pub mod Entry
+pub mod Inner
+pub mod Rules

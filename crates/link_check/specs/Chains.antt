@@ -1,0 +1,37 @@
+-- Links chained by a key below 4,096: the first link of each key, and after each link the next one of its key.
+use Prim.Native.Nat.{ℕ, zero, suc, _+_, _*_, _%_, _≤_, _<_}
+use mathlib.Core.Path.{_≡_}
+use mathlib.Core.Bool.{Bool}
+use mathlib.Core.List.{List}
+use lib.ListN.{length, getD}
+use Rattle.link_check.specs.Links.{markerOf, cornerOf, names, reports}
+
+-- the key of a marker and a corner: with the weight 0 of the marker alone
+abbrev pub keyFor : ℕ → ℕ → ℕ → ℕ
+keyFor weight m c = (61 * m + weight * c) % 4096
+
+abbrev pub keyOf : ℕ → List ℕ → ℕ → ℕ
+keyOf weight links k = keyFor weight (markerOf links k) (cornerOf links k)
+
+-- link j is of the marker and, unless the weight is 0, of the corner
+abbrev pub linksTo : ℕ → List ℕ → ℕ → ℕ → ℕ → Bool
+linksTo zero links m c j = names links m j
+linksTo (suc weight) links m c j = reports links m c j
+
+-- r is the first of the links from i to n − 1 that has the key b, or n
+pub record LeastFrom (κ : ℕ → ℕ) (n b i r : ℕ) : Type 0 where
+  pub from : i ≤ r
+  pub most : r ≤ n
+  pub passed : (j : ℕ) → i ≤ j → j < r → κ j ≡ b → ⊥
+  pub has : r < n → κ r ≡ b
+
+-- the links from k to n − 1 are chained
+pub record ChainedFrom (κ : ℕ → ℕ) (n k : ℕ) (first next : List ℕ) : Type 0 where
+  pub first-long : length first ≡ 4096
+  pub next-long : length next ≡ 4096
+  pub heads : (b : ℕ) → b < 4096 → LeastFrom κ n b k (getD first b 0)
+  pub tails : (i : ℕ) → k ≤ i → i < n → LeastFrom κ n (κ i) (i + 1) (getD next i 0)
+
+-- all n links are chained
+abbrev pub Chained : (ℕ → ℕ) → ℕ → List ℕ → List ℕ → Type 0
+Chained κ n first next = ChainedFrom κ n 0 first next

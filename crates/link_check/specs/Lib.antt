@@ -1,0 +1,5 @@
+pub mod Links
+pub mod Violations
+pub mod Entry
+pub mod Missing
+pub mod Chains

@@ -1,0 +1,40 @@
+-- Document 01, Links: the links that are lent, and which of them repeat an earlier one.
+use Prim.Native.Nat.{ℕ, zero, suc, _+_, _*_, _/_}
+use mathlib.Core.Bool.{Bool, false, not, _&&_, _||_}
+use mathlib.Core.List.{List}
+use lib.Dec.{eqb}
+use lib.ListN.{length, getD}
+
+-- two words a link; an odd last word is no link
+abbrev pub linkCount : List ℕ → ℕ
+linkCount links = length links / 2
+
+abbrev pub markerOf : List ℕ → ℕ → ℕ
+markerOf links k = getD links (2 * k) 0
+
+abbrev pub cornerOf : List ℕ → ℕ → ℕ
+cornerOf links k = getD links (2 * k + 1) 0
+
+-- does some j below n pass the test?
+unfoldable pub anyBelow : (ℕ → Bool) → ℕ → Bool
+anyBelow t zero = false
+anyBelow t (suc n) = anyBelow t n || t n
+
+-- link j names the marker, and the corner
+abbrev pub names : List ℕ → ℕ → ℕ → Bool
+names links m j = eqb (markerOf links j) m
+
+abbrev pub reports : List ℕ → ℕ → ℕ → ℕ → Bool
+reports links m c j = names links m j && eqb (cornerOf links j) c
+
+-- link k repeats an earlier one
+abbrev pub repeated : List ℕ → ℕ → Bool
+repeated links k = anyBelow (reports links (markerOf links k) (cornerOf links k)) k
+
+-- link k is the first of its marker
+abbrev pub first : List ℕ → ℕ → Bool
+first links k = not (anyBelow (names links (markerOf links k)) k)
+
+-- the first n links report the marker's corner
+abbrev pub reported : List ℕ → ℕ → ℕ → ℕ → Bool
+reported links n m c = anyBelow (reports links m c) n

@@ -1,0 +1,4 @@
+pub mod Greatest
+pub mod Margin
+pub mod Ranking
+pub mod Rules

@@ -1,0 +1,207 @@
+// The best placement and its runner-up, in one pass over the placements, and the margin between the two (hypothesis.rs). Leans on `floats` and
+// `grid_alignment`, and for its laws on `integers` and `lent_list`.
+ghost use mathlib.Core.Path.{_≡_};
+ghost use mathlib.Core.List.{[]};
+ghost use Prim.Native.Nat.{_^_, _<_};
+ghost use Rattle.ranking.specs.Greatest.{below as lies-below};
+ghost use Rattle.ranking.specs.Margin.{margin as marginOf};
+ghost use Rattle.ranking.specs.Ranking.{rankingOf, better as betterOf, ranked as rankedOf, barsBy, barsOf, staysBehind};
+use grid_alignment::GridAlignment;
+
+// The evidence of a placement. None lies below every number.
+pub enum Evidence {
+    Number(f32),
+    Absent,
+}
+
+// A placement, as an alignment of cells, and its evidence.
+pub struct Hypothesis {
+    pub alignment: GridAlignment,
+    pub evidence: Evidence,
+}
+
+pub enum Choice {
+    Placement(Hypothesis),
+    Absent,
+}
+
+// The best of the placements passed, the best of the others, and how many have been passed.
+pub struct Ranking {
+    pub best: Choice,
+    pub runner_up: Choice,
+    pub total: usize,
+}
+
+// The ranking of no placement.
+pub fn no_ranking() -> Ranking
+    ensures { λ r. ⌜ r ≡ rankingOf [] ⌝ }
+{
+    Ranking {
+        best: Choice::Absent,
+        runner_up: Choice::Absent,
+        total: 0,
+    }
+}
+
+// None lies below every number.
+pub fn below(a: Evidence, b: Evidence) -> bool
+    ensures { λ r. ⌜ r ≡ lies-below a b ⌝ }
+{
+    match b {
+        Evidence::Absent => false,
+        Evidence::Number(y) => match a {
+            Evidence::Absent => true,
+            Evidence::Number(x) => x < y,
+        },
+    }
+}
+
+// The better of the placement held and h: on a tie the one held, which came first.
+fn better(held: Choice, h: Hypothesis) -> Choice
+    ensures { λ r. ⌜ r ≡ betterOf held h ⌝ }
+{
+    match held {
+        Choice::Absent => Choice::Placement(h),
+        Choice::Placement(b) => {
+            let x = b.evidence;
+            let y = h.evidence;
+            if below(x, y) {
+                Choice::Placement(h)
+            } else {
+                Choice::Placement(b)
+            }
+        }
+    }
+}
+
+// One placement more: a new best makes the old one the runner-up.
+pub fn ranked(ranking: Ranking, h: Hypothesis) -> Ranking
+    requires { ⌜ ranking .total < 2 ^ 32 ⌝ }
+    ensures { λ r. ⌜ r ≡ rankedOf ranking h ⌝ }
+{
+    let total = ranking.total + 1;
+    let best = ranking.best;
+    let runner_up = ranking.runner_up;
+    match best {
+        Choice::Absent => Ranking {
+            best: Choice::Placement(h),
+            runner_up: Choice::Absent,
+            total,
+        },
+        Choice::Placement(b) => {
+            let x = b.evidence;
+            let y = h.evidence;
+            if below(x, y) {
+                Ranking {
+                    best: Choice::Placement(h),
+                    runner_up: Choice::Placement(b),
+                    total,
+                }
+            } else {
+                Ranking {
+                    best: Choice::Placement(b),
+                    runner_up: better(runner_up, h),
+                    total,
+                }
+            }
+        }
+    }
+}
+
+// What a placement must pass to change best or runner-up: the numbers of both, where both have one. Without a number it passes no placement.
+pub struct Bars {
+    pub placed: bool,
+    pub known: bool,
+    pub best: f32,
+    pub second: f32,
+}
+
+fn bars_by(best: Evidence, second: Evidence) -> Bars
+    ensures { λ r. ⌜ r ≡ barsBy best second ⌝ }
+{
+    let unknown = Bars {
+        placed: true,
+        known: false,
+        best: 0.0,
+        second: 0.0,
+    };
+    let Evidence::Number(x) = best else {
+        return unknown;
+    };
+    let Evidence::Number(y) = second else {
+        return unknown;
+    };
+    Bars {
+        placed: true,
+        known: true,
+        best: x,
+        second: y,
+    }
+}
+
+pub fn bars_of(ranking: Ranking) -> Bars
+    ensures { λ r. ⌜ r ≡ barsOf ranking ⌝ }
+{
+    let best = ranking.best;
+    let runner_up = ranking.runner_up;
+    let unknown = Bars {
+        placed: false,
+        known: false,
+        best: 0.0,
+        second: 0.0,
+    };
+    let Choice::Placement(b) = best else {
+        return unknown;
+    };
+    let Choice::Placement(second) = runner_up else {
+        return unknown;
+    };
+    let x = b.evidence;
+    let y = second.evidence;
+    bars_by(x, y)
+}
+
+// Whether a placement with this evidence passes neither of the bars.
+pub fn stays_behind(bars: Bars, evidence: Evidence) -> bool
+    ensures { λ r. ⌜ r ≡ staysBehind bars evidence ⌝ }
+{
+    match evidence {
+        Evidence::Absent => bars.placed,
+        Evidence::Number(x) => {
+            if bars.best < x {
+                return false;
+            }
+            if bars.second < x {
+                return false;
+            }
+            bars.known
+        }
+    }
+}
+
+// f32::EPSILON, 2⁻²³
+const EPSILON: f32 = 1.1920929e-7;
+
+// The lead over the runner-up as a share of the best's capacity.
+pub fn margin(best: Evidence, best_capacity: f32, runner_up: Choice) -> f32
+    ensures { λ r. ⌜ r ≡ marginOf best «best_capacity» «runner_up» ⌝ }
+{
+    let Evidence::Number(x) = best else {
+        return 0.0;
+    };
+    if x <= 0.0 {
+        return 0.0;
+    }
+    let Choice::Placement(second) = runner_up else {
+        return 1.0;
+    };
+    let evidence = second.evidence;
+    let Evidence::Number(y) = evidence else {
+        return 1.0;
+    };
+    if best_capacity < EPSILON {
+        (x - y) / EPSILON
+    } else {
+        (x - y) / best_capacity
+    }
+}

@@ -1,0 +1,27 @@
+-- `stored_rows::lent::digest_of` is safe and ends. Assumes nothing.
+use Prim.Native.Nat.{_-_}
+use lib.ListN.{length}
+use borrow.Author.Needs.{needs}
+use Rattle.stored_rows.proofs.lent.digest_of.Statement.{statement}
+use Rattle.stored_rows.proofs.lent.digest_of.Tie as tie
+
+abbrev Inv-loop : tie.InvT-loop
+Inv-loop list h₀ i₀ h i = Unit {0}
+
+abbrev μ-loop : tie.MeasureT-loop
+μ-loop list h₀ i₀ h i = length list - i
+
+pub digest-of-spec : {M : Type 1} → statement M
+digest-of-spec =
+    tie.close
+    (tie.spec
+    Inv-loop
+    μ-loop
+    (λ c. tt)
+    (λ c. search needs)
+    (λ c. search needs)
+    (λ c κs. tt)
+    (λ c. search needs)
+    (λ c. search needs)
+    (λ c. tt)
+    (λ c. tt))

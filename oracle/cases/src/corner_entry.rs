@@ -1,0 +1,84 @@
+//! Boards, corners and alignments for the corner entry.
+
+mod limits;
+mod random;
+
+use crate::boards::BoardArguments;
+use crate::corner_lists::CornerLists;
+use std::fmt::{self, Display, Formatter};
+
+pub use limits::{alignments, on_changed_boards, pairs_of_refusals, single_changes};
+pub use random::{full_boards, largest_board, random_inputs};
+
+/// Id, index in the input, board corner i and j, the bits of the target's x and y.
+pub const WORDS_OF_A_CORNER: usize = 6;
+
+/// Both numbers of a translation lie from minus this to this.
+pub const FARTHEST_TRANSLATION: i32 = 8192;
+
+#[derive(Clone, Debug)]
+pub struct CornerInput {
+    pub board: BoardArguments,
+    /// Scores, grid words and the length of the lent list; no inliers.
+    pub lists: CornerLists,
+    pub turn: u32,
+    /// That of corners.
+    pub translation: [i32; 2],
+}
+
+impl CornerInput {
+    /// No corners, and a list with just the places that are asked for.
+    pub fn new(board: BoardArguments, turn: u32, translation: [i32; 2]) -> Self {
+        let mut lists = CornerLists::of_points([]);
+        lists.places = words_needed(&board);
+        Self {
+            board,
+            lists,
+            turn,
+            translation,
+        }
+    }
+
+    /// A further corner, with the words given.
+    pub fn add(&mut self, words: [i32; 3], score: f32) {
+        self.lists.add(words);
+        *self.lists.scores.last_mut().expect("one was added") = score;
+    }
+
+    /// The grid point that the alignment sends to a board corner. The turn is 0 to 3.
+    pub const fn source(&self, [i, j]: [i32; 2]) -> [i32; 2] {
+        let [tx, ty] = self.translation;
+        let [i, j] = [i - tx, j - ty];
+        match self.turn {
+            0 => [i, j],
+            1 => [-j, i],
+            2 => [-i, -j],
+            _ => [j, -i],
+        }
+    }
+
+    /// A further corner, on a board corner.
+    pub fn add_on(&mut self, corner: [i32; 2], score: f32) {
+        let [u, v] = self.source(corner);
+        self.add([1, u, v], score);
+    }
+}
+
+/// Words of a list with a place for each inner corner. Boards of any size are asked about.
+pub const fn words_needed(board: &BoardArguments) -> usize {
+    let rows = (board.rows as usize).saturating_sub(1);
+    let cols = (board.cols as usize).saturating_sub(1);
+    WORDS_OF_A_CORNER.saturating_mul(rows.saturating_mul(cols))
+}
+
+impl Display for CornerInput {
+    fn fmt(&self, f: &mut Formatter) -> fmt::Result {
+        let Self {
+            board,
+            lists,
+            turn,
+            translation,
+        } = self;
+        write!(f, "turn {turn}, {translation:?}, {lists}, {board:?}")
+    }
+}
