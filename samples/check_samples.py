@@ -4,7 +4,7 @@ usage: python3 check_samples.py              hold every sheet's model against it
        python3 check_samples.py --write      store the texts
        python3 check_samples.py FILE...      print the model's text for each record
 
-It leans on nothing of the library but the likelihood table's bits, which it reads from the definition `patterns` in
+It uses nothing of the library but the likelihood table's bits, which it reads from the definition `patterns` in
 crates/score_matrix/specs/Table.antt. All arithmetic is in numpy's float32, one operation at a time.
 
 Exit status 0: all agrees. 1: something differs. 2: a file is missing.

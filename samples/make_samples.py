@@ -1,4 +1,4 @@
-"""Draw ChArUco boards with OpenCV, photograph them in software and write what was sampled as shot records.
+"""Draw ChArUco boards with OpenCV, lay them into pictures as a camera would see them and write what was sampled as shot records.
 
 usage: python3 make_samples.py [--pictures] [directory]
 
@@ -113,9 +113,9 @@ class Shot:
         rectangle = np.array([(0, 0), (self.width, 0), (self.width, self.height), (0, self.height)])
         self.to_board = lambda point: matrix @ np.array(point) - (rectangle @ matrix.T).min(axis=0)
         self.view = cv2.getPerspectiveTransform(rectangle.astype(np.float32), np.array(quad, np.float32))
-        self.picture = self.photograph(drawn(board), rectangle, quad, glare)
+        self.picture = self.taken(drawn(board), rectangle, quad, glare)
 
-    def photograph(self, scene, rectangle, quad, glare):
+    def taken(self, scene, rectangle, quad, glare):
         on_scene = [(self.to_board(corner) + 1) * SQUARE_PX for corner in rectangle]
         lens = cv2.getPerspectiveTransform(np.array(on_scene, np.float32), np.array(quad, np.float32))
         # drawn four times as large and averaged, so that edges fall between pixels

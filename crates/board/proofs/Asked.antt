@@ -1,33 +1,86 @@
--- What a board that was made tells of its specification and codes. Assumes nothing.
+-- What the board's questions tell of a specification and its codes, and how an entry's own questions follow them. Assumes nothing.
 use mathlib.Core.Path.{_≡_, refl, sym, ap, _∙_}
-use mathlib.Core.Bool.{Bool, true, false, _&&_}
+use mathlib.Core.Bool.{Bool, true, false, cond, _&&_}
 use mathlib.Core.List.{List, [], _∷_}
+use mathlib.Core.Option.{Option, none, some}
 use Prim.Native.Nat.{ℕ, zero, suc, _+_, _*_, _^_, _≤_, _<_}
-use native.Mathlib.Nat.{le-of-suc-le-suc, mul-le-mul}
+use native.Mathlib.Nat.{le-of-suc-le-suc}
 use native.Mathlib.Numerals.{add-one}
 use native.Mathlib.Omega.{arith}
 use lib.Dec.{leb, ltb, ltb→lt}
 use lib.ListN.{length, getD, drop}
 use lib.Seq.{drop-cons}
 use borrow.Author.Tests.{leb-true}
-use Rattle.refusal.proofs.Questions.{both}
 use Rattle.refusal.specs.declared.Refusal.{Refusal}
 use Rattle.refusal.specs.declared.Refusal.the-variants as refusal
+use Rattle.refusal.specs.Questions.{ask}
+use Rattle.refusal.proofs.Questions.{both, answered, GoesOn, ask-first, ask-last, followed-by, rest-asked, refusal-stands}
 use Rattle.board.specs.declared.CharucoBoardSpec.{CharucoBoardSpec}
 use Rattle.board.specs.declared.Board.{Board}
-use Rattle.board.specs.declared.NewBoard.{NewBoard}
 use Rattle.board.specs.declared.NewBoard.the-variants as new
-use Rattle.board.specs.Layout.{markerCount, odd}
-use Rattle.board.specs.Questions.{ask, sizeAnswer, cellSizeAnswer, markerSizeAnswer, rangeAnswer, codeAnswer, codesAnswer, boardOf, sizedBoard, thenCodes, newBoard}
-use Rattle.board.proofs.Markers.{odd-total}
-use Rattle.board.proofs.Answers.{from1, from2, from3, from4, from5, from6, from7, InRange, in-range}
+use Rattle.board.specs.Layout.{markerTotal}
+use Rattle.board.specs.Questions.{sizeAnswer, cellSizeAnswer, markerSizeAnswer, rangeAnswer, codeInRange, codesAnswer}
+use Rattle.board.specs.Questions.{boardOf, askedOfSize, askedOfBoard, madeUnless, sizedBoard, newBoard}
 
--- a question on the way to a board was answered with yes
-answered : (a : Bool) (r : Refusal) (next : NewBoard) (b : Board) → ask a r next ≡ new.Made b → (a ≡ true) × (next ≡ new.Made b)
-answered true r next b e = (refl, e)
-answered false r next b e = let z : _≡_ {A = ℕ} 0 1 = cc in absurd (omega arith)
+-- ---- the list of questions
+size-goes-on : (s : CharucoBoardSpec) (count : ℕ) → GoesOn (askedOfSize s count)
+unfolding askedOfSize
+size-goes-on s count =
+    ask-first (sizeAnswer (s .rows) (s .cols)) _ _
+    (ask-first (cellSizeAnswer (s .«cell_size»)) _ _
+    (ask-first (markerSizeAnswer (s .«marker_size_rel»)) _ _
+    (ask-first (leb 1 (s .«border_bits»)) _ _
+    (ask-first (ltb 0 count) _ _
+    (ask-first (rangeAnswer s count) _ _
+    (ask-last (leb (markerTotal (boardOf s)) count) _))))))
+
+pub board-goes-on : (s : CharucoBoardSpec) (codes : List ℕ) → GoesOn (askedOfBoard s codes)
+unfolding askedOfBoard
+board-goes-on s codes =
+    followed-by (askedOfSize s (length codes)) _ (size-goes-on s (length codes)) (ask-last (codesAnswer (s .bits) codes) refusal.CodeOutOfRange)
+
+-- a board was made or refused
+pub made-if : (o : Option Refusal) (s : CharucoBoardSpec) (b : Board) → madeUnless o s ≡ new.Made b → (o ≡ none) × (b ≡ boardOf s)
+made-if none s b e = (refl, cc)
+made-if (some r) s b e = let z : _≡_ {A = ℕ} 0 1 = cc in absurd (omega arith)
+
+pub refused-if : (o : Option Refusal) (s : CharucoBoardSpec) (r : Refusal) → madeUnless o s ≡ new.Refused r → o ≡ some r
+refused-if none s r e = let z : _≡_ {A = ℕ} 0 1 = cc in absurd (omega arith)
+refused-if (some q) s r e = cc
+
+-- then the rest is asked, or the refusal stands
+module _ (s : CharucoBoardSpec) (codes : List ℕ) (rest : Option Refusal) where
+  pub after-made : (b : Board) → newBoard s codes ≡ new.Made b → askedOfBoard s codes rest ≡ rest
+  after-made b e = rest-asked (askedOfBoard s codes) (board-goes-on s codes) rest (made-if (askedOfBoard s codes none) s b e .0)
+
+  pub after-refused : (r : Refusal) → newBoard s codes ≡ new.Refused r → askedOfBoard s codes rest ≡ some r
+  after-refused r e = refusal-stands (askedOfBoard s codes) (board-goes-on s codes) rest r (refused-if (askedOfBoard s codes none) s r e)
 
 -- ---- questions 1 to 7
+pub record InRange (s : CharucoBoardSpec) (n : ℕ) : Type 0 where
+  pub rows : s .rows ≤ 32
+  pub cols : s .cols ≤ 32
+  pub border : s .«border_bits» ≤ 4
+  pub some-bits : 1 ≤ s .bits
+  pub bits : s .bits ≤ 8
+  pub codes : n ≤ 1024
+
+pub in-range : (s : CharucoBoardSpec) (n : ℕ) → rangeAnswer s n ≡ true → InRange s n
+in-range s n e =
+    let a = both (leb (s .rows) 32) _ e in
+    let b = both (leb (s .cols) 32) _ (a .1) in
+    let c = both (leb (s .«border_bits») 4) _ (b .1) in
+    let d = both (leb 1 (s .bits)) _ (c .1) in
+    let f = both (leb (s .bits) 8) _ (d .1) in
+    record {
+      rows = leb-true (s .rows) 32 (a .0);
+      cols = leb-true (s .cols) 32 (b .0);
+      border = leb-true (s .«border_bits») 4 (c .0);
+      some-bits = leb-true 1 (s .bits) (d .0);
+      bits = leb-true (s .bits) 8 (f .0);
+      codes = leb-true n 1024 (f .1);
+    }
+
 pub record Sized (s : CharucoBoardSpec) (count : ℕ) : Type 0 where
   pub some-rows : 2 ≤ s .rows
   pub some-cols : 2 ≤ s .cols
@@ -35,17 +88,18 @@ pub record Sized (s : CharucoBoardSpec) (count : ℕ) : Type 0 where
   pub marker-size : markerSizeAnswer (s .«marker_size_rel») ≡ true
   pub some-border : 1 ≤ s .«border_bits»
   pub in-range : InRange s count
-  pub enough : markerCount odd (s .rows) (s .cols) ≤ count
+  pub enough : markerTotal (boardOf s) ≤ count
 
-pub sized : (s : CharucoBoardSpec) (count : ℕ) (b : Board) → sizedBoard s count ≡ new.Made b → Sized s count × (b ≡ boardOf s)
-sized s count b e =
-    let q1 = answered (sizeAnswer (s .rows) (s .cols)) refusal.InvalidSize (from2 s count) b (sym (from1 s count) ∙ e) in
-    let q2 = answered (cellSizeAnswer (s .«cell_size»)) refusal.InvalidCellSize (from3 s count) b (q1 .1) in
-    let q3 = answered (markerSizeAnswer (s .«marker_size_rel»)) refusal.InvalidMarkerSizeRel (from4 s count) b (q2 .1) in
-    let q4 = answered (leb 1 (s .«border_bits»)) refusal.InvalidBorderBits (from5 s count) b (q3 .1) in
-    let q5 = answered (ltb 0 count) refusal.EmptyDictionary (from6 s count) b (q4 .1) in
-    let q6 = answered (rangeAnswer s count) refusal.BoardOutOfRange (from7 s count) b (q5 .1) in
-    let q7 = answered (leb (markerCount odd (s .rows) (s .cols)) count) _ (new.Made (boardOf s)) b (q6 .1) in
+pub sized : (s : CharucoBoardSpec) (count : ℕ) (rest : Option Refusal) → askedOfSize s count rest ≡ none → Sized s count × (rest ≡ none)
+unfolding askedOfSize
+sized s count rest e =
+    let q1 = answered _ _ _ e in
+    let q2 = answered _ _ _ (q1 .1) in
+    let q3 = answered _ _ _ (q2 .1) in
+    let q4 = answered _ _ _ (q3 .1) in
+    let q5 = answered (ltb 0 count) _ _ (q4 .1) in
+    let q6 = answered _ _ _ (q5 .1) in
+    let q7 = answered _ _ _ (q6 .1) in
     let size = both (leb 2 (s .rows)) (leb 2 (s .cols)) (q1 .0) in (
       record {
         some-rows = leb-true 2 (s .rows) (size .0);
@@ -54,51 +108,64 @@ sized s count b e =
         marker-size = q3 .0;
         some-border = leb-true 1 (s .«border_bits») (q4 .0);
         in-range = in-range s count (q6 .0);
-        enough = leb-true (markerCount odd (s .rows) (s .cols)) count (q7 .0);
+        enough = leb-true (markerTotal (boardOf s)) count (q7 .0);
       },
-      cc,
+      q7 .1,
     )
 
--- a board has at most 512 markers
-pub few-markers : {s : CharucoBoardSpec} {count : ℕ} → Sized s count → markerCount odd (s .rows) (s .cols) ≤ 512
-few-markers {s} z =
-    let area = mul-le-mul {n₁ = s .rows} {m₁ = s .cols} {n₂ = 32} {m₂ = 32} (z .in-range .rows) (z .in-range .cols) in
-    omega (arith, odd-total (s .rows) (s .cols), area)
+-- the bits of a board that passed them
+pub sized-bits : (s : CharucoBoardSpec) (count : ℕ) (b : Board) → sizedBoard s count ≡ new.Made b → (1 ≤ b .bits) × (b .bits ≤ 8)
+sized-bits s count b e =
+    let m = made-if (askedOfSize s count none) s b e in
+    let r = sized s count none (m .0) .0 .in-range in
+    rw (m .1) (r .some-bits, r .bits)
 
 -- ---- question 8
-pub codes-step : (bits : ℕ) (codes : List ℕ) (k : ℕ) (c : Bool) → k < length codes → codeAnswer bits (getD codes k 0) ≡ c → codesAnswer bits (drop k codes) ≡ (c && codesAnswer bits (drop (k + 1) codes))
+pub codes-step : (bits : ℕ) (codes : List ℕ) (k : ℕ) (c : Bool) → k < length codes → codeInRange bits (getD codes k 0) ≡ c
+    → codesAnswer bits (drop k codes) ≡ (c && codesAnswer bits (drop (k + 1) codes))
 codes-step bits codes k c l e = rw (drop-cons codes k 0 l, add-one, e)
 
 codes-below : (bits : ℕ) (codes : List ℕ) → codesAnswer bits codes ≡ true → (k : ℕ) → k < length codes → getD codes k 0 < 2 ^ (bits * bits)
 codes-below bits [] e k h = absurd (omega arith)
-codes-below bits (c ∷ cs) e zero h = ltb→lt c (2 ^ (bits * bits)) (rw (both (codeAnswer bits c) (codesAnswer bits cs) e .0) tt)
-codes-below bits (c ∷ cs) e (suc k) h = codes-below bits cs (both (codeAnswer bits c) (codesAnswer bits cs) e .1) k (le-of-suc-le-suc h)
+codes-below bits (c ∷ cs) e zero h = ltb→lt c (2 ^ (bits * bits)) (rw (both (codeInRange bits c) (codesAnswer bits cs) e .0) tt)
+codes-below bits (c ∷ cs) e (suc k) h = codes-below bits cs (both (codeInRange bits c) (codesAnswer bits cs) e .1) k (le-of-suc-le-suc h)
 
+-- asked of a board that passed 1 to 7, or not any more
+module _ (s : CharucoBoardSpec) (codes : List ℕ) where
+  pub then-codes : (b : Board) (answer told : Bool) → new.Made b ≡ sizedBoard s (length codes) → answer ≡ told → answer ≡ codesAnswer (b .bits) codes
+      → cond told (new.Made b) (new.Refused refusal.CodeOutOfRange) ≡ newBoard s codes
+  unfolding askedOfBoard
+  then-codes b answer told e t a =
+      let m = made-if (askedOfSize s (length codes) none) s b (sym e) in
+      go told
+      (rest-asked (askedOfSize s (length codes)) (size-goes-on s (length codes)) _ (m .0)
+      ∙ ap (λ (q : Bool). ask q refusal.CodeOutOfRange none) (sym (sym t ∙ a ∙ ap (λ (x : Board). codesAnswer (x .bits) codes) (m .1))))
+      (m .1)
+    where
+      go : (q : Bool) → askedOfBoard s codes none ≡ ask q refusal.CodeOutOfRange none → b ≡ boardOf s
+          → cond q (new.Made b) (new.Refused refusal.CodeOutOfRange) ≡ newBoard s codes
+      go true f is = ap new.Made is ∙ sym (ap (λ (o : Option Refusal). madeUnless o s) f)
+      go false f is = sym (ap (λ (o : Option Refusal). madeUnless o s) f)
+
+  pub sized-refused : (r : Refusal) → new.Refused r ≡ sizedBoard s (length codes) → new.Refused r ≡ newBoard s codes
+  unfolding askedOfBoard
+  sized-refused r e =
+      sym
+      (ap (λ (o : Option Refusal). madeUnless o s)
+      (refusal-stands (askedOfSize s (length codes)) (size-goes-on s (length codes)) _ r (refused-if (askedOfSize s (length codes) none) s r (sym e))))
+
+-- ---- all eight
 pub record Asked (s : CharucoBoardSpec) (codes : List ℕ) : Type 0 where
   pub sized : Sized s (length codes)
   pub below : (k : ℕ) → k < length codes → getD codes k 0 < 2 ^ (s .bits * s .bits)
 
-made : (answer : Bool) (n : NewBoard) (b : Board) → thenCodes answer n ≡ new.Made b → (answer ≡ true) × (n ≡ new.Made b)
-made answer (new.Made a) b e = answered answer refusal.CodeOutOfRange (new.Made a) b e
-made answer (new.Refused r) b e = let z : _≡_ {A = ℕ} 0 1 = cc in absurd (omega arith)
+pub asked : (s : CharucoBoardSpec) (codes : List ℕ) (rest : Option Refusal) → askedOfBoard s codes rest ≡ none → Asked s codes × (rest ≡ none)
+unfolding askedOfBoard
+asked s codes rest e =
+    let q7 = sized s (length codes) _ e in
+    let q8 = answered _ _ _ (q7 .1) in
+    (record { sized = q7 .0; below = codes-below (s .bits) codes (q8 .0) }, q8 .1)
 
--- all eight
-pub asked : (s : CharucoBoardSpec) (codes : List ℕ) (b : Board) → newBoard s codes ≡ new.Made b → Asked s codes × (b ≡ boardOf s)
-unfolding newBoard
-asked s codes b e =
-    let m = made (codesAnswer (s .bits) codes) (sizedBoard s (length codes)) b e in
-    let t = sized s (length codes) b (m .1) in
-    (record { sized = t .0; below = codes-below (s .bits) codes (m .0) }, t .1)
-
--- ---- question 8, after a board or a refusal of 1 to 7
-module _ (s : CharucoBoardSpec) (codes : List ℕ) where
-  then : (n : NewBoard) (answer : Bool) → n ≡ sizedBoard s (length codes) → answer ≡ codesAnswer (s .bits) codes → thenCodes answer n ≡ newBoard s codes
-  unfolding newBoard
-  then n answer e a = rw (e, a)
-
-  pub then-made : (b : Board) (answer told : Bool) → new.Made b ≡ sizedBoard s (length codes) → answer ≡ told → answer ≡ codesAnswer (b .bits) codes → thenCodes told (new.Made b) ≡ newBoard s codes
-  then-made b answer told e t a =
-      then (new.Made b) told e (sym t ∙ a ∙ ap (λ (x : Board). codesAnswer (x .bits) codes) (sized s (length codes) b (sym e) .1))
-
-  pub then-refused : (n : NewBoard) → n ≡ sizedBoard s (length codes) → thenCodes (codesAnswer (s .bits) codes) n ≡ newBoard s codes
-  then-refused n e = then n (codesAnswer (s .bits) codes) e refl
+-- of a board that was made
+pub made : (s : CharucoBoardSpec) (codes : List ℕ) (b : Board) → newBoard s codes ≡ new.Made b → Asked s codes × (b ≡ boardOf s)
+made s codes b e = let m = made-if (askedOfBoard s codes none) s b e in (asked s codes none (m .0) .0, m .1)

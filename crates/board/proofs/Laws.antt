@@ -1,31 +1,38 @@
 -- What a user of the layout relies on, for every size and both parities: ids and places undo each other, ids are exactly
--- 0 to count − 1, no two places share one, and a marker has four corners exactly off the rim. Assumes nothing.
+-- 0 to count − 1, no two places share one, they rise row by row, and a marker has four corners exactly off the rim. Assumes nothing.
 use mathlib.Core.Path.{_≡_, sym, ap, _∙_}
 use mathlib.Core.Bool.{Bool}
+use mathlib.Core.Logic.{_⊎_}
 use Prim.Native.Nat.{ℕ, suc, _+_, _-_, _*_, _≤_, _<_}
+use native.Mathlib.Nat.{mul-le-mul}
 use native.Mathlib.Omega.{arith}
+use lib.IntN.{ℤ, pos, negsuc}
 use lib.Dec.{ltb, ltb→lt}
 use lib.Ieee.Fits.{and-l, and-r}
+use Rattle.board.specs.declared.Board.{Board}
 use Rattle.board.specs.declared.Numbered.{Numbered}
 use Rattle.board.specs.declared.Numbered.the-variants as numbered
 use Rattle.board.specs.declared.Located.the-variants as located
 use Rattle.board.specs.declared.Surrounding.the-variants as surrounding
-use Rattle.board.specs.Numbering.{numberAt, placeOf, total}
-use Rattle.board.specs.Layout.{holds, inner, squareOf, allFour, around, fourCorners}
-use Rattle.board.proofs.Places.{Place, number-has, place-of-number, number-of-place, placed, unplaced, number-below, numbers-differ}
+use Rattle.board.specs.Numbering.{numberAt, numberAtℤ, placeNumbered, total}
+use Rattle.board.specs.Layout.{holdsMarker, inner, parityOf, markerCount, markerAt, markerOn, squareOf, allFour, around, fourCorners}
+use Rattle.board.proofs.Places.{Place, number-has, place-of-number, number-of-place, placed, unplaced, number-below, numbers-differ, numbers-rise}
+use Rattle.board.proofs.Markers.{parity-bit, marker-total}
 use Rattle.board.proofs.Surroundings.{OffRim, off-rim}
 
 -- ---- ids
 pub record Numbering (t : ℕ → ℕ → Bool) (w h : ℕ) : Type 0 where
   -- the place of an id and the id at a place undo each other
-  pub place-of : (i j id : ℕ) → numberAt t w h i j ≡ numbered.Id id → placeOf t w h id ≡ located.At i j
-  pub id-of : (i j id : ℕ) → placeOf t w h id ≡ located.At i j → numberAt t w h i j ≡ numbered.Id id
+  pub place-of : (i j id : ℕ) → numberAt t w h i j ≡ numbered.Id id → placeNumbered t w h id ≡ located.At i j
+  pub id-of : (i j id : ℕ) → placeNumbered t w h id ≡ located.At i j → numberAt t w h i j ≡ numbered.Id id
   -- the ids are exactly 0 to count − 1
   pub below : (i j id : ℕ) → numberAt t w h i j ≡ numbered.Id id → id < total t w h
   pub known : (id : ℕ) → id < total t w h → Place t w h id
-  pub unknown : (id : ℕ) → total t w h ≤ id → placeOf t w h id ≡ located.Absent
+  pub unknown : (id : ℕ) → total t w h ≤ id → placeNumbered t w h id ≡ located.Absent
   -- no two places share an id
   pub once : (i j i' j' id : ℕ) → numberAt t w h i j ≡ numbered.Id id → numberAt t w h i' j' ≡ numbered.Id id → (i ≡ i') × (j ≡ j')
+  -- ids rise row by row
+  pub rise : (i j i' j' id id' : ℕ) → numberAt t w h i j ≡ numbered.Id id → numberAt t w h i' j' ≡ numbered.Id id' → (j < j') ⊎ ((j ≡ j') × (i < i')) → id < id'
 
 numbering : (t : ℕ → ℕ → Bool) (w h : ℕ) → Numbering t w h
 numbering t w h =
@@ -36,17 +43,31 @@ numbering t w h =
       known = placed t w h;
       unknown = unplaced t w h;
       once = numbers-differ t w h;
+      rise = numbers-rise t w h;
     }
 
 -- marker ids and squares; corner ids and board corners
-pub markers : (p rows cols : ℕ) → Numbering (holds p) cols rows
-markers p rows cols = numbering (holds p) cols rows
+pub markers : (p rows cols : ℕ) → Numbering (holdsMarker p) cols rows
+markers p rows cols = numbering (holdsMarker p) cols rows
 
 pub corners : (rows cols : ℕ) → Numbering inner cols rows
 corners rows cols = numbering inner cols rows
 
+-- the id at any two whole numbers is below the count, and small on a board of at most 32 by 32 squares
+pub id-below : (p rows cols : ℕ) (i j : ℤ) (id : ℕ) → markerAt p rows cols i j ≡ numbered.Id id → id < markerCount p rows cols
+unfolding numberAtℤ
+id-below p rows cols (pos i) (pos j) id e = markers p rows cols .below i j id e
+id-below p rows cols (pos i) (negsuc j) id e = let z : _≡_ {A = ℕ} 0 1 = cc in absurd (omega arith)
+id-below p rows cols (negsuc i) j id e = let z : _≡_ {A = ℕ} 0 1 = cc in absurd (omega arith)
+
+pub id-small : (b : Board) (i j : ℤ) (id : ℕ) → b .rows ≤ 32 → b .cols ≤ 32 → markerOn b i j ≡ numbered.Id id → id < 512
+id-small b i j id r c e =
+    let p = parityOf b in
+    omega (arith, id-below p (b .rows) (b .cols) i j id e, marker-total p (b .rows) (b .cols) (parity-bit b), mul-le-mul {n₂ = 32} {m₂ = 32} r c)
+
 -- ---- the four corners of a marker on square (i, j)
-each-four : (x y z u : Numbered) (a b c d : ℕ) → allFour x y z u ≡ surrounding.Corners a b c d → (x ≡ numbered.Id a) × (y ≡ numbered.Id b) × (z ≡ numbered.Id c) × (u ≡ numbered.Id d)
+each-four : (x y z u : Numbered) (a b c d : ℕ) → allFour x y z u ≡ surrounding.Corners a b c d → (x ≡ numbered.Id a) × (y ≡ numbered.Id b)
+    × (z ≡ numbered.Id c) × (u ≡ numbered.Id d)
 each-four (numbered.Id k) (numbered.Id l) (numbered.Id m) (numbered.Id n) a b c d e = (cc, cc, cc, cc)
 each-four (numbered.Id k) (numbered.Id l) (numbered.Id m) numbered.Absent a b c d e = let z : _≡_ {A = ℕ} 0 1 = cc in absurd (omega arith)
 each-four (numbered.Id k) (numbered.Id l) numbered.Absent u a b c d e = let z : _≡_ {A = ℕ} 0 1 = cc in absurd (omega arith)
@@ -77,5 +98,7 @@ module _ (p rows cols id i j : ℕ) (square : squareOf p rows cols id ≡ locate
       record { left = ltb→lt 0 i (and-l (ltb 0 i) (ltb 0 j) y); top = ltb→lt 0 j (and-r (ltb 0 i) (ltb 0 j) y); right = third .column; bottom = third .row }
 
   -- off the rim there are four
-  pub off-rim-four : OffRim rows cols i j → fourCorners p rows cols id ≡ surrounding.Corners ((j - 1) * (cols - 1) + (i - 1)) ((j - 1) * (cols - 1) + (i - 1) + 1) ((j - 1) * (cols - 1) + (i - 1) + (cols - 1) + 1) ((j - 1) * (cols - 1) + (i - 1) + (cols - 1))
+  pub off-rim-four : OffRim rows cols i j
+      → fourCorners p rows cols id ≡ surrounding.Corners ((j - 1) * (cols - 1) + (i - 1)) ((j - 1) * (cols - 1) + (i - 1) + 1)
+      ((j - 1) * (cols - 1) + (i - 1) + (cols - 1) + 1) ((j - 1) * (cols - 1) + (i - 1) + (cols - 1))
   off-rim-four o = ap (around rows cols) square ∙ off-rim rows cols i j o

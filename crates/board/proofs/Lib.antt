@@ -1,9 +1,9 @@
 pub mod Counting
 pub mod Places
+pub mod Parities
 pub mod Markers
 pub mod Corners
 pub mod Formulas
 pub mod Surroundings
-pub mod Answers
 pub mod Laws
 pub mod Asked

@@ -1,17 +1,19 @@
 -- The formulas for markers: of each two ranks 2m and 2m + 1 one holds marker m. For both parities and every size.
 -- Assumes nothing.
 use mathlib.Core.Path.{_≡_, refl, sym, ap, _∙_}
-use mathlib.Core.Bool.{Bool}
-use Prim.Native.Nat.{ℕ, zero, suc, _+_, _-_, _*_, _/_, _%_, _<_}
-use native.Mathlib.Nat.{mod-lt, div-add-mod', mul-zero, add-zero}
+use mathlib.Core.Bool.{Bool, true, false, not}
+use Prim.Native.Nat.{ℕ, zero, suc, _+_, _-_, _*_, _/_, _%_, _≤_, _<_}
+use native.Mathlib.Nat.{mod-lt, div-add-mod', mul-zero}
 use native.Mathlib.Numerals.{add-one}
 use native.Mathlib.Omega.{arith}
 use lib.Dec.{T, eqb, eqb→eq, eqb-refl, lit<}
 use lib.Arith.{digits-div, digits-mod}
-use Rattle.board.specs.Numbering.{one, count, byRank}
-use Rattle.board.specs.Layout.{holds, markerCount, odd}
+use Rattle.board.specs.declared.Board.{Board}
+use Rattle.board.specs.Numbering.{asOne, countPassing, byRank, numberIf, numberAt}
+use Rattle.board.specs.Layout.{holdsMarker, parityOf, markerCount}
 use Rattle.board.proofs.Counting.{one-false, count-suc, count-under}
-use Rattle.board.proofs.Places.{Has, place-has}
+use Rattle.board.proofs.Parities.{opposite}
+use Rattle.board.proofs.Places.{Has, place-has, has-number, unnumbered}
 
 -- the parity of the square of a rank
 abbrev side : ℕ → ℕ → ℕ
@@ -50,19 +52,17 @@ alternate w m some = go (w % 2) refl (mod-lt w (lit< tt))
     go (suc zero) e l = apart (w / 2) (omega arith)
     go (suc (suc p)) e l = absurd (omega arith)
 
+one-not : (b : Bool) → asOne (not b) + asOne b ≡ 1
+one-not true = refl
+one-not false = refl
+
 -- of two different parities one is p
-one-of : (x y p : ℕ) → x + y ≡ 1 → p < 2 → one (eqb x p) + one (eqb y p) ≡ 1
-one-of zero y zero e b = let s : y ≡ 1 = omega arith in rw s
-one-of zero y (suc zero) e b = let s : y ≡ 1 = omega arith in rw s
-one-of (suc zero) y zero e b = let s : y ≡ 0 = omega arith in rw s
-one-of (suc zero) y (suc zero) e b = let s : y ≡ 0 = omega arith in rw s
-one-of (suc (suc x)) y p e b = absurd (omega arith)
-one-of zero y (suc (suc p)) e b = absurd (omega arith)
-one-of (suc zero) y (suc (suc p)) e b = absurd (omega arith)
+one-of : (x y p : ℕ) → x + y ≡ 1 → p < 2 → asOne (eqb x p) + asOne (eqb y p) ≡ 1
+one-of x y p e bit = rw (opposite x y p e bit) (one-not (eqb y p))
 
 module _ (p w : ℕ) (bit : p < 2) (some : 0 < w) where
   abbrev q : ℕ → Bool
-  q = byRank (holds p) w
+  q = byRank (holdsMarker p) w
 
   passes-is : (k : ℕ) → T (q k) → side w k ≡ p
   passes-is k y = eqb→eq (side w k) p y
@@ -70,29 +70,29 @@ module _ (p w : ℕ) (bit : p < 2) (some : 0 < w) where
   is-passes : (k : ℕ) → side w k ≡ p → T (q k)
   is-passes k e = rw e (eqb-refl p)
 
-  pub count-even : (m : ℕ) → count q (2 * m) ≡ m
-  unfolding count
+  pub count-even : (m : ℕ) → countPassing q (2 * m) ≡ m
+  unfolding countPassing
   count-even zero = refl
   count-even (suc m) =
       let two : 2 * suc m ≡ suc (suc (2 * m)) = omega arith in
-      ap (count q) two
-      ∙ omega (arith, count-even m, one-of (side w (2 * m)) (side w (2 * m + 1)) p (alternate w m some) bit, ap (λ (n : ℕ). one (q n)) (add-one (2 * m)))
+      ap (countPassing q) two
+      ∙ omega (arith, count-even m, one-of (side w (2 * m)) (side w (2 * m + 1)) p (alternate w m some) bit, ap (λ (n : ℕ). asOne (q n)) (add-one (2 * m)))
 
   -- one square on: as many, where the first of the two holds no marker
-  count-odd : (m : ℕ) → count q (2 * m + 1) ≡ m + one (q (2 * m))
+  count-odd : (m : ℕ) → countPassing q (2 * m + 1) ≡ m + asOne (q (2 * m))
   count-odd m = rw add-one (omega (arith, count-suc q (2 * m), count-even m))
 
   -- the number of markers before a square that holds one
-  pub marker-number : (k : ℕ) → T (q k) → count q k ≡ k / 2
+  pub marker-number : (k : ℕ) → T (q k) → countPassing q k ≡ k / 2
   marker-number k y = go (k % 2) refl (mod-lt k (lit< tt))
     where
-      go : (b : ℕ) → k % 2 ≡ b → b < 2 → count q k ≡ k / 2
-      go zero e l = let whole : k ≡ 2 * (k / 2) = omega arith in ap (count q) whole ∙ count-even (k / 2)
+      go : (b : ℕ) → k % 2 ≡ b → b < 2 → countPassing q k ≡ k / 2
+      go zero e l = let whole : k ≡ 2 * (k / 2) = omega arith in ap (countPassing q) whole ∙ count-even (k / 2)
       go (suc zero) e l =
           let whole : k ≡ 2 * (k / 2) + 1 = omega arith in
           let free : T (q (2 * (k / 2))) → ⊥ =
           λ z. omega (arith, alternate w (k / 2) some, passes-is (2 * (k / 2)) z, ap (side w) whole, passes-is k y) in
-          ap (count q) whole ∙ omega (arith, count-odd (k / 2), one-false (q (2 * (k / 2))) free)
+          ap (countPassing q) whole ∙ omega (arith, count-odd (k / 2), one-false (q (2 * (k / 2))) free)
       go (suc (suc b)) e l = absurd (omega arith)
 
   -- how many markers a board has
@@ -116,51 +116,57 @@ module _ (p w : ℕ) (bit : p < 2) (some : 0 < w) where
       both (suc (suc a)) b x y l k = absurd (omega arith)
       both zero (suc (suc b)) x y l k = absurd (omega arith)
 
-  pub marker-total : (rows : ℕ) → markerCount p rows w ≡ (rows * w + (1 - p)) / 2
-  marker-total rows = go (rows * w % 2) refl (mod-lt (rows * w) (lit< tt))
+  half : (rows : ℕ) → markerCount p rows w ≡ (rows * w + (1 - p)) / 2
+  half rows = go (rows * w % 2) refl (mod-lt (rows * w) (lit< tt))
     where
-      corner : (n : ℕ) → n < 2 → one (eqb 0 n) ≡ 1 - n
+      corner : (n : ℕ) → n < 2 → asOne (eqb 0 n) ≡ 1 - n
       corner zero l = refl
       corner (suc zero) l = refl
       corner (suc (suc n)) l = absurd (omega arith)
 
-      go : (b : ℕ) → rows * w % 2 ≡ b → b < 2 → count q (rows * w) ≡ (rows * w + (1 - p)) / 2
+      go : (b : ℕ) → rows * w % 2 ≡ b → b < 2 → countPassing q (rows * w) ≡ (rows * w + (1 - p)) / 2
       go zero e l =
           let m = rows * w / 2 in
           let whole : rows * w ≡ 2 * m = omega arith in
-          ap (count q) whole ∙ omega (arith, count-even m)
+          ap (countPassing q) whole ∙ omega (arith, count-even m)
       go (suc zero) e l =
           let m = rows * w / 2 in
           let whole : rows * w ≡ 2 * m + 1 = omega arith in
-          ap (count q) whole
-          ∙ omega (arith, count-odd m, ap (λ (n : ℕ). one (eqb n p)) (last-free rows m whole), corner p bit)
+          ap (countPassing q) whole
+          ∙ omega (arith, count-odd m, ap (λ (n : ℕ). asOne (eqb n p)) (last-free rows m whole), corner p bit)
       go (suc (suc b)) e l = absurd (omega arith)
 
   -- the square of a marker: rank 2m, or the next where that holds none
   module _ (rows m : ℕ) (known : m < markerCount p rows w) where
-    pub even-square : side w (2 * m) ≡ p → Has (holds p) w rows (2 * m % w) (2 * m / w) m
+    pub even-square : side w (2 * m) ≡ p → Has (holdsMarker p) w rows (2 * m % w) (2 * m / w) m
     even-square e =
         let counted = count-even m in
-        place-has (holds p) w rows m (2 * m) (count-under q (2 * m) (rows * w) (omega (arith, known))) (is-passes (2 * m) e) counted
+        place-has (holdsMarker p) w rows m (2 * m) (count-under q (2 * m) (rows * w) (omega (arith, known))) (is-passes (2 * m) e) counted
 
-    pub odd-square : (side w (2 * m) ≡ p → ⊥) → Has (holds p) w rows ((2 * m + 1) % w) ((2 * m + 1) / w) m
+    pub odd-square : (side w (2 * m) ≡ p → ⊥) → Has (holdsMarker p) w rows ((2 * m + 1) % w) ((2 * m + 1) / w) m
     odd-square free =
-        let counted : count q (2 * m + 1) ≡ m = omega (arith, count-odd m, one-false (q (2 * m)) (λ y. free (passes-is (2 * m) y))) in
-        place-has (holds p) w rows m (2 * m + 1) (count-under q (2 * m + 1) (rows * w) (omega (arith, known)))
+        let counted : countPassing q (2 * m + 1) ≡ m = omega (arith, count-odd m, one-false (q (2 * m)) (λ y. free (passes-is (2 * m) y))) in
+        place-has (holdsMarker p) w rows m (2 * m + 1) (count-under q (2 * m + 1) (rows * w) (omega (arith, known)))
         (is-passes (2 * m + 1) (omega (arith, alternate w m some, free))) counted
 
--- today's boards
-pub odd-total : (rows w : ℕ) → markerCount odd rows w ≡ rows * w / 2
-unfolding count
-odd-total rows zero = ap (count (byRank (holds odd) 0)) (mul-zero rows) ∙ sym (ap (λ (n : ℕ). n / 2) (mul-zero rows))
-odd-total rows (suc w) = marker-total 1 (suc w) (lit< tt) (omega arith) rows ∙ ap (λ (n : ℕ). n / 2) (add-zero (rows * suc w))
+-- a board's parity is one of the two
+pub parity-bit : (b : Board) → parityOf b < 2
+unfolding parityOf
+parity-bit b = lit< tt
 
-pub marker-has : (rows w i j : ℕ) → i < w → j < rows → (i + j) % 2 ≡ odd → Has (holds odd) w rows i j ((j * w + i) / 2)
-marker-has rows w i j a b e =
-    let y : T (holds odd i j) = rw e (eqb-refl odd) in
-    record {
-      column = a;
-      row = b;
-      passes = y;
-      number = marker-number 1 w (lit< tt) (omega arith) (j * w + i) (rw (digits-mod j a, digits-div j a) y);
-    }
+-- a board of any size has half as many markers as squares, rounded down for odd and up for even
+pub marker-total : (p rows w : ℕ) → p < 2 → markerCount p rows w ≡ (rows * w + (1 - p)) / 2
+unfolding countPassing
+marker-total p rows zero bit = ap (countPassing (byRank (holdsMarker p) 0)) (mul-zero rows) ∙ omega (arith, mul-zero rows)
+marker-total p rows (suc w) bit = half p (suc w) bit (omega arith) rows
+
+-- a square of the board by its parity
+pub number-on : (p rows w i j : ℕ) → p < 2 → i < w → j < rows → numberAt (holdsMarker p) w rows i j ≡ numberIf (holdsMarker p i j) ((j * w + i) / 2)
+number-on p rows w i j bit a b = go (holdsMarker p i j) refl
+  where
+    go : (t : Bool) → holdsMarker p i j ≡ t → numberAt (holdsMarker p) w rows i j ≡ numberIf t ((j * w + i) / 2)
+    go true e =
+        let y : T (holdsMarker p i j) = rw e tt in
+        has-number (holdsMarker p) w rows i j ((j * w + i) / 2)
+        (record { column = a; row = b; passes = y; number = marker-number p w bit (omega (arith, a)) (j * w + i) (rw (digits-mod j a, digits-div j a) y) })
+    go false e = unnumbered (holdsMarker p) w rows i j (λ c d y. rw e at y)

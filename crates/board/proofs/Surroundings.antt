@@ -10,8 +10,7 @@ use Rattle.board.specs.declared.Located.the-variants as located
 use Rattle.board.specs.declared.Surrounding.the-variants as surrounding
 use Rattle.board.specs.Numbering.{numberAt}
 use Rattle.board.specs.Layout.{inner, allFour, around}
-use Rattle.board.proofs.Places.{has-number}
-use Rattle.board.proofs.Formulas.{unnumbered}
+use Rattle.board.proofs.Places.{has-number, unnumbered}
 use Rattle.board.proofs.Corners.{inner-is, corner-number, less-one}
 
 -- an inner corner has its number, and no other corner has one
@@ -37,15 +36,24 @@ next-row zero s h = absurd (omega arith)
 next-row (suc j) s h = omega (arith, less-one (suc j) s, less-one j s)
 
 -- off the rim: the number of the top left corner, the next, and the two of the row below
-pub off-rim : (rows w i j : ℕ) → OffRim rows w i j → around rows w (located.At i j) ≡ surrounding.Corners ((j - 1) * (w - 1) + (i - 1)) ((j - 1) * (w - 1) + (i - 1) + 1) ((j - 1) * (w - 1) + (i - 1) + (w - 1) + 1) ((j - 1) * (w - 1) + (i - 1) + (w - 1))
+pub off-rim : (rows w i j : ℕ) → OffRim rows w i j
+    → around rows w (located.At i j) ≡ surrounding.Corners ((j - 1) * (w - 1) + (i - 1)) ((j - 1) * (w - 1) + (i - 1) + 1)
+    ((j - 1) * (w - 1) + (i - 1) + (w - 1) + 1) ((j - 1) * (w - 1) + (i - 1) + (w - 1))
 off-rim rows w i j o =
     let a = (j - 1) * (w - 1) + (i - 1) in
     let down = next-row j (w - 1) (o .top) in
     let top-right : (j - 1) * (w - 1) + (suc i - 1) ≡ a + 1 = omega (arith, o .left) in
     let bottom-right : (suc j - 1) * (w - 1) + (suc i - 1) ≡ a + (w - 1) + 1 = omega (arith, o .left) in
     let bottom-left : (suc j - 1) * (w - 1) + (i - 1) ≡ a + (w - 1) = omega arith in
-    rw
-    (inner-corner rows w i j (o .left) (o .top) (omega (arith, o .right)) (omega (arith, o .bottom)), inner-corner rows w (suc i) j (omega arith) (o .top) (o .right) (omega (arith, o .bottom)), inner-corner rows w (suc i) (suc j) (omega arith) (omega arith) (o .right) (o .bottom), inner-corner rows w i (suc j) (o .left) (omega arith) (omega (arith, o .right)) (o .bottom), top-right, bottom-right, bottom-left)
+    rw (
+      inner-corner rows w i j (o .left) (o .top) (omega (arith, o .right)) (omega (arith, o .bottom)),
+      inner-corner rows w (suc i) j (omega arith) (o .top) (o .right) (omega (arith, o .bottom)),
+      inner-corner rows w (suc i) (suc j) (omega arith) (omega arith) (o .right) (o .bottom),
+      inner-corner rows w i (suc j) (o .left) (omega arith) (omega (arith, o .right)) (o .bottom),
+      top-right,
+      bottom-right,
+      bottom-left,
+    )
 
 -- on the rim one corner has no number
 second : (a c d : Numbered) → allFour a numbered.Absent c d ≡ surrounding.Absent

@@ -4,6 +4,7 @@ use mathlib.Core.Bool.{Bool, _&&_}
 use lib.IntN.{ℤ, pos}
 use lib.Dec.{ltb, eqb}
 use lib.Ieee.{Float, binary32, mul, ofInt}
+use Rattle.board.specs.declared.Board.{Board}
 use Rattle.board.specs.declared.Numbered.{Numbered}
 use Rattle.board.specs.declared.Numbered.the-variants as numbered
 use Rattle.board.specs.declared.Located.{Located}
@@ -12,24 +13,28 @@ use Rattle.board.specs.declared.ObjectPoint.{ObjectPoint}
 use Rattle.board.specs.declared.ObjectPoint.the-variants as object
 use Rattle.board.specs.declared.Surrounding.{Surrounding}
 use Rattle.board.specs.declared.Surrounding.the-variants as surrounding
-use Rattle.board.specs.Numbering.{numberAt, numberAtℤ, total, placeOf}
+use Rattle.board.specs.Numbering.{numberAt, numberAtℤ, total, placeNumbered}
 
--- The squares that hold markers: those whose i + j has the parity p. On today's boards it is odd.
-abbrev pub holds : ℕ → ℕ → ℕ → Bool
-holds p i j = eqb ((i + j) % 2) p
+-- The squares that hold markers: those whose i + j has the parity p.
+abbrev pub holdsMarker : ℕ → ℕ → ℕ → Bool
+holdsMarker p i j = eqb ((i + j) % 2) p
 
-abbrev pub odd : ℕ
-odd = 1
+abbrev pub oddParity : ℕ
+oddParity = 1
+
+-- The parity of a board, in this one place: "Squares with i + j odd hold markers." Folded, so that no proof uses which one it is.
+unfoldable pub parityOf : Board → ℕ
+parityOf b = oddParity
 
 -- Markers are numbered row by row from 0.
 abbrev pub markerCount : ℕ → ℕ → ℕ → ℕ
-markerCount p rows cols = total (holds p) cols rows
+markerCount p rows cols = total (holdsMarker p) cols rows
 
 abbrev pub markerAt : ℕ → ℕ → ℕ → ℤ → ℤ → Numbered
-markerAt p rows cols = numberAtℤ (holds p) cols rows
+markerAt p rows cols = numberAtℤ (holdsMarker p) cols rows
 
 abbrev pub squareOf : ℕ → ℕ → ℕ → ℕ → Located
-squareOf p rows cols id = placeOf (holds p) cols rows id
+squareOf p rows cols id = placeNumbered (holdsMarker p) cols rows id
 
 -- Corner (i, j) is the top left corner of square (i, j). The inner corners are those with 1 ≤ i < cols and 1 ≤ j < rows;
 -- they are numbered row by row from 0.
@@ -42,17 +47,17 @@ cornerCount rows cols = total inner cols rows
 abbrev pub cornerAt : ℕ → ℕ → ℤ → ℤ → Numbered
 cornerAt rows cols = numberAtℤ inner cols rows
 
-abbrev pub cornerOf : ℕ → ℕ → ℕ → Located
-cornerOf rows cols id = placeOf inner cols rows id
+abbrev pub cornerPlace : ℕ → ℕ → ℕ → Located
+cornerPlace rows cols id = placeNumbered inner cols rows id
 
 -- the point of inner corner (i, j) in the board's plane: f32 products
-abbrev pub pointOf : Float → Located → ObjectPoint
-pointOf size (located.At i j) =
+abbrev pub scaledPoint : Float → Located → ObjectPoint
+scaledPoint size (located.At i j) =
     object.At (mul binary32 (ofInt binary32 (pos i)) size) (mul binary32 (ofInt binary32 (pos j)) size)
-pointOf size located.Absent = object.Absent
+scaledPoint size located.Absent = object.Absent
 
 abbrev pub objectPoint : ℕ → ℕ → Float → ℕ → ObjectPoint
-objectPoint rows cols size id = pointOf size (cornerOf rows cols id)
+objectPoint rows cols size id = scaledPoint size (cornerPlace rows cols id)
 
 -- the four corners of a square: top left, top right, bottom right, bottom left, where each is an inner corner
 abbrev pub allFour : Numbered → Numbered → Numbered → Numbered → Surrounding
@@ -71,3 +76,16 @@ around rows cols located.Absent = surrounding.Absent
 -- those of a marker's square
 abbrev pub fourCorners : ℕ → ℕ → ℕ → ℕ → Surrounding
 fourCorners p rows cols id = around rows cols (squareOf p rows cols id)
+
+-- ---- the same of a board
+abbrev pub markerTotal : Board → ℕ
+markerTotal b = markerCount (parityOf b) (b .rows) (b .cols)
+
+abbrev pub markerOn : Board → ℤ → ℤ → Numbered
+markerOn b = markerAt (parityOf b) (b .rows) (b .cols)
+
+abbrev pub markerSquare : Board → ℕ → Located
+markerSquare b = squareOf (parityOf b) (b .rows) (b .cols)
+
+abbrev pub surroundingCorners : Board → ℕ → Surrounding
+surroundingCorners b = fourCorners (parityOf b) (b .rows) (b .cols)

@@ -8,25 +8,25 @@ use Rattle.board.specs.declared.Numbered.the-variants as numbered
 use Rattle.board.specs.declared.Located.{Located}
 use Rattle.board.specs.declared.Located.the-variants as located
 
-abbrev pub one : Bool → ℕ
-one true = 1
-one false = 0
+abbrev pub asOne : Bool → ℕ
+asOne true = 1
+asOne false = 0
 
 -- how many of 0 to n − 1 pass
-unfoldable pub count : (ℕ → Bool) → ℕ → ℕ
-count q zero = 0
-count q (suc n) = count q n + one (q n)
+unfoldable pub countPassing : (ℕ → Bool) → ℕ → ℕ
+countPassing q zero = 0
+countPassing q (suc n) = countPassing q n + asOne (q n)
 
 -- A test of places (i, j), as a test of their rank row by row: in a grid w wide, rank k is column k % w of row k / w.
 abbrev pub byRank : (ℕ → ℕ → Bool) → ℕ → ℕ → Bool
 byRank t w k = t (k % w) (k / w)
 
 -- how many places that pass come before (i, j), and how many there are in h rows
-abbrev pub before : (ℕ → ℕ → Bool) → ℕ → ℕ → ℕ → ℕ
-before t w i j = count (byRank t w) (j * w + i)
+abbrev pub countBefore : (ℕ → ℕ → Bool) → ℕ → ℕ → ℕ → ℕ
+countBefore t w i j = countPassing (byRank t w) (j * w + i)
 
 abbrev pub total : (ℕ → ℕ → Bool) → ℕ → ℕ → ℕ
-total t w h = count (byRank t w) (h * w)
+total t w h = countPassing (byRank t w) (h * w)
 
 -- the number of a place: none off the grid or where the test fails
 abbrev pub numberIf : Bool → ℕ → Numbered
@@ -34,8 +34,8 @@ numberIf true n = numbered.Id n
 numberIf false n = numbered.Absent
 
 unfoldable pub numberAt : (ℕ → ℕ → Bool) → ℕ → ℕ → ℕ → ℕ → Numbered
-unfolding count
-numberAt t w h i j = numberIf (ltb i w && (ltb j h && t i j)) (before t w i j)
+unfolding countPassing
+numberAt t w h i j = numberIf (ltb i w && (ltb j h && t i j)) (countBefore t w i j)
 
 -- the same at any two whole numbers
 unfoldable pub numberAtℤ : (ℕ → ℕ → Bool) → ℕ → ℕ → ℤ → ℤ → Numbered
@@ -54,9 +54,9 @@ locatedIf true w k other = located.At (k % w) (k / w)
 locatedIf false w k other = other
 
 unfoldable pub search : (ℕ → ℕ → Bool) → ℕ → ℕ → ℕ → Located
-unfolding count
+unfolding countPassing
 search t w m zero = located.Absent
-search t w m (suc k) = locatedIf (byRank t w k && eqb (count (byRank t w) k) m) w k (search t w m k)
+search t w m (suc k) = locatedIf (byRank t w k && eqb (countPassing (byRank t w) k) m) w k (search t w m k)
 
-abbrev pub placeOf : (ℕ → ℕ → Bool) → ℕ → ℕ → ℕ → Located
-placeOf t w h m = search t w m (h * w)
+abbrev pub placeNumbered : (ℕ → ℕ → Bool) → ℕ → ℕ → ℕ → Located
+placeNumbered t w h m = search t w m (h * w)

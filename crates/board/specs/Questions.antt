@@ -2,22 +2,19 @@
 use Prim.Native.Nat.{ℕ, _*_, _^_}
 use mathlib.Core.Bool.{Bool, true, false, _&&_}
 use mathlib.Core.List.{List, [], _∷_}
+use mathlib.Core.Option.{Option, none, some}
 use lib.Dec.{leb, ltb}
 use lib.ListN.{length}
 use lib.Ieee.{Float, binary32, ofBits, lt, le}
 use lib.Ieee.Scale.{finite}
 use Rattle.refusal.specs.declared.Refusal.{Refusal}
 use Rattle.refusal.specs.declared.Refusal.the-variants as refusal
+use Rattle.refusal.specs.Questions.{ask}
 use Rattle.board.specs.declared.CharucoBoardSpec.{CharucoBoardSpec}
 use Rattle.board.specs.declared.Board.{Board}
 use Rattle.board.specs.declared.NewBoard.{NewBoard}
 use Rattle.board.specs.declared.NewBoard.the-variants as new
-use Rattle.board.specs.Layout.{markerCount, odd}
-
--- a yes goes on to the next question
-abbrev pub ask : Bool → Refusal → NewBoard → NewBoard
-ask true refused next = next
-ask false refused next = new.Refused refused
+use Rattle.board.specs.Layout.{markerTotal}
 
 -- Are rows and cols at least 2?
 abbrev pub sizeAnswer : ℕ → ℕ → Bool
@@ -37,34 +34,51 @@ rangeAnswer s codes =
     leb (s .rows) 32 && (leb (s .cols) 32 && (leb (s .«border_bits») 4 && (leb 1 (s .bits) && (leb (s .bits) 8 && leb codes 1024))))
 
 -- Is every code below 2^(bits²)?
-abbrev pub codeAnswer : ℕ → ℕ → Bool
-codeAnswer bits code = ltb code (2 ^ (bits * bits))
+abbrev pub codeInRange : ℕ → ℕ → Bool
+codeInRange bits code = ltb code (2 ^ (bits * bits))
 
 abbrev pub codesAnswer : ℕ → List ℕ → Bool
 codesAnswer bits [] = true
-codesAnswer bits (code ∷ codes) = codeAnswer bits code && codesAnswer bits codes
+codesAnswer bits (code ∷ codes) = codeInRange bits code && codesAnswer bits codes
 
 -- the board of a specification that no question refuses
 abbrev pub boardOf : CharucoBoardSpec → Board
 boardOf s =
-    record { rows = s .rows; cols = s .cols; bits = s .bits; «border_bits» = s .«border_bits»; «cell_size» = s .«cell_size»; «marker_size_rel» = s .«marker_size_rel» }
+    record {
+      rows = s .rows;
+      cols = s .cols;
+      bits = s .bits;
+      «border_bits» = s .«border_bits»;
+      «cell_size» = s .«cell_size»;
+      «marker_size_rel» = s .«marker_size_rel»;
+    }
 
--- questions 1 to 7, which ask of the codes only how many there are
-unfoldable pub sizedBoard : CharucoBoardSpec → ℕ → NewBoard
-sizedBoard s count =
+-- questions 1 to 7, which ask of the codes only how many there are, then the rest
+unfoldable pub askedOfSize : CharucoBoardSpec → ℕ → Option Refusal → Option Refusal
+askedOfSize s count rest =
     ask (sizeAnswer (s .rows) (s .cols)) refusal.InvalidSize
     (ask (cellSizeAnswer (s .«cell_size»)) refusal.InvalidCellSize
     (ask (markerSizeAnswer (s .«marker_size_rel»)) refusal.InvalidMarkerSizeRel
     (ask (leb 1 (s .«border_bits»)) refusal.InvalidBorderBits
     (ask (ltb 0 count) refusal.EmptyDictionary
     (ask (rangeAnswer s count) refusal.BoardOutOfRange
-    (ask (leb (markerCount odd (s .rows) (s .cols)) count) (refusal.NotEnoughDictionaryCodes (markerCount odd (s .rows) (s .cols)) count)
-    (new.Made (boardOf s))))))))
+    (ask (leb (markerTotal (boardOf s)) count) (refusal.NotEnoughDictionaryCodes (markerTotal (boardOf s)) count)
+    rest))))))
 
--- and question 8
-abbrev pub thenCodes : Bool → NewBoard → NewBoard
-thenCodes answer (new.Made board) = ask answer refusal.CodeOutOfRange (new.Made board)
-thenCodes answer (new.Refused refused) = new.Refused refused
+-- questions 1 to 8, then the rest: an entry's own questions
+unfoldable pub askedOfBoard : CharucoBoardSpec → List ℕ → Option Refusal → Option Refusal
+askedOfBoard s codes rest =
+    askedOfSize s (length codes)
+    (ask (codesAnswer (s .bits) codes) refusal.CodeOutOfRange
+    rest)
 
-unfoldable pub newBoard : CharucoBoardSpec → List ℕ → NewBoard
-newBoard s codes = thenCodes (codesAnswer (s .bits) codes) (sizedBoard s (length codes))
+-- the board, unless a question refuses it
+abbrev pub madeUnless : Option Refusal → CharucoBoardSpec → NewBoard
+madeUnless none s = new.Made (boardOf s)
+madeUnless (some refused) s = new.Refused refused
+
+abbrev pub sizedBoard : CharucoBoardSpec → ℕ → NewBoard
+sizedBoard s count = madeUnless (askedOfSize s count none) s
+
+abbrev pub newBoard : CharucoBoardSpec → List ℕ → NewBoard
+newBoard s codes = madeUnless (askedOfBoard s codes none) s

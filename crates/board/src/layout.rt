@@ -1,11 +1,11 @@
-// The layout as formulas on a board's rows and cols. Square (i, j) has rank j cols + i, row by row; of each two ranks
-// 2m and 2m + 1 one holds marker m.
+// The layout as formulas on a board's parity, rows and cols. Square (i, j) has rank j cols + i, row by row; of each two ranks
+// 2m and 2m + 1 one holds marker m, for either parity.
 ghost use mathlib.Core.Path.{_≡_};
-ghost use Prim.Native.Nat.{_^_, _<_, _≤_};
+ghost use Prim.Native.Nat.{_+_, _*_, _/_, _^_, _<_, _≤_};
 ghost use lib.IntN.{pos};
 ghost use lib.Ieee.{binary32, mul, ofInt};
 ghost use Rattle.board.specs.Numbering.{clipped, numberAt};
-ghost use Rattle.board.specs.Layout.{odd, holds, inner, markerCount, squareOf, cornerCount, cornerOf, objectPoint, around as aroundOf, fourCorners};
+ghost use Rattle.board.specs.Layout.{holdsMarker, inner, markerCount, squareOf, cornerCount, cornerPlace, objectPoint, around as aroundOf, fourCorners};
 use super::Located;
 use super::Numbered;
 use super::ObjectPoint;
@@ -26,39 +26,59 @@ pub fn clip(x: i32, limit: u8) -> u32
     last
 }
 
-pub fn marker_count(rows: u8, cols: u8) -> u32
-    ensures { λ r. ⌜ r ≡ markerCount odd rows cols ⌝ }
+// Whether square (i, j) holds a marker.
+pub fn holds_marker(parity: u8, i: usize, j: usize) -> bool
+    ensures { λ r. ⌜ r ≡ holdsMarker parity i j ⌝ }
 {
-    (rows as u32) * (cols as u32) / 2
+    (i % 2 + j % 2) % 2 == parity as usize
 }
 
-pub fn marker_id(rows: u8, cols: u8, i: u32, j: u32) -> Numbered
-    ensures { λ r. ⌜ r ≡ numberAt (holds odd) cols rows i j ⌝ }
+// The id of the marker on a square that holds one.
+pub fn id_on(rows: u8, cols: u8, i: usize, j: usize) -> usize
+    requires { ⌜ (i < cols) × (j < rows) ⌝ }
+    ensures { λ r. ⌜ r ≡ (j * cols + i) / 2 ⌝ }
 {
-    let width = cols as u32;
-    if width <= i {
-        return Numbered::Absent;
-    }
-    if rows as u32 <= j {
-        return Numbered::Absent;
-    }
-    if (i + j) % 2 != 1 {
-        return Numbered::Absent;
-    }
-    Numbered::Id((j * width + i) / 2)
+    (j * (cols as usize) + i) / 2
 }
 
-pub fn marker_square(rows: u8, cols: u8, id: u32) -> Located
-    ensures { λ r. ⌜ r ≡ squareOf odd rows cols id ⌝ }
+// Half of the squares, rounded down where square (0, 0) holds no marker, else up.
+pub fn marker_count(parity: u8, rows: u8, cols: u8) -> u32
+    requires { ⌜ parity < 2 ⌝ }
+    ensures { λ r. ⌜ r ≡ markerCount parity rows cols ⌝ }
 {
-    if marker_count(rows, cols) <= id {
+    ((rows as u32) * (cols as u32) + (1 - parity as u32)) / 2
+}
+
+pub fn marker_id(parity: u8, rows: u8, cols: u8, i: u32, j: u32) -> Numbered
+    requires { ⌜ parity < 2 ⌝ }
+    ensures { λ r. ⌜ r ≡ numberAt (holdsMarker parity) cols rows i j ⌝ }
+{
+    let x = i as usize;
+    let y = j as usize;
+    if cols as usize <= x {
+        return Numbered::Absent;
+    }
+    if rows as usize <= y {
+        return Numbered::Absent;
+    }
+    if !holds_marker(parity, x, y) {
+        return Numbered::Absent;
+    }
+    Numbered::Id(id_on(rows, cols, x, y) as u32)
+}
+
+pub fn marker_square(parity: u8, rows: u8, cols: u8, id: u32) -> Located
+    requires { ⌜ parity < 2 ⌝ }
+    ensures { λ r. ⌜ r ≡ squareOf parity rows cols id ⌝ }
+{
+    if marker_count(parity, rows, cols) <= id {
         return Located::Absent;
     }
     let width = cols as u32;
     let k = 2 * id;
     let i = k % width;
     let j = k / width;
-    if (i + j) % 2 == 1 {
+    if holds_marker(parity, i as usize, j as usize) {
         return Located::At { i, j };
     }
     Located::At {
@@ -99,7 +119,7 @@ pub fn corner_id(rows: u8, cols: u8, i: u32, j: u32) -> Numbered
 }
 
 pub fn corner_place(rows: u8, cols: u8, id: u32) -> Located
-    ensures { λ r. ⌜ r ≡ cornerOf rows cols id ⌝ }
+    ensures { λ r. ⌜ r ≡ cornerPlace rows cols id ⌝ }
 {
     if corner_count(rows, cols) <= id {
         return Located::Absent;
@@ -160,10 +180,11 @@ fn around(rows: u8, cols: u8, i: u32, j: u32) -> Surrounding
     }
 }
 
-pub fn surrounding(rows: u8, cols: u8, id: u32) -> Surrounding
-    ensures { λ r. ⌜ r ≡ fourCorners odd rows cols id ⌝ }
+pub fn surrounding(parity: u8, rows: u8, cols: u8, id: u32) -> Surrounding
+    requires { ⌜ parity < 2 ⌝ }
+    ensures { λ r. ⌜ r ≡ fourCorners parity rows cols id ⌝ }
 {
-    let place = marker_square(rows, cols, id);
+    let place = marker_square(parity, rows, cols, id);
     match place {
         Located::At { i, j } => around(rows, cols, i, j),
         Located::Absent => Surrounding::Absent,

@@ -1,12 +1,13 @@
 // The ChArUco board (board.rs): the questions 1 to 8, and the layout as formulas on a board value.
-// Leans on `refusal` and `floats`.
+// Uses `refusal` and `floats`.
 ghost use mathlib.Core.Path.{_≡_};
-ghost use Rattle.board.specs.Layout.{odd, holds, markerCount, markerAt, squareOf, cornerCount, cornerAt, cornerOf, objectPoint, fourCorners};
-ghost use Rattle.board.specs.Numbering.{numberAt};
+ghost use Rattle.board.specs.Layout.{parityOf, holdsMarker, markerTotal, markerOn, markerSquare, surroundingCorners};
+ghost use Rattle.board.specs.Layout.{cornerCount, cornerAt, cornerPlace, objectPoint};
 ghost use Rattle.board.specs.Questions.{sizedBoard, newBoard};
 
 mod layout;
 pub mod questions;
+pub mod squares;
 
 use refusal::Refusal;
 
@@ -111,17 +112,32 @@ impl Board {
         }
     }
 
-    pub fn marker_count(self) -> u32
-        ensures { λ r. ⌜ r ≡ markerCount odd (self .rows) (self .cols) ⌝ }
+    // The parity of i + j of the squares that hold markers.
+    fn parity(self) -> u8
+        ensures { λ r. ⌜ r ≡ parityOf self ⌝ }
     {
-        layout::marker_count(self.rows, self.cols)
+        1
+    }
+
+    pub fn marker_count(self) -> u32
+        ensures { λ r. ⌜ r ≡ markerTotal self ⌝ }
+    {
+        layout::marker_count(self.parity(), self.rows, self.cols)
+    }
+
+    // Whether square (i, j) holds a marker, if it is on the board.
+    pub fn holds_marker(self, i: usize, j: usize) -> bool
+        ensures { λ r. ⌜ r ≡ holdsMarker (parityOf self) i j ⌝ }
+    {
+        layout::holds_marker(self.parity(), i, j)
     }
 
     // The marker on square (i, j).
     pub fn marker_id_at(self, i: i32, j: i32) -> Numbered
-        ensures { λ r. ⌜ r ≡ markerAt odd (self .rows) (self .cols) i j ⌝ }
+        ensures { λ r. ⌜ r ≡ markerOn self i j ⌝ }
     {
         layout::marker_id(
+            self.parity(),
             self.rows,
             self.cols,
             layout::clip(i, self.cols),
@@ -129,18 +145,11 @@ impl Board {
         )
     }
 
-    // The same for a square that is not left of the board or above it.
-    pub fn marker_id_on(self, i: u32, j: u32) -> Numbered
-        ensures { λ r. ⌜ r ≡ numberAt (holds odd) (self .cols) (self .rows) i j ⌝ }
-    {
-        layout::marker_id(self.rows, self.cols, i, j)
-    }
-
     // The square of a marker.
     pub fn marker_position(self, id: u32) -> Located
-        ensures { λ r. ⌜ r ≡ squareOf odd (self .rows) (self .cols) id ⌝ }
+        ensures { λ r. ⌜ r ≡ markerSquare self id ⌝ }
     {
-        layout::marker_square(self.rows, self.cols, id)
+        layout::marker_square(self.parity(), self.rows, self.cols, id)
     }
 
     // The inner corner at board corner (i, j).
@@ -164,7 +173,7 @@ impl Board {
 
     // The board corner of an inner corner's id.
     pub fn board_corner(self, id: u32) -> Located
-        ensures { λ r. ⌜ r ≡ cornerOf (self .rows) (self .cols) id ⌝ }
+        ensures { λ r. ⌜ r ≡ cornerPlace (self .rows) (self .cols) id ⌝ }
     {
         layout::corner_place(self.rows, self.cols, id)
     }
@@ -178,8 +187,8 @@ impl Board {
 
     // The four inner corners around a marker: none for a marker on the rim or an unknown one.
     pub fn marker_surrounding_charuco_corners(self, id: u32) -> Surrounding
-        ensures { λ r. ⌜ r ≡ fourCorners odd (self .rows) (self .cols) id ⌝ }
+        ensures { λ r. ⌜ r ≡ surroundingCorners self id ⌝ }
     {
-        layout::surrounding(self.rows, self.cols, id)
+        layout::surrounding(self.parity(), self.rows, self.cols, id)
     }
 }

@@ -1,7 +1,7 @@
 // The answers to the questions 1 to 8 of document 01 that are more than one comparison, and the board that passed them.
 ghost use mathlib.Core.Path.{_≡_};
 ghost use Prim.Native.Nat.{_≤_};
-ghost use Rattle.board.specs.Questions.{sizeAnswer, cellSizeAnswer, markerSizeAnswer, rangeAnswer, codeAnswer, codesAnswer, boardOf};
+ghost use Rattle.board.specs.Questions.{sizeAnswer, cellSizeAnswer, markerSizeAnswer, rangeAnswer, codeInRange, codesAnswer, boardOf};
 use super::Board;
 use super::CharucoBoardSpec;
 
@@ -47,7 +47,7 @@ pub fn range(spec: CharucoBoardSpec, codes: usize) -> bool
 // Is a code below 2^(bits²)?
 pub fn code(bits: u8, code: u64) -> bool
     requires { ⌜ (1 ≤ bits) × (bits ≤ 8) ⌝ }
-    ensures { λ r. ⌜ r ≡ codeAnswer bits code ⌝ }
+    ensures { λ r. ⌜ r ≡ codeInRange bits code ⌝ }
 {
     let top = (bits as u64) * (bits as u64) - 1;
     code >> top <= 1

@@ -11,20 +11,20 @@ use Rattle.board.specs.declared.Board.{Board}
 use Rattle.board.specs.declared.NewBoard.{NewBoard}
 use Rattle.board.specs.declared.NewBoard.the-variants as new
 use Rattle.board.specs.Questions.{newBoard, boardOf}
-use Rattle.board.proofs.Asked.{asked}
+use Rattle.board.proofs.Asked.{made, after-made, after-refused}
 use Rattle.score_matrix.specs.declared.BoardMatchConfig.{BoardMatchConfig}
-use Rattle.shot_record.specs.Shots.{Shot, shot, whole, parse}
+use Rattle.shot_record.specs.Shots.{Shot, shot, wholeRecord, parse}
 use Rattle.shot_record.specs.Answers.{configOf, specOf}
 use Rattle.shot_record.proofs.Whole.{Whole, parse-whole}
 use Rattle.board_match.specs.declared.Asked.the-variants as answered
 use Rattle.board_match.specs.declared.questions.Answer.the-variants as answer
-use Rattle.board_match.specs.Questions.{askedFrom9, afterBoard, askedBefore15, afterRecord, answerOf, askedWith, askedAnswer}
+use Rattle.board_match.specs.Questions.{askedFrom9, askedBefore15, afterRecord, toldAnswer, askedWith, askedAnswer}
 
-nothing-refused : (o : Option Refusal) → answer.Passed ≡ answerOf o → o ≡ none
+nothing-refused : (o : Option Refusal) → answer.Passed ≡ toldAnswer o → o ≡ none
 nothing-refused none e = refl
 nothing-refused (some r) e = let z : _≡_ {A = ℕ} 0 1 = cc in absurd (omega arith)
 
-that-refused : (o : Option Refusal) (r : Refusal) → answer.Refused r ≡ answerOf o → o ≡ some r
+that-refused : (o : Option Refusal) (r : Refusal) → answer.Refused r ≡ toldAnswer o → o ≡ some r
 that-refused none r e = let z : _≡_ {A = ℕ} 0 1 = cc in absurd (omega arith)
 that-refused (some q) r e = cc
 
@@ -45,28 +45,32 @@ module _ (bytes : List ℕ) (words : ℕ) where
         sym (ap (λ (o : Option Refusal). askedWith o s) (ap (λ (o : Option Shot). afterRecord o words) (parse-whole bytes w) ∙ e))
 
     pub board-refused : (r : Refusal) → new.Refused r ≡ board → answered.Refused r ≡ askedAnswer bytes words
-    board-refused r e = refused-with r (ap (λ (n : NewBoard). afterBoard n (askedFrom9 s words)) (sym e))
+    board-refused r e = refused-with r (after-refused (specOf s) (s .codes) (askedFrom9 s words none) r (sym e))
 
     module _ (b : Board) (e : new.Made b ≡ board) where
-      left : askedBefore15 s words ≡ askedFrom9 s words
-      left = ap (λ (n : NewBoard). afterBoard n (askedFrom9 s words)) (sym e)
+      left : askedBefore15 s words ≡ askedFrom9 s words none
+      left = after-made (specOf s) (s .codes) (askedFrom9 s words none) b (sym e)
 
-      pub later-refused : (r : Refusal) → answer.Refused r ≡ answerOf (askedFrom9 s words) → answered.Refused r ≡ askedAnswer bytes words
-      later-refused r q = refused-with r (left ∙ that-refused (askedFrom9 s words) r q)
+      pub later-refused : (r : Refusal) → answer.Refused r ≡ toldAnswer (askedFrom9 s words none) → answered.Refused r ≡ askedAnswer bytes words
+      later-refused r q = refused-with r (left ∙ that-refused (askedFrom9 s words none) r q)
 
-      pub all-passed : (c : BoardMatchConfig) → c ≡ configOf s → answer.Passed ≡ answerOf (askedFrom9 s words) → answered.Passed b c ≡ askedAnswer bytes words
+      pub all-passed : (c : BoardMatchConfig) → c ≡ configOf s → answer.Passed ≡ toldAnswer (askedFrom9 s words none)
+          → answered.Passed b c ≡ askedAnswer bytes words
       all-passed c f q =
-          ap₂ answered.Passed (asked (specOf s) (s .codes) b (sym e) .1) f
-          ∙ sym (ap (λ (o : Option Refusal). askedWith o s) (ap (λ (o : Option Shot). afterRecord o words) (parse-whole bytes w) ∙ left ∙ nothing-refused (askedFrom9 s words) q))
+          ap₂ answered.Passed (made (specOf s) (s .codes) b (sym e) .1) f
+          ∙ sym
+          (ap (λ (o : Option Refusal). askedWith o s)
+          (ap (λ (o : Option Shot). afterRecord o words) (parse-whole bytes w) ∙ left ∙ nothing-refused (askedFrom9 s words none) q))
 
 -- ---- what it tells
 pub record Told (bytes : List ℕ) (words : ℕ) (b : Board) (c : BoardMatchConfig) : Type 0 where
-  pub is-whole : whole bytes ≡ true
+  pub is-whole : wholeRecord bytes ≡ true
   pub board-is : b ≡ boardOf (specOf (shot bytes))
   pub config-is : c ≡ configOf (shot bytes)
   pub none-refused : askedBefore15 (shot bytes) words ≡ none
 
-passed-if : (o : Option Refusal) (t : Shot) (b : Board) (c : BoardMatchConfig) → askedWith o t ≡ answered.Passed b c → (o ≡ none) × (b ≡ boardOf (specOf t)) × (c ≡ configOf t)
+passed-if : (o : Option Refusal) (t : Shot) (b : Board) (c : BoardMatchConfig) → askedWith o t ≡ answered.Passed b c → (o ≡ none)
+    × (b ≡ boardOf (specOf t)) × (c ≡ configOf t)
 passed-if none t b c e = (refl, cc, cc)
 passed-if (some r) t b c e = let z : _≡_ {A = ℕ} 0 1 = cc in absurd (omega arith)
 
@@ -83,7 +87,7 @@ module _ (bytes : List ℕ) (words : ℕ) where
   unfolding parse
   told-passed b c e =
       let p = passed-if (afterRecord (parse bytes) words) (shot bytes) b c e in
-      let q = record-if (whole bytes) (shot bytes) words (p .0) in
+      let q = record-if (wholeRecord bytes) (shot bytes) words (p .0) in
       record { is-whole = q .0; board-is = p .1; config-is = p .2; none-refused = q .1 }
 
   pub told-refused : (r : Refusal) → askedAnswer bytes words ≡ answered.Refused r → afterRecord (parse bytes) words ≡ some r

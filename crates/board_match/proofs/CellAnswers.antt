@@ -32,7 +32,9 @@ module _ (bytes : List ℕ) (k : ℕ) (inside : k < cellCount bytes) where
   pub placed-is : placedRead (cellRead (some (cellOf bytes k))) ≡ placedAnswer (cell (shot bytes) k)
   placed-is = placed-with (cellOf bytes k) (cellOf bytes k .sample) ∙ ap placedAnswer is-cell
 
-  pub sample-is : Whole bytes → Small bytes → fractionRead (cellRead (some (cellOf bytes k))) ≡ sampleAnswer (gridSize (shot bytes .bits) (shot bytes .border)) (cell (shot bytes) k .sample)
+  pub sample-is : Whole bytes → Small bytes
+      → fractionRead (cellRead (some (cellOf bytes k))) ≡ sampleAnswer (gridSize (shot bytes .bits) (shot bytes .border)) (cell (shot bytes) k .sample)
   sample-is w s =
       let size = gridSize (bitsOf bytes) (borderOf bytes) in
-      sampled-with size (cellOf bytes k) (cellOf bytes k .sample) (cell-fits bytes w k inside s .sample) ∙ ap (λ (c : Cell). sampleAnswer size (c .sample)) is-cell
+      sampled-with size (cellOf bytes k) (cellOf bytes k .sample) (cell-fits bytes w k inside s .sample)
+      ∙ ap (λ (c : Cell). sampleAnswer size (c .sample)) is-cell

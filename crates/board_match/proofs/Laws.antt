@@ -11,6 +11,7 @@ use borrow.Author.Tests.{lt-ltb}
 use Rattle.refusal.specs.declared.Refusal.{Refusal}
 use Rattle.refusal.specs.declared.Refusal.the-variants as refusal
 use Rattle.refusal.specs.Questions.{ask}
+use Rattle.refusal.proofs.Questions.{rest-asked}
 use Rattle.shot_record.specs.Shots.{Shot, shot}
 use Rattle.ranking.specs.declared.Hypothesis.{Hypothesis}
 use Rattle.ranking.specs.declared.Choice.{Choice}
@@ -18,16 +19,17 @@ use Rattle.ranking.specs.declared.Choice.the-variants as choice
 use Rattle.hypothesis.specs.Placements.{placements}
 use Rattle.hypothesis.specs.Search.{best}
 use Rattle.hypothesis.specs.Accuracy.{Checked}
-use Rattle.hypothesis.specs.Inputs.{Passed}
+use Rattle.hypothesis.specs.Inputs.{PassedShot}
 use Rattle.hypothesis.proofs.Best.{best-placed}
 use Rattle.hypothesis.proofs.Margins.{margin-is-number}
 use Rattle.board_match.specs.declared.Match.{Match}
 use Rattle.board_match.specs.declared.Matched.{Matched}
 use Rattle.board_match.specs.declared.Matched.the-variants as matched
-use Rattle.board_match.specs.Questions.{askedBefore15}
-use Rattle.board_match.specs.Match.{marginWith, marginOf, marginAnswer, markersAnswer, askedFrom15, earlier, refusedBy, matchOf}
+use Rattle.board_match.specs.Questions.{askedOfShot, askedBefore15}
+use Rattle.board_match.specs.Match.{marginWith, marginOf, marginAnswer, markersAnswer, askedFrom15, refusedBy, matchOf}
 use Rattle.board_match.specs.Accuracy.{GateRule}
 use Rattle.board_match.specs.Corners.{CornersAligned, CornersRule}
+use Rattle.board_match.proofs.Order.{shot-goes-on}
 use Rattle.board_match.proofs.Sound.{sound}
 use Rattle.board_match.proofs.Passing.{passes}
 use Rattle.board_match.proofs.Accurately.{of-answer}
@@ -45,8 +47,9 @@ from-16 : (s : Shot) (words : ℕ) → askedBefore15 s words ≡ none → 0 < le
     → refusedBy s words ≡ ask (marginAnswer s) (refusal.Margin (marginOf s)) (ask (markersAnswer s) refusal.NoMarkers none)
 unfolding askedFrom15
 from-16 s words asked fits =
-    ap (λ (o : Option Refusal). earlier o (askedFrom15 s)) asked
-    ∙ ap (λ (t : Bool). ask t refusal.TranslationWindow (ask (marginAnswer s) (refusal.Margin (marginOf s)) (ask (markersAnswer s) refusal.NoMarkers none))) (lt-ltb 0 (length (placements s)) fits)
+    rest-asked (askedOfShot s words) (shot-goes-on s words) (askedFrom15 s) asked
+    ∙ ap (λ (t : Bool). ask t refusal.TranslationWindow (ask (marginAnswer s) (refusal.Margin (marginOf s))
+    (ask (markersAnswer s) refusal.NoMarkers none))) (lt-ltb 0 (length (placements s)) fits)
 
 not-by-margin : (t : Bool) (m : Float) → ask t refusal.NoMarkers none ≡ some (refusal.Margin m) → ⊥
 not-by-margin true m e = Option·none-ne-some (refusal.Margin m) e
@@ -68,7 +71,7 @@ margin-gate bytes words small w asked fits =
     }
 
 -- ---- corners
-module _ (s : Shot) (p : Passed s) (b : Hypothesis) (is : best s ≡ choice.Placement b) where
+module _ (s : Shot) (p : PassedShot s) (b : Hypothesis) (is : best s ≡ choice.Placement b) where
   aligned : (m : Match) → _≡_ {A = Matched} (matched.Placed (matchOf s b)) (matched.Placed m) → CornersAligned m
   aligned m e =
       let same : matchOf s b ≡ m = cc in

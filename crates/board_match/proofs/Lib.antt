@@ -8,3 +8,4 @@ pub mod Placing
 pub mod Accurately
 pub mod Gates
 pub mod Laws
+pub mod Sizes

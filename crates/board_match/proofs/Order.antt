@@ -1,39 +1,22 @@
--- The questions of Match one by one, and what is left of them after a yes. Assumes nothing.
-use mathlib.Core.Path.{_≡_, refl, ap}
-use mathlib.Core.Bool.{Bool, true, false}
-use mathlib.Core.Option.{Option, none, some}
+-- The questions of Match before 15 go on with a rest. Assumes nothing.
 use Prim.Native.Nat.{ℕ}
-use Rattle.refusal.specs.declared.Refusal.{Refusal}
-use Rattle.refusal.specs.declared.Refusal.the-variants as refusal
-use Rattle.refusal.specs.Questions.{ask}
+use Rattle.refusal.proofs.Questions.{GoesOn, ask-first, ask-last, followed-by}
+use Rattle.board.specs.Questions.{askedOfBoard}
+use Rattle.board.proofs.Asked.{board-goes-on}
 use Rattle.shot_record.specs.Shots.{Shot}
-use Rattle.shot_record.specs.Answers.{configOf}
-use Rattle.board_match.specs.Questions.{settingsAnswer, tableAnswer, someAnswer, cellsAnswer, samplesAnswer, roomAnswer, askedFrom9}
+use Rattle.shot_record.specs.Answers.{configOf, specOf}
+use Rattle.board_match.specs.Questions.{settingsAnswer, tableAnswer, someAnswer, cellsAnswer, samplesAnswer, roomAnswer, askedFrom9, askedOfShot}
 
--- the questions from the one with a number on
-module _ (s : Shot) (words : ℕ) where
-  abbrev pub from14 : Option Refusal
-  from14 = ask (roomAnswer s words) refusal.ListTooShort none
+from-9-goes-on : (s : Shot) (words : ℕ) → GoesOn (askedFrom9 s words)
+unfolding askedFrom9
+from-9-goes-on s words =
+    ask-first (settingsAnswer (configOf s)) _ _
+    (ask-first (tableAnswer s) _ _
+    (ask-first (someAnswer s) _ _
+    (ask-first (cellsAnswer s) _ _
+    (ask-first (samplesAnswer s) _ _
+    (ask-last (roomAnswer s words) _)))))
 
-  abbrev pub from13 : Option Refusal
-  from13 = ask (samplesAnswer s) refusal.InvalidSample from14
-
-  abbrev pub from12 : Option Refusal
-  from12 = ask (cellsAnswer s) refusal.CellsOutOfRange from13
-
-  abbrev pub from11 : Option Refusal
-  from11 = ask (someAnswer s) refusal.NoCells from12
-
-  abbrev pub from10 : Option Refusal
-  from10 = ask (tableAnswer s) refusal.InvalidTable from11
-
-  pub from9 : askedFrom9 s words ≡ ask (settingsAnswer (configOf s)) refusal.SettingsNotFinite from10
-  unfolding askedFrom9
-  from9 = refl
-
--- a yes goes on, and a no ends
-pub yes-on : (b : Bool) (r : Refusal) (next : Option Refusal) → b ≡ true → ask b r next ≡ next
-yes-on b r next e = ap (λ (a : Bool). ask a r next) e
-
-pub no-ends : (b : Bool) (r : Refusal) (next : Option Refusal) → b ≡ false → ask b r next ≡ some r
-no-ends b r next e = ap (λ (a : Bool). ask a r next) e
+pub shot-goes-on : (s : Shot) (words : ℕ) → GoesOn (askedOfShot s words)
+shot-goes-on s words =
+    followed-by (askedOfBoard (specOf s) (s .codes)) (askedFrom9 s words) (board-goes-on (specOf s) (s .codes)) (from-9-goes-on s words)

@@ -9,7 +9,7 @@ use lib.ListN.{length, getD, List·getD-eq-default}
 use lib.IntN.{natAbs}
 use Rattle.score_matrix.specs.Scores.{side}
 use Rattle.shot_record.specs.Fields.{bitsOf, borderOf, gridSize, cellCount}
-use Rattle.shot_record.specs.Shots.{Sample, Cell, Shot, shot, whole, cellOf}
+use Rattle.shot_record.specs.Shots.{Sample, Cell, Shot, shot, wholeRecord, cellOf}
 use Rattle.shot_record.specs.Writing.{Bytes, FitSample, IfSampled}
 use Rattle.shot_record.proofs.Reading.{Small}
 use Rattle.shot_record.proofs.Whole.{passed}
@@ -17,7 +17,7 @@ use Rattle.shot_record.proofs.CellReads.{cell-count, cell-is, cell-fits}
 use Rattle.hypothesis.specs.Placements.{cellTotal, noCell, cell}
 use Rattle.hypothesis.specs.Accuracy.{Checked}
 use Rattle.hypothesis.specs.Accuracy as accuracy
-use Rattle.hypothesis.specs.Inputs.{Passed}
+use Rattle.hypothesis.specs.Inputs.{PassedShot}
 use Rattle.board_match.proofs.Sound.{Sound}
 
 -- past the last cell there is none
@@ -37,7 +37,7 @@ byte-below [] h i = lit< tt
 byte-below (x ∷ xs) h zero = h .0
 byte-below (x ∷ xs) h (suc i) = byte-below xs (h .1) i
 
-module _ (bytes : List ℕ) (small : Small bytes) (w : whole bytes ≡ true) (words : ℕ) (s : Sound (shot bytes) words) where
+module _ (bytes : List ℕ) (small : Small bytes) (w : wholeRecord bytes ≡ true) (words : ℕ) (s : Sound (shot bytes) words) where
   -- a cell's sample, by what the record's bytes allow and question 13 lets pass
   abbrev SampleSound : Cell → Type 0
   SampleSound c = (x : Sample) → c .sample ≡ some x → accuracy.Sound x
@@ -51,7 +51,8 @@ module _ (bytes : List ℕ) (small : Small bytes) (w : whole bytes ≡ true) (wo
       inside : (k : ℕ) → k < cellTotal (shot bytes) → SampleSound (cell (shot bytes) k)
       inside k h x e =
           let l : k < cellCount bytes = subst (λ (n : ℕ). k < n) (cell-count bytes) h in
-          let f = fitting (cellOf bytes k .sample) x (gridSize (bitsOf bytes) (borderOf bytes)) (sym (ap (λ (c : Cell). c .sample) (cell-is bytes k noCell l)) ∙ e) (cell-fits bytes (passed bytes w) k l small .sample) in
+          let f = fitting (cellOf bytes k .sample) x (gridSize (bitsOf bytes) (borderOf bytes))
+          (sym (ap (λ (c : Cell). c .sample) (cell-is bytes k noCell l)) ∙ e) (cell-fits bytes (passed bytes w) k l small .sample) in
           record { fraction = s .fraction k h x e; threshold = f .threshold; greys = byte-below (x .grid) (f .greys) }
 
   checked : Checked (shot bytes)
@@ -64,7 +65,7 @@ module _ (bytes : List ℕ) (small : Small bytes) (w : whole bytes ≡ true) (wo
         cells = sample-sound;
       }
 
-  pub passes : Passed (shot bytes)
+  pub passes : PassedShot (shot bytes)
   passes =
       record {
         checked = checked;
@@ -72,6 +73,7 @@ module _ (bytes : List ℕ) (small : Small bytes) (w : whole bytes ≡ true) (wo
         cols = s .board .sized .in-range .cols;
         some-cell = s .some-cells;
         near = every-cell (shot bytes) (λ (c : Cell). (natAbs (c .u) ≤ 4096) × (natAbs (c .v) ≤ 4096)) (lit≤ tt, lit≤ tt) (λ k h. (s .u k h, s .v k h));
-        grids = every-cell (shot bytes) (λ (c : Cell). (x : Sample) → c .sample ≡ some x → length (x .grid) ≡ side (shot bytes .bits) (shot bytes .border) * side (shot bytes .bits) (shot bytes .border))
+        grids = every-cell (shot bytes) (λ (c : Cell). (x : Sample) → c .sample ≡ some x
+            → length (x .grid) ≡ side (shot bytes .bits) (shot bytes .border) * side (shot bytes .bits) (shot bytes .border))
             (λ x e. absurd (Option·none-ne-some x e)) (λ k h x e. s .grid k h x e);
       }

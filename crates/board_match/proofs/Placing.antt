@@ -1,30 +1,35 @@
 -- The questions 15 to 17 and the answer of a shot that passed those before. Assumes nothing.
 use mathlib.Core.Path.{_≡_, refl, sym, ap, _∙_}
-use mathlib.Core.Bool.{Bool, true, false, not}
-use mathlib.Core.List.{List, _++_}
+use mathlib.Core.Bool.{Bool, true, false}
+use mathlib.Core.List.{List, flatMap}
 use mathlib.Core.Option.{Option, none, some, Option·some-injective}
-use Prim.Native.Nat.{ℕ, _*_, _<_}
+use Prim.Native.Nat.{ℕ, _<_}
 use native.Mathlib.Omega.{arith}
 use lib.Dec.{ltb}
-use lib.ListN.{length, drop}
-use lib.Ieee.{Float, lt}
+use lib.ListN.{length}
+use lib.Ieee.{Float}
 use borrow.Author.Tests.{lt-ltb, le-ltb}
 use Rattle.refusal.specs.declared.Refusal.{Refusal}
 use Rattle.refusal.specs.declared.Refusal.the-variants as refusal
 use Rattle.refusal.specs.Questions.{ask}
-use Rattle.shot_record.specs.Shots.{Shot, shot, whole, parse}
+use Rattle.refusal.proofs.Questions.{rest-asked, refusal-stands}
+use Rattle.lent_list.specs.Front.{inFront}
+use Rattle.shot_record.specs.Shots.{Shot, shot, wholeRecord, parse}
+use Rattle.shot_record.specs.Answers.{configOf}
 use Rattle.shot_record.proofs.Whole.{passed, parse-whole}
 use Rattle.ranking.specs.declared.Hypothesis.{Hypothesis}
 use Rattle.ranking.specs.declared.Choice.{Choice}
 use Rattle.ranking.specs.declared.Choice.the-variants as choice
 use Rattle.hypothesis.specs.Placements.{placements}
 use Rattle.hypothesis.specs.Search.{best}
-use Rattle.emit.specs.Markers.{Marker, markers, wordsOf}
+use Rattle.emit.specs.Markers.{Marker, markers, markerWords}
 use Rattle.board_match.specs.declared.Matched.the-variants as matched
-use Rattle.board_match.specs.Questions.{askedBefore15, afterRecord}
-use Rattle.board_match.specs.Match.{marginWith, marginOf, markersWith, markersOf, minimum, marginAnswer, markersAnswer, askedFrom15, earlier, refusedBy, matchOf, answerWith, answerOf, listWith, listOf, Gives}
+use Rattle.board_match.specs.Questions.{askedOfShot, askedBefore15, afterRecord}
+use Rattle.board_match.specs.Match.{marginWith, marginOf, markersWith, markersOf, marginPasses, marginAnswer, markersAnswer}
+use Rattle.board_match.specs.Match.{askedFrom15, refusedBy, matchOf, answerWith, matchedShot, listWith, leftList, Gives}
+use Rattle.board_match.proofs.Order.{shot-goes-on}
 
-module _ (bytes lent : List ℕ) (w : whole bytes ≡ true) where
+module _ (bytes lent : List ℕ) (w : wholeRecord bytes ≡ true) where
   abbrev s : Shot
   s = shot bytes
 
@@ -33,13 +38,13 @@ module _ (bytes lent : List ℕ) (w : whole bytes ≡ true) where
   given o e =
       let p = parse-whole bytes (passed bytes w) in
       record {
-        answers = ap (λ (q : Option Refusal). answerWith q s (best s)) (sym e) ∙ sym (ap (λ (q : Option Shot). answerOf q (length lent)) p);
-        leaves = ap (λ (q : Option Refusal). listWith q (markersOf s) lent) (sym e) ∙ sym (ap (λ (q : Option Shot). listOf q lent) p);
+        answers = ap (λ (q : Option Refusal). answerWith q s (best s)) (sym e) ∙ sym (ap (λ (q : Option Shot). matchedShot q (length lent)) p);
+        leaves = ap (λ (q : Option Refusal). listWith q (markersOf s) lent) (sym e) ∙ sym (ap (λ (q : Option Shot). leftList q lent) p);
       }
 
   module _ (asked : askedBefore15 s (length lent) ≡ none) where
     from-15 : (o : Option Refusal) → askedFrom15 s ≡ o → Gives bytes lent (answerWith o s (best s)) (listWith o (markersOf s) lent)
-    from-15 o e = given o (ap (λ (q : Option Refusal). earlier q (askedFrom15 s)) asked ∙ e)
+    from-15 o e = given o (rest-asked (askedOfShot s (length lent)) (shot-goes-on s (length lent)) (askedFrom15 s) asked ∙ e)
 
     pub no-window : length (placements s) ≡ 0 → Gives bytes lent (matched.Refused refusal.TranslationWindow) lent
     no-window e = from-15 (some refusal.TranslationWindow) (unfold askedFrom15 in rw (le-ltb 0 (length (placements s)) (omega (arith, e))) refl)
@@ -52,28 +57,35 @@ module _ (bytes lent : List ℕ) (w : whole bytes ≡ true) where
       found = markers s (b .alignment)
 
       -- the questions 16 and 17 of the best placement
+      abbrev only17 : Option Refusal
+      only17 = ask (ltb 0 (length found)) refusal.NoMarkers none
+
       abbrev later : Option Refusal
-      later = ask (not (lt margin (minimum s))) (refusal.Margin margin) (ask (ltb 0 (length found)) refusal.NoMarkers none)
+      later = ask (marginPasses (configOf s) margin) (refusal.Margin margin) only17
 
       asked-of : askedFrom15 s ≡ later
       unfolding askedFrom15
       asked-of =
-          ap (λ (t : Bool). ask t refusal.TranslationWindow (ask (marginAnswer s) (refusal.Margin (marginOf s)) (ask (markersAnswer s) refusal.NoMarkers none))) (lt-ltb 0 (length (placements s)) fits)
-          ∙ ap (λ (c : Choice). ask (not (lt (marginWith s c) (minimum s))) (refusal.Margin (marginWith s c)) (ask (ltb 0 (length (markersWith s c))) refusal.NoMarkers none)) is
+          ap (λ (t : Bool). ask t refusal.TranslationWindow (ask (marginAnswer s) (refusal.Margin (marginOf s))
+          (ask (markersAnswer s) refusal.NoMarkers none))) (lt-ltb 0 (length (placements s)) fits)
+          ∙ ap
+          (λ (c : Choice).
+          ask (marginPasses (configOf s) (marginWith s c)) (refusal.Margin (marginWith s c)) (ask (ltb 0 (length (markersWith s c))) refusal.NoMarkers none))
+          is
 
       -- 16
-      pub narrow : lt margin (minimum s) ≡ true → Gives bytes lent (matched.Refused (refusal.Margin margin)) lent
-      narrow t = from-15 (some (refusal.Margin margin)) (asked-of ∙ ap (λ (q : Bool). ask (not q) (refusal.Margin margin) (ask (ltb 0 (length found)) refusal.NoMarkers none)) t)
+      pub narrow : marginPasses (configOf s) margin ≡ false → Gives bytes lent (matched.Refused (refusal.Margin margin)) lent
+      narrow t = from-15 (some (refusal.Margin margin)) (asked-of ∙ ap (λ (q : Bool). ask q (refusal.Margin margin) only17) t)
 
-      module _ (wide : lt margin (minimum s) ≡ false) where
-        then-17 : askedFrom15 s ≡ ask (ltb 0 (length found)) refusal.NoMarkers none
-        then-17 = asked-of ∙ ap (λ (q : Bool). ask (not q) (refusal.Margin margin) (ask (ltb 0 (length found)) refusal.NoMarkers none)) wide
+      module _ (wide : marginPasses (configOf s) margin ≡ true) where
+        then-17 : askedFrom15 s ≡ only17
+        then-17 = asked-of ∙ ap (λ (q : Bool). ask q (refusal.Margin margin) only17) wide
 
         -- 17
         pub no-markers : length found ≡ 0 → Gives bytes lent (matched.Refused refusal.NoMarkers) lent
         no-markers e = from-15 (some refusal.NoMarkers) (then-17 ∙ ap (λ (t : Bool). ask t refusal.NoMarkers none) (le-ltb 0 (length found) (omega (arith, e))))
 
-        pub placed : 0 < length found → Gives bytes lent (matched.Placed (matchOf s b)) (wordsOf found ++ drop (18 * length found) lent)
+        pub placed : 0 < length found → Gives bytes lent (matched.Placed (matchOf s b)) (inFront (flatMap markerWords found) lent)
         placed h =
             let g = from-15 none (then-17 ∙ ap (λ (t : Bool). ask t refusal.NoMarkers none) (lt-ltb 0 (length found) h)) in
             record {
@@ -85,10 +97,13 @@ module _ (bytes lent : List ℕ) (w : whole bytes ≡ true) where
 pub refused-answer : (bytes lent : List ℕ) (r : Refusal) → afterRecord (parse bytes) (length lent) ≡ some r → Gives bytes lent (matched.Refused r) lent
 refused-answer bytes lent r e = record { answers = answers (parse bytes) e; leaves = leaves (parse bytes) e }
   where
-    answers : (o : Option Shot) → afterRecord o (length lent) ≡ some r → matched.Refused r ≡ answerOf o (length lent)
-    answers none q = ap matched.Refused (sym (Option·some-injective refusal.InvalidRecord r q))
-    answers (some t) q = sym (ap (λ (p : Option Refusal). answerWith (earlier p (askedFrom15 t)) t (best t)) q)
+    stands : (t : Shot) → askedBefore15 t (length lent) ≡ some r → refusedBy t (length lent) ≡ some r
+    stands t q = refusal-stands (askedOfShot t (length lent)) (shot-goes-on t (length lent)) (askedFrom15 t) r q
 
-    leaves : (o : Option Shot) → afterRecord o (length lent) ≡ some r → lent ≡ listOf o lent
+    answers : (o : Option Shot) → afterRecord o (length lent) ≡ some r → matched.Refused r ≡ matchedShot o (length lent)
+    answers none q = ap matched.Refused (sym (Option·some-injective refusal.InvalidRecord r q))
+    answers (some t) q = sym (ap (λ (p : Option Refusal). answerWith p t (best t)) (stands t q))
+
+    leaves : (o : Option Shot) → afterRecord o (length lent) ≡ some r → lent ≡ leftList o lent
     leaves none q = refl
-    leaves (some t) q = sym (ap (λ (p : Option Refusal). listWith (earlier p (askedFrom15 t)) (markersOf t) lent) q)
+    leaves (some t) q = sym (ap (λ (p : Option Refusal). listWith p (markersOf t) lent) (stands t q))

@@ -3,3 +3,4 @@ pub mod Reads
 pub mod Match
 pub mod Accuracy
 pub mod Corners
+pub mod Sizes

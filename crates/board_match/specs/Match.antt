@@ -1,19 +1,21 @@
 -- Document 01, Match: the answer to every record and every lent list, and the list at exit.
-use Prim.Native.Nat.{ℕ, _*_}
+use Prim.Native.Nat.{ℕ}
 use mathlib.Core.Path.{_≡_}
 use mathlib.Core.Bool.{Bool, not}
-use mathlib.Core.List.{List, [], _++_}
+use mathlib.Core.List.{List, [], flatMap}
 use mathlib.Core.Option.{Option, none, some}
 use lib.Dec.{ltb}
-use lib.ListN.{length, drop}
+use lib.ListN.{length}
 use lib.Ieee.{Float, lt}
 use Rattle.floats.specs.Units.{nought}
+use Rattle.lent_list.specs.Front.{inFront}
 use Rattle.refusal.specs.declared.Refusal.{Refusal}
 use Rattle.refusal.specs.declared.Refusal.the-variants as refusal
 use Rattle.refusal.specs.Questions.{ask}
 use Rattle.grid_alignment.specs.Alignment.{cornerAlignment}
 use Rattle.shot_record.specs.Shots.{Shot, parse}
-use Rattle.shot_record.specs.Answers.{float}
+use Rattle.score_matrix.specs.declared.BoardMatchConfig.{BoardMatchConfig}
+use Rattle.shot_record.specs.Answers.{ofPattern, configOf}
 use Rattle.ranking.specs.declared.Hypothesis.{Hypothesis}
 use Rattle.ranking.specs.declared.Choice.{Choice}
 use Rattle.ranking.specs.declared.Choice.the-variants as choice
@@ -21,11 +23,11 @@ use Rattle.ranking.specs.Margin.{margin}
 use Rattle.hypothesis.specs.Placements.{placements}
 use Rattle.hypothesis.specs.Evidence.{capacity}
 use Rattle.hypothesis.specs.Search.{best, runnerUp}
-use Rattle.emit.specs.Markers.{Marker, markers, wordsOf}
+use Rattle.emit.specs.Markers.{Marker, markers, markerWords}
 use Rattle.board_match.specs.declared.Match.{Match}
 use Rattle.board_match.specs.declared.Matched.{Matched}
 use Rattle.board_match.specs.declared.Matched.the-variants as matched
-use Rattle.board_match.specs.Questions.{askedBefore15}
+use Rattle.board_match.specs.Questions.{askedOfShot}
 
 -- the best placement's margin, and the markers that are emitted for it
 abbrev pub marginWith : Shot → Choice → Float
@@ -48,10 +50,13 @@ fitsAnswer s = ltb 0 (length (placements s))
 
 -- 16: Is the margin not below the minimum?
 abbrev pub minimum : Shot → Float
-minimum s = float (s .minimumMargin)
+minimum s = ofPattern (s .minimumMargin)
+
+abbrev pub marginPasses : BoardMatchConfig → Float → Bool
+marginPasses config margin = not (lt margin (config .«alignment_min_margin»))
 
 abbrev pub marginAnswer : Shot → Bool
-marginAnswer s = not (lt (marginOf s) (minimum s))
+marginAnswer s = marginPasses (configOf s) (marginOf s)
 
 -- 17: Was a marker emitted?
 abbrev pub markersAnswer : Shot → Bool
@@ -65,12 +70,8 @@ askedFrom15 s =
     none))
 
 -- the question that is answered with no, if one is
-abbrev pub earlier : Option Refusal → Option Refusal → Option Refusal
-earlier none later = later
-earlier (some refused) later = some refused
-
 abbrev pub refusedBy : Shot → ℕ → Option Refusal
-refusedBy s words = earlier (askedBefore15 s words) (askedFrom15 s)
+refusedBy s markerWords = askedOfShot s markerWords (askedFrom15 s)
 
 -- placed: best, next, margin, count, the corner alignment and the count of markers
 abbrev pub matchOf : Shot → Hypothesis → Match
@@ -89,24 +90,24 @@ answerWith (some refused) s b = matched.Refused refused
 answerWith none s choice.Absent = matched.Refused refusal.TranslationWindow
 answerWith none s (choice.Placement b) = matched.Placed (matchOf s b)
 
-abbrev pub answerOf : Option Shot → ℕ → Matched
-answerOf none words = matched.Refused refusal.InvalidRecord
-answerOf (some s) words = answerWith (refusedBy s words) s (best s)
+abbrev pub matchedShot : Option Shot → ℕ → Matched
+matchedShot none markerWords = matched.Refused refusal.InvalidRecord
+matchedShot (some s) markerWords = answerWith (refusedBy s markerWords) s (best s)
 
 abbrev pub matchAnswer : List ℕ → List ℕ → Matched
-matchAnswer bytes lent = answerOf (parse bytes) (length lent)
+matchAnswer bytes lent = matchedShot (parse bytes) (length lent)
 
 -- the list at exit: on a refusal as it was lent, else the markers' words in front and the rest untouched
 abbrev pub listWith : Option Refusal → List Marker → List ℕ → List ℕ
 listWith (some refused) found lent = lent
-listWith none found lent = wordsOf found ++ drop (18 * length found) lent
+listWith none found lent = inFront (flatMap markerWords found) lent
 
-abbrev pub listOf : Option Shot → List ℕ → List ℕ
-listOf none lent = lent
-listOf (some s) lent = listWith (refusedBy s (length lent)) (markersOf s) lent
+abbrev pub leftList : Option Shot → List ℕ → List ℕ
+leftList none lent = lent
+leftList (some s) lent = listWith (refusedBy s (length lent)) (markersOf s) lent
 
 abbrev pub matchList : List ℕ → List ℕ → List ℕ
-matchList bytes lent = listOf (parse bytes) lent
+matchList bytes lent = leftList (parse bytes) lent
 
 -- both together
 pub record Gives (bytes lent : List ℕ) (answer : Matched) (exit : List ℕ) : Type 0 where

@@ -7,19 +7,17 @@ use lib.Dec.{leb, ltb, eqb}
 use lib.ListN.{length}
 use lib.Ieee.{Float, le}
 use lib.Ieee.Scale.{finite}
-use Rattle.integers.specs.Distance.{within}
-use Rattle.floats.specs.Units.{nought, one}
+use Rattle.integers.specs.Distance.{isWithin}
+use Rattle.floats.specs.Units.{nought, unity}
 use Rattle.refusal.specs.declared.Refusal.{Refusal}
 use Rattle.refusal.specs.declared.Refusal.the-variants as refusal
 use Rattle.refusal.specs.Questions.{ask}
-use Rattle.board.specs.declared.NewBoard.{NewBoard}
-use Rattle.board.specs.declared.NewBoard.the-variants as new
-use Rattle.board.specs.Questions.{newBoard, boardOf}
+use Rattle.board.specs.Questions.{askedOfBoard, boardOf}
 use Rattle.score_matrix.specs.declared.BoardMatchConfig.{BoardMatchConfig}
 use Rattle.score_matrix.specs.Table.{isTable}
 use Rattle.shot_record.specs.Fields.{gridSize}
 use Rattle.shot_record.specs.Shots.{Sample, Cell, Shot, shot, parse}
-use Rattle.shot_record.specs.Answers.{float, configOf, specOf}
+use Rattle.shot_record.specs.Answers.{ofPattern, configOf, specOf}
 use Rattle.hypothesis.specs.Placements.{cell}
 use Rattle.board_match.specs.declared.Asked.{Asked}
 use Rattle.board_match.specs.declared.Asked.the-variants as asked
@@ -37,7 +35,7 @@ settingsAnswer c = finite (c .«alignment_min_margin») && (finite (c .«cell_we
 
 -- 10: Has the table 511 entries, each from −8 to 0?
 abbrev pub tableAnswer : Shot → Bool
-tableAnswer s = isTable (map float (s .table))
+tableAnswer s = isTable (map ofPattern (s .table))
 
 -- 11: Is there a cell?
 abbrev pub someAnswer : Shot → Bool
@@ -45,18 +43,18 @@ someAnswer s = ltb 0 (length (s .cells))
 
 -- 12: Are there at most 256, u and v each from −4,096 to 4,096?
 abbrev pub placedAnswer : Cell → Bool
-placedAnswer c = within 4096 (c .u) && within 4096 (c .v)
+placedAnswer c = isWithin 4096 (c .u) && isWithin 4096 (c .v)
 
 abbrev pub cellsAnswer : Shot → Bool
 cellsAnswer s = leb (length (s .cells)) 256 && every (λ (k : ℕ). placedAnswer (cell s k)) (length (s .cells))
 
 -- 13: Has every sampled cell a whole grid and a fraction from 0 to 1?
 abbrev pub fractionAnswer : Float → Bool
-fractionAnswer x = le nought x && le x one
+fractionAnswer x = le nought x && le x unity
 
 abbrev pub sampleAnswer : ℕ → Option Sample → Bool
 sampleAnswer size none = true
-sampleAnswer size (some x) = eqb (length (x .grid)) size && fractionAnswer (float (x .fraction))
+sampleAnswer size (some x) = eqb (length (x .grid)) size && fractionAnswer (ofPattern (x .fraction))
 
 abbrev pub samplesAnswer : Shot → Bool
 samplesAnswer s = every (λ (k : ℕ). sampleAnswer (gridSize (s .bits) (s .border)) (cell s k .sample)) (length (s .cells))
@@ -65,24 +63,24 @@ samplesAnswer s = every (λ (k : ℕ). sampleAnswer (gridSize (s .bits) (s .bord
 abbrev pub roomAnswer : Shot → ℕ → Bool
 roomAnswer s words = leb (18 * length (s .cells)) words
 
--- the question of 9 to 14 that is answered with no, if one is
-unfoldable pub askedFrom9 : Shot → ℕ → Option Refusal
-askedFrom9 s words =
+-- questions 9 to 14, then the rest
+unfoldable pub askedFrom9 : Shot → ℕ → Option Refusal → Option Refusal
+askedFrom9 s words rest =
     ask (settingsAnswer (configOf s)) refusal.SettingsNotFinite
     (ask (tableAnswer s) refusal.InvalidTable
     (ask (someAnswer s) refusal.NoCells
     (ask (cellsAnswer s) refusal.CellsOutOfRange
     (ask (samplesAnswer s) refusal.InvalidSample
     (ask (roomAnswer s words) refusal.ListTooShort
-    none)))))
+    rest)))))
 
--- of 1 to 14: the board's come first
-abbrev pub afterBoard : NewBoard → Option Refusal → Option Refusal
-afterBoard (new.Made board) next = next
-afterBoard (new.Refused refused) next = some refused
+-- questions 1 to 14, then the rest: the board's come first
+abbrev pub askedOfShot : Shot → ℕ → Option Refusal → Option Refusal
+askedOfShot s words rest = askedOfBoard (specOf s) (s .codes) (askedFrom9 s words rest)
 
+-- the question before 15 that is answered with no, if one is
 abbrev pub askedBefore15 : Shot → ℕ → Option Refusal
-askedBefore15 s words = afterBoard (newBoard (specOf s) (s .codes)) (askedFrom9 s words)
+askedBefore15 s words = askedOfShot s words none
 
 -- of a record: question 21 comes before all others
 abbrev pub afterRecord : Option Shot → ℕ → Option Refusal
@@ -90,9 +88,9 @@ afterRecord none words = some refusal.InvalidRecord
 afterRecord (some s) words = askedBefore15 s words
 
 -- how the program answers
-abbrev pub answerOf : Option Refusal → Answer
-answerOf none = answer.Passed
-answerOf (some r) = answer.Refused r
+abbrev pub toldAnswer : Option Refusal → Answer
+toldAnswer none = answer.Passed
+toldAnswer (some r) = answer.Refused r
 
 abbrev pub askedWith : Option Refusal → Shot → Asked
 askedWith none s = asked.Passed (boardOf (specOf s)) (configOf s)

@@ -2,12 +2,12 @@
 use mathlib.Core.Bool.{Bool, true, _&&_}
 use Rattle.shot_record.specs.declared.ReadCell.{ReadCell}
 use Rattle.shot_record.specs.declared.ReadCell.the-variants as read
-use Rattle.integers.specs.Distance.{within}
+use Rattle.integers.specs.Distance.{isWithin}
 use Rattle.board_match.specs.Questions.{fractionAnswer}
 
 abbrev pub placedRead : ReadCell → Bool
-placedRead (read.Sampled u v fraction threshold) = within 4096 u && within 4096 v
-placedRead (read.Unsampled u v) = within 4096 u && within 4096 v
+placedRead (read.Sampled u v fraction threshold) = isWithin 4096 u && isWithin 4096 v
+placedRead (read.Unsampled u v) = isWithin 4096 u && isWithin 4096 v
 placedRead read.Absent = true
 placedRead (read.Refused r) = true
 

@@ -1,15 +1,14 @@
-// Match (board_match/mod.rs): where a board lies under the cells of a shot record. Leans on `refusal`, `floats`, `grid_alignment`, `board`,
-// `score_matrix`, `shot_record`, `ranking`, `hypothesis` and `emit`, and for its definitions and laws on `integers`.
+// Match (board_match/mod.rs): where a board lies under the cells of a shot record. Uses `refusal`, `floats`, `grid_alignment`, `board`,
+// `score_matrix`, `shot_record`, `ranking`, `hypothesis` and `emit`, and for its definitions and laws `integers`.
 ghost use mathlib.Core.Path.{_≡_};
 ghost use mathlib.Core.List.{map};
 ghost use mathlib.Core.Option.{none};
 ghost use lib.ListN.{length};
 ghost use Rattle.shot_record.specs.Fields.{fieldsOf};
 ghost use Rattle.shot_record.specs.Shots.{shot};
-ghost use Rattle.shot_record.specs.Answers.{float, starts as startsOf};
-ghost use Rattle.hypothesis.specs.Evidence.{tableOf};
+ghost use Rattle.shot_record.specs.Answers.{ofPattern, starts as startsOf};
 ghost use Rattle.hypothesis.specs.Search.{enumerate};
-ghost use Rattle.hypothesis.specs.Inputs.{Ready, Loaded};
+ghost use Rattle.hypothesis.specs.Inputs.{firstCodes, Loaded};
 ghost use Rattle.board_match.specs.Questions.{askedBefore15, askedAnswer};
 ghost use Rattle.board_match.specs.Match.{matchAnswer, matchList, Gives};
 ghost use Rattle.board_match.specs.Accuracy.{Accuracy};
@@ -19,6 +18,7 @@ mod questions;
 use board::Board;
 use board::NewBoard;
 use grid_alignment::GridAlignment;
+use grid_alignment::alignments;
 use hypothesis::Enumerated;
 use hypothesis::Inputs;
 use hypothesis::Selection;
@@ -59,14 +59,22 @@ pub enum Asked {
 }
 
 // The questions 21 and 1 to 14, for a list of results with so many words.
-fn ask(bytes: &[u8], f: Fields, table: &[f32; 511], starts: &[u16; 256], words: usize) -> Asked
-    requires { ⌜ (f ≡ fieldsOf (now bytes)) × (now table ≡ map float (shot (now bytes) .table)) × (now starts ≡ startsOf (now bytes)) ⌝ }
+fn before_15(
+    bytes: &[u8],
+    f: Fields,
+    table: &[f32; 511],
+    codes: &[u64; 512],
+    starts: &[u16; 256],
+    words: usize,
+) -> Asked
+    requires { ⌜ (f ≡ fieldsOf (now bytes)) × (now table ≡ map ofPattern (shot (now bytes) .table)) × (now codes ≡ firstCodes (shot (now bytes)))
+        × (now starts ≡ startsOf (now bytes)) ⌝ }
     ensures { λ r. ⌜ r ≡ askedAnswer (now (bytes .entry)) words ⌝ }
 {
     if !cells::is_whole(bytes, f) {
         return Asked::Refused(Refusal::InvalidRecord);
     }
-    let made = questions::board(bytes, f);
+    let made = questions::board(bytes, f, codes);
     match made {
         NewBoard::Made(board) => {
             let config = fields::config(bytes, f);
@@ -96,22 +104,12 @@ fn emit_best(
 {
     let config = inputs.config;
     let margin = selection.margin;
-    if margin < config.alignment_min_margin {
+    if !questions::margin_passes(config, margin) {
         return Matched::Refused(Refusal::Margin { margin });
     }
     let best = selection.best;
     let alignment = best.alignment;
-    let count = emit::emit_markers(
-        bytes,
-        inputs.fields,
-        starts,
-        codes,
-        table,
-        inputs.board,
-        config,
-        alignment,
-        markers,
-    );
+    let count = emit::emit_markers(bytes, inputs, starts, table, codes, alignment, markers);
     if count == 0 {
         return Matched::Refused(Refusal::NoMarkers);
     }
@@ -121,7 +119,7 @@ fn emit_best(
         runner_up,
         margin,
         placements: selection.total,
-        corners: alignment.cell_to_corner_alignment(),
+        corners: alignments::cell_to_corner_alignment(alignment),
         markers: count,
     })
 }
@@ -132,13 +130,13 @@ fn search_record(
     inputs: Inputs,
     starts: &[u16; 256],
     table: &[f32; 511],
+    codes: &[u64; 512],
     markers: &mut [u32],
 ) -> Matched
-    requires { ⌜ Ready (now bytes) inputs (now starts) × (now table ≡ tableOf (shot (now bytes))) × (askedBefore15 (shot (now bytes)) (length (now markers)) ≡ none) ⌝ }
+    requires { ⌜ Loaded (now bytes) inputs (now starts) (now table) (now codes) × (askedBefore15 (shot (now bytes)) (length (now markers)) ≡ none) ⌝ }
     ensures { λ r. ⌜ Gives (now (bytes .entry)) (now (markers .entry)) r (now (markers .exit)) ⌝ }
 {
-    let codes = bulk::codes(bytes);
-    let found = search::enumerate_hypotheses(bytes, inputs, starts, table, &codes);
+    let found = search::enumerate_hypotheses(bytes, inputs, starts, table, codes);
     match found {
         Enumerated::Absent => Matched::Refused(Refusal::TranslationWindow),
         Enumerated::Selected(selection) => emit_best(
@@ -146,7 +144,7 @@ fn search_record(
             inputs,
             starts,
             table,
-            &codes,
+            codes,
             selection,
             markers,
         ),
@@ -162,8 +160,9 @@ pub fn match_board(bytes: &[u8], markers: &mut [u32]) -> Matched
 {
     let f = fields::locate(bytes);
     let table = bulk::table(bytes);
-    let starts = shot_record::cell_starts(bytes);
-    let asked = ask(bytes, f, &table, &starts, markers.len());
+    let codes = bulk::codes(bytes);
+    let starts = cells::starts(bytes, f);
+    let asked = before_15(bytes, f, &table, &codes, &starts, markers.len());
     match asked {
         Asked::Refused(refusal) => Matched::Refused(refusal),
         Asked::Passed { board, config } => {
@@ -172,7 +171,7 @@ pub fn match_board(bytes: &[u8], markers: &mut [u32]) -> Matched
                 board,
                 config,
             };
-            search_record(bytes, inputs, &starts, &table, markers)
+            search_record(bytes, inputs, &starts, &table, &codes, markers)
         }
     }
 }

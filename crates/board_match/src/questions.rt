@@ -1,17 +1,20 @@
-// What Match asks before it searches (document 01, questions 1 to 14), of a record that question 21 let pass.
+// What Match asks of a record that question 21 let pass (document 01): the questions 1 to 14, before it searches, and 16.
 ghost use mathlib.Core.Path.{_≡_};
 ghost use mathlib.Core.Bool.{_&&_};
 ghost use mathlib.Core.List.{map};
+ghost use mathlib.Core.Option.{none};
 ghost use Prim.Native.Nat.{ℕ, _≤_};
 ghost use lib.ListN.{length};
 ghost use Rattle.board.specs.Questions.{newBoard};
 ghost use Rattle.shot_record.specs.Fields.{gridSize, fieldsOf};
 ghost use Rattle.shot_record.specs.Shots.{shot};
-ghost use Rattle.shot_record.specs.Answers.{float, configOf, specOf, Indexed};
+ghost use Rattle.shot_record.specs.Answers.{ofPattern, configOf, specOf, Indexed};
 ghost use Rattle.board_match.specs.Reads.{placedRead, fractionRead};
 ghost use Rattle.hypothesis.specs.Placements.{cell};
-ghost use Rattle.integers.specs.Distance.{within as withinOf};
-ghost use Rattle.board_match.specs.Questions.{every, settingsAnswer, placedAnswer, fractionAnswer, sampleAnswer, askedFrom9, answerOf};
+ghost use Rattle.hypothesis.specs.Inputs.{firstCodes};
+ghost use Rattle.integers.specs.Distance.{isWithin as withinOf};
+ghost use Rattle.board_match.specs.Questions.{every, settingsAnswer, placedAnswer, fractionAnswer, sampleAnswer, askedFrom9, toldAnswer};
+ghost use Rattle.board_match.specs.Match.{marginPasses};
 use board::Board;
 use board::NewBoard;
 use refusal::Refusal;
@@ -28,15 +31,15 @@ pub enum Answer {
     Refused(Refusal),
 }
 
-// The questions 1 to 8: the board that the record asks for.
-pub fn board(bytes: &[u8], f: Fields) -> NewBoard
-    requires { ⌜ f ≡ fieldsOf (now bytes) ⌝ }
+// The questions 1 to 8: the board that the record asks for, by its first 512 codes, which the markers use.
+pub fn board(bytes: &[u8], f: Fields, codes: &[u64; 512]) -> NewBoard
+    requires { ⌜ (f ≡ fieldsOf (now bytes)) × (now codes ≡ firstCodes (shot (now bytes))) ⌝ }
     ensures { λ r. ⌜ r ≡ newBoard (specOf (shot (now (bytes .entry)))) (shot (now (bytes .entry)) .codes) ⌝ }
 {
     let sized = Board::sized(fields::spec(bytes, f), f.code_count);
     match sized {
         NewBoard::Made(board) => {
-            if !bulk::codes_below(bytes, board.bits) {
+            if !bulk::codes_below(bytes, codes, board.bits) {
                 return NewBoard::Refused(Refusal::CodeOutOfRange);
             }
             NewBoard::Made(board)
@@ -131,7 +134,8 @@ fn sample(cell: ReadCell) -> bool
 // Question 13, for at most 256 cells. In a whole record every grid is whole.
 fn all_sampled(bytes: &[u8], f: Fields, starts: &[u16; 256]) -> bool
     requires { ⌜ Indexed (now bytes) f (now starts) × (f .«cell_count» ≤ 256) ⌝ }
-    ensures { λ r. ⌜ r ≡ every (λ (k : ℕ). sampleAnswer (gridSize (shot (now (bytes .entry)) .bits) (shot (now (bytes .entry)) .border)) (cell (shot (now (bytes .entry))) k .sample)) (length (shot (now (bytes .entry)) .cells)) ⌝ }
+    ensures { λ r. ⌜ r ≡ every (λ (k : ℕ). sampleAnswer (gridSize (shot (now (bytes .entry)) .bits) (shot (now (bytes .entry)) .border))
+        (cell (shot (now (bytes .entry))) k .sample)) (length (shot (now (bytes .entry)) .cells)) ⌝ }
 {
     let count = f.cell_count;
     let mut k = 0;
@@ -154,8 +158,8 @@ pub fn from_9(
     starts: &[u16; 256],
     words: usize,
 ) -> Answer
-    requires { ⌜ Indexed (now bytes) f (now starts) × (config ≡ configOf (shot (now bytes))) × (now entries ≡ map float (shot (now bytes) .table)) ⌝ }
-    ensures { λ r. ⌜ r ≡ answerOf (askedFrom9 (shot (now (bytes .entry))) words) ⌝ }
+    requires { ⌜ Indexed (now bytes) f (now starts) × (config ≡ configOf (shot (now bytes))) × (now entries ≡ map ofPattern (shot (now bytes) .table)) ⌝ }
+    ensures { λ r. ⌜ r ≡ toldAnswer (askedFrom9 (shot (now (bytes .entry))) words none) ⌝ }
 {
     if !settings(config) {
         return Answer::Refused(Refusal::SettingsNotFinite);
@@ -180,4 +184,11 @@ pub fn from_9(
         return Answer::Refused(Refusal::ListTooShort);
     }
     Answer::Passed
+}
+
+// Question 16: Is the margin not below the minimum?
+pub fn margin_passes(config: BoardMatchConfig, margin: f32) -> bool
+    ensures { λ r. ⌜ r ≡ marginPasses config margin ⌝ }
+{
+    !(margin < config.alignment_min_margin)
 }

@@ -1,29 +1,14 @@
--- Words that are given in a lent list, and answers by which a number and such a list are told. Assumes nothing.
-use mathlib.Core.Path.{_≡_, refl, sym, ap, ap₂, _∙_, subst}
+-- The values that a refusal gives, and answers that are equal. Assumes nothing.
+use mathlib.Core.Path.{_≡_, refl, subst}
 use mathlib.Core.Bool.{Bool, true, false, cond}
-use mathlib.Core.List.{List, [], _∷_, _++_}
-use Prim.Native.Nat.{ℕ, _+_, _≤_, _<_}
-use native.Mathlib.Nat.{zero-add, le-of-lt}
-use native.Mathlib.Omega.{arith}
+use mathlib.Core.List.{List, [], _∷_}
+use Prim.Native.Nat.{ℕ, _≤_}
 use lib.Dec.{eqb, lit≤}
-use lib.ListN.{length, take, drop, getD, drop-of-length-le}
-use lib.Seq.{paste, take-all, take-length, length-take-le}
+use lib.ListN.{take, getD}
 use Rattle.refusal.specs.declared.Refusal.{Refusal}
 use Rattle.refusal.specs.declared.Refusal.the-variants as refusal
 use Rattle.refusal.specs.Numbers.{numberOf, valuesOf}
-use Rattle.charuco.specs.Answers.{Answer, given, valueCount, Tells}
-
--- there is room for all words
-pub all-given : (words lent : List ℕ) → length words ≤ length lent → paste lent 0 words (length words) ≡ given words lent
-all-given words lent h =
-    ap₂ (λ (a b : List ℕ). a ++ b) (take-length words ∙ sym (take-all (length lent) words h)) (ap (λ (k : ℕ). drop k lent) (zero-add (length words)))
-
--- there is less
-pub first-given : (words lent : List ℕ) → length lent < length words → paste lent 0 (take (length lent) words) (length (take (length lent) words)) ≡ given words lent
-first-given words lent h =
-    let first = take (length lent) words in
-    let e : length first ≡ length lent = length-take-le (length lent) words (le-of-lt h) in
-    ap₂ (λ (a b : List ℕ). a ++ b) (take-length first) (drop-of-length-le lent {i = 0 + length first} (omega (arith, e)) ∙ sym (drop-of-length-le lent {i = length words} (le-of-lt h)))
+use Rattle.charuco.specs.Answers.{Answer, valueCount, Tells}
 
 -- two values, of which as many are given as the refusal's number says, are those of the refusal
 pub values-are : (r : Refusal) → take (valueCount (numberOf r)) (getD (valuesOf r) 0 0 ∷ getD (valuesOf r) 1 0 ∷ []) ≡ valuesOf r

@@ -8,7 +8,7 @@ use Rattle.grid_alignment.proofs.Laws.{corners-land}
 use Rattle.board_match.proofs.Laws.{match-corners}
 use Rattle.corner_mapping.specs.Corners.{idOf}
 use Rattle.corner_mapping.specs.Entry.{alignmentAnswer}
-use Rattle.corner_mapping.proofs.Laws.{corners-of-marker, corner-alignment-passes}
+use Rattle.corner_mapping.proofs.Laws.{corners-of-cell, corner-alignment-passes}
 use Rattle.charuco.specs.Rules.{CornersOfMatch}
 
 pub corners-of-match : CornersOfMatch
@@ -19,8 +19,6 @@ corners-of-match bytes lent small m e =
       pass =
           ap alignmentAnswer (c .are)
           ∙ corner-alignment-passes cells (c .turn) (omega (arith, c .tx)) (omega (arith, c .ty));
-      land = λ k p h. ap (λ (a : GridAlignment). applied a (corner k p)) (c .are) ∙ corners-land cells k p h;
-      ids = λ parity board grid n p k i a b d f h l g q four.
-          ap (λ (x : GridAlignment). idOf board x grid n) (c .are)
-          ∙ corners-of-marker parity board cells grid n p k i a b d f h l g q four;
+      land = λ k p. ap (λ (a : GridAlignment). applied a (corner k p)) (c .are) ∙ corners-land cells k p;
+      ids = λ board grid n p k l g. ap (λ (x : GridAlignment). idOf board x grid n) (c .are) ∙ corners-of-cell board cells grid n p k l g;
     }

@@ -2,9 +2,9 @@
 use Prim.Native.Nat.{ℕ, _%_, _^_}
 use mathlib.Core.Path.{_≡_}
 use mathlib.Core.Bool.{cond}
-use mathlib.Core.List.{List, [], _∷_, _++_}
+use mathlib.Core.List.{List, [], _∷_}
 use lib.Dec.{eqb}
-use lib.ListN.{length, take, drop}
+use Rattle.lent_list.specs.Front.{inFront}
 use Rattle.refusal.specs.declared.Refusal.{Refusal}
 use Rattle.refusal.specs.Numbers.{numberOf, valuesOf}
 
@@ -25,14 +25,10 @@ counted n = worked (countWord n ∷ [])
 abbrev pub refused : Refusal → Answer
 refused r = record { number = numberOf r; words = valuesOf r }
 
--- as many words as there is room for, in front of the list; the rest untouched
-abbrev pub given : List ℕ → List ℕ → List ℕ
-given words lent = take (length lent) words ++ drop (length words) lent
-
 -- the number that is returned and the list at exit are those of the answer
 pub record Tells (a : Answer) (r : ℕ) (lent exit : List ℕ) : Type 0 where
   pub number : r ≡ a .number
-  pub values : exit ≡ given (a .words) lent
+  pub values : exit ≡ inFront (a .words) lent
 
 -- how many values the refusal with a number gives
 abbrev pub valueCount : ℕ → ℕ

@@ -61,8 +61,8 @@ matchTold (matched.Placed m) = worked (matchWords m)
 matchTold (matched.Refused r) = refused r
 
 -- The corner and link entries: what they are given of a board,
-abbrev pub specOf : ℕ → ℕ → ℕ → ℕ → Float → Float → CharucoBoardSpec
-specOf rows cols bits border size marker =
+abbrev pub specFrom : ℕ → ℕ → ℕ → ℕ → Float → Float → CharucoBoardSpec
+specFrom rows cols bits border size marker =
     record { rows = rows; cols = cols; bits = bits; «border_bits» = border; «cell_size» = size; «marker_size_rel» = marker }
 
 -- the alignment of the corners, in which a turn above 3 counts as 4, which question 18 refuses,

@@ -1,6 +1,6 @@
 // What the corner and link entries are given of a board.
 ghost use mathlib.Core.Path.{_≡_};
-ghost use Rattle.charuco.specs.Entries.{specOf};
+ghost use Rattle.charuco.specs.Entries.{specFrom};
 use board::CharucoBoardSpec;
 
 pub fn spec(
@@ -11,7 +11,7 @@ pub fn spec(
     cell_size: f32,
     marker_size_rel: f32,
 ) -> CharucoBoardSpec
-    ensures { λ r. ⌜ r ≡ specOf rows cols bits «border_bits» «cell_size» «marker_size_rel» ⌝ }
+    ensures { λ r. ⌜ r ≡ specFrom rows cols bits «border_bits» «cell_size» «marker_size_rel» ⌝ }
 {
     CharucoBoardSpec {
         rows,

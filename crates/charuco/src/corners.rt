@@ -2,7 +2,7 @@
 ghost use mathlib.Core.Path.{_≡_};
 ghost use Rattle.corner_mapping.specs.Entry.{mapCorners, mapCornersList};
 ghost use Rattle.charuco.specs.Answers.{Tells};
-ghost use Rattle.charuco.specs.Entries.{specOf, turnByte, alignmentOf, cornersTold};
+ghost use Rattle.charuco.specs.Entries.{specFrom, turnByte, alignmentOf, cornersTold};
 use super::boards;
 use super::values;
 use corner_mapping::MappedCorners;
@@ -54,9 +54,11 @@ pub extern "C" fn charuco_map_charuco_corners(
     corners: &mut [u32],
     values: &mut [u32],
 ) -> u32
-    ensures answer { λ r. ⌜ Tells (cornersTold (mapCorners (specOf rows cols bits «border_bits» «cell_size» «marker_size_rel») (now (codes .entry)) (now (scores .entry))
+    ensures answer { λ r. ⌜ Tells (cornersTold (mapCorners (specFrom rows cols bits «border_bits» «cell_size» «marker_size_rel») (now (codes .entry))
+        (now (scores .entry))
         (now (grid .entry)) (alignmentOf turn tx ty) (now (corners .entry)))) r (now (values .entry)) (now (values .exit)) ⌝ }
-    ensures list { λ _. ⌜ now (corners .exit) ≡ mapCornersList (specOf rows cols bits «border_bits» «cell_size» «marker_size_rel») (now (codes .entry)) (now (scores .entry))
+    ensures list { λ _. ⌜ now (corners .exit)
+        ≡ mapCornersList (specFrom rows cols bits «border_bits» «cell_size» «marker_size_rel») (now (codes .entry)) (now (scores .entry))
         (now (grid .entry)) (alignmentOf turn tx ty) (now (corners .entry)) ⌝ }
 {
     let spec = boards::spec(rows, cols, bits, border_bits, cell_size, marker_size_rel);

@@ -1,21 +1,60 @@
-// The public face: every entry, for Rattle callers under its own name and for C as `charuco_NAME`. None has a `requires`. A C function
-// answers with a number, 0 or that of document 01's refusal, and with words in a list that is lent; `include/charuco.h` has them word by
-// word. Leans on `lent_list`, `refusal`, `integers`, `floats`, `grid_alignment`, `board`, `score_matrix`, `shot_record`,
-// `marker_sampling`, `ranking`, `board_match`, `corner_mapping` and `link_check`.
+// The interface: every entry with the types that it takes and gives, for Rattle callers under its own name and for C as `charuco_NAME`. None has a
+// `requires`. A C function answers with a number, 0 or that of document 01's refusal, and with words in a list that is lent;
+// `include/charuco.h` has them word by word. Uses `lent_list`, `refusal`, `integers`, `floats`, `grid_alignment`, `board`, `score_matrix`,
+// `shot_record`, `marker_sampling`, `ranking`, `board_match`, `corner_mapping` and `link_check`.
 mod boards;
 mod cells;
 mod corners;
 mod links;
-pub mod matches;
+mod matches;
 mod records;
 mod values;
 
-pub use board_match::match_board;
-pub use corner_mapping::map_charuco_corners;
-pub use link_check::validate_marker_corner_links;
-pub use marker_sampling::build_marker_cells;
+// Reading a shot record.
+pub use records::charuco_cell;
+pub use records::charuco_code;
+pub use records::charuco_grid;
+pub use records::charuco_read_header;
+pub use records::charuco_table_entry;
+pub use score_matrix::BoardMatchConfig;
+pub use shot_record::Header;
+pub use shot_record::ReadCell;
+pub use shot_record::ReadCode;
+pub use shot_record::ReadEntry;
+pub use shot_record::ReadHeader;
 pub use shot_record::cell;
 pub use shot_record::code;
 pub use shot_record::grid;
 pub use shot_record::read_header;
 pub use shot_record::table_entry;
+
+// Match.
+pub use board_match::Match;
+pub use board_match::Matched;
+pub use board_match::match_board;
+pub use matches::charuco_match_board;
+pub use ranking::Choice;
+pub use ranking::Evidence;
+pub use ranking::Hypothesis;
+
+// The cells entry.
+pub use cells::charuco_build_marker_cells;
+pub use marker_sampling::MarkerCells;
+pub use marker_sampling::build_marker_cells;
+
+// The corner entry.
+pub use corner_mapping::MappedCorners;
+pub use corner_mapping::map_charuco_corners;
+pub use corners::charuco_map_charuco_corners;
+pub use grid_alignment::GridAlignment;
+
+// The link entry.
+pub use link_check::CheckedLinks;
+pub use link_check::LinkCheckMode;
+pub use link_check::LinkViolationKind;
+pub use link_check::validate_marker_corner_links;
+pub use links::charuco_validate_marker_corner_links;
+
+// What more than one entry takes or gives.
+pub use board::CharucoBoardSpec;
+pub use refusal::Refusal;

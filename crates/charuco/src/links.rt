@@ -2,7 +2,7 @@
 ghost use mathlib.Core.Path.{_≡_};
 ghost use Rattle.link_check.specs.Entry.{checkLinks, checkLinksList};
 ghost use Rattle.charuco.specs.Answers.{Tells};
-ghost use Rattle.charuco.specs.Entries.{specOf, modeOf, linksTold};
+ghost use Rattle.charuco.specs.Entries.{specFrom, modeOf, linksTold};
 use super::boards;
 use super::values;
 use link_check::CheckedLinks;
@@ -41,9 +41,11 @@ pub extern "C" fn charuco_validate_marker_corner_links(
     violations: &mut [u32],
     values: &mut [u32],
 ) -> u32
-    ensures answer { λ r. ⌜ Tells (linksTold (checkLinks (specOf rows cols bits «border_bits» «cell_size» «marker_size_rel») (now (codes .entry)) (modeOf mode)
+    ensures answer { λ r. ⌜ Tells (linksTold (checkLinks (specFrom rows cols bits «border_bits» «cell_size» «marker_size_rel») (now (codes .entry))
+        (modeOf mode)
         (now (links .entry)) (now (violations .entry)))) r (now (values .entry)) (now (values .exit)) ⌝ }
-    ensures list { λ _. ⌜ now (violations .exit) ≡ checkLinksList (specOf rows cols bits «border_bits» «cell_size» «marker_size_rel») (now (codes .entry)) (modeOf mode)
+    ensures list { λ _. ⌜ now (violations .exit)
+        ≡ checkLinksList (specFrom rows cols bits «border_bits» «cell_size» «marker_size_rel») (now (codes .entry)) (modeOf mode)
         (now (links .entry)) (now (violations .entry)) ⌝ }
 {
     let spec = boards::spec(rows, cols, bits, border_bits, cell_size, marker_size_rel);

@@ -150,7 +150,8 @@ fn part_words(part: Part) -> [u32; 2]
 #[no_mangle]
 pub extern "C" fn charuco_grid(bytes: &[u8], k: usize, values: &mut [u32]) -> u32
     ensures answer { λ r. ⌜ Tells (gridTold (now (bytes .entry)) (headerAnswer (now (bytes .entry))) k) r (now (values .entry)) (now (values .exit)) ⌝ }
-    ensures grid { λ _. ⌜ Lies (now (bytes .entry)) (partAnswer (now (bytes .entry)) (parse (now (bytes .entry))) k) (gridAnswer (parse (now (bytes .entry))) k) ⌝ }
+    ensures grid { λ _. ⌜ Lies (now (bytes .entry)) (partAnswer (now (bytes .entry)) (parse (now (bytes .entry))) k)
+        (gridAnswer (parse (now (bytes .entry))) k) ⌝ }
 {
     let header = shot_record::read_header(bytes);
     let part = cells::grid_part(bytes, k);

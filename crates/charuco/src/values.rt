@@ -1,6 +1,6 @@
 // A C function's answer: a number, and words in the list `values` that the caller lends, as many as there is room for.
 ghost use mathlib.Core.Path.{_≡_};
-ghost use Rattle.charuco.specs.Answers.{given, worked as workedWith, counted as countedAs, refused as refusedBy, valueCount, countWord, Tells};
+ghost use Rattle.charuco.specs.Answers.{worked as workedWith, counted as countedAs, refused as refusedBy, valueCount, countWord, Tells};
 use refusal::Refusal;
 
 // The lower 32 bits of a count, none of which is larger.
@@ -10,22 +10,11 @@ pub fn count_word(n: usize) -> u32
     (n % 0x1_0000_0000) as u32
 }
 
-fn put(values: &mut [u32], words: &[u32])
-    ensures { λ _. ⌜ now (values .exit) ≡ given (now (words .entry)) (now (values .entry)) ⌝ }
-{
-    let room = values.len();
-    if words.len() <= room {
-        lent_list::put(values, 0, words);
-        return;
-    }
-    lent_list::put(values, 0, &words[..room]);
-}
-
 // The answer of an entry that worked.
 pub fn worked(values: &mut [u32], words: &[u32]) -> u32
     ensures { λ r. ⌜ Tells (workedWith (now (words .entry))) r (now (values .entry)) (now (values .exit)) ⌝ }
 {
-    put(values, words);
+    lent_list::put_front(values, words);
     0
 }
 
@@ -56,6 +45,6 @@ pub fn refused(values: &mut [u32], refusal: Refusal) -> u32
     let words: [u32; 2] = [refusal.value(0), refusal.value(1)];
     let number = refusal.number();
     let count = value_count(number);
-    put(values, &words[..count]);
+    lent_list::put_front(values, &words[..count]);
     number
 }

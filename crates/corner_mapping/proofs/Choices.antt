@@ -14,7 +14,7 @@ use borrow.Author.Tests.{eqb-true, eqb-false, eq-eqb}
 use Rattle.board.specs.declared.Numbered.{Numbered}
 use Rattle.board.specs.declared.Numbered.the-variants as numbered
 use Rattle.corner_mapping.specs.Corners.{Input, idOf, isId, bears, scoreOf, greater, replaced, chosenTo}
-use Rattle.corner_mapping.specs.Inner.{choiceOf, stored, Chosen}
+use Rattle.corner_mapping.specs.Inner.{choiceOf, stored, ChoicesHeld}
 
 -- ---- corner k against an earlier choice
 module _ (scores : List Float) (k : ℕ) where
@@ -66,17 +66,18 @@ module _ (x : Input) where
   unfolding chosenTo
   met k id e = ap (λ (b : Bool). replaced (b && greater (x .scores) (chosenTo x id k) k) k (chosenTo x id k)) e
 
-  pub chosen-first : Chosen x 0 (replicate 1024 0)
+  pub chosen-first : ChoicesHeld x 0 (replicate 1024 0)
   unfolding chosenTo
   chosen-first = record { at = λ id h. ap choiceOf (getD-replicate {A = ℕ} 1024 id 0 0 h); long = length-replicate {A = ℕ} 1024 0 }
 
-  module _ (k : ℕ) (choices : List ℕ) (h : Chosen x k choices) where
-    pub chosen-same : idAt k ≡ numbered.Absent → Chosen x (k + 1) choices
+  module _ (k : ℕ) (choices : List ℕ) (h : ChoicesHeld x k choices) where
+    pub chosen-same : idAt k ≡ numbered.Absent → ChoicesHeld x (k + 1) choices
     chosen-same e =
         rw (add-one k)
         (record { at = λ id l. h .at id l ∙ sym (passed k id (ap (λ (n : Numbered). isId n id) e)); long = h .long })
 
-    pub chosen-more : (m c : ℕ) → idAt k ≡ numbered.Id m → m < 1024 → choiceOf c ≡ replaced (greater (x .scores) (stored choices m) k) k (stored choices m) → Chosen x (k + 1) (set choices m c)
+    pub chosen-more : (m c : ℕ) → idAt k ≡ numbered.Id m → m < 1024
+        → choiceOf c ≡ replaced (greater (x .scores) (stored choices m) k) k (stored choices m) → ChoicesHeld x (k + 1) (set choices m c)
     chosen-more m c e l q =
         rw (add-one k)
         (record { at = λ id f. go id f (eqb m id) refl; long = length-set choices m c ∙ h .long })

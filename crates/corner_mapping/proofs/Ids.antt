@@ -1,7 +1,7 @@
 -- The id of an input corner: it has a grid point, and the board corner on which the alignment puts it is an inner corner with that id.
 -- Assumes nothing.
 use mathlib.Core.Path.{_≡_, refl, sym, ap}
-use mathlib.Core.Bool.{Bool, true, false}
+use mathlib.Core.Bool.{Bool, true, false, cond}
 use mathlib.Core.List.{List}
 use Prim.Native.Nat.{ℕ, _-_, _^_, _≤_, _<_}
 use native.Mathlib.Nat.{mul-le-mul}
@@ -14,12 +14,11 @@ use Rattle.board.specs.declared.Board.{Board}
 use Rattle.board.specs.declared.Numbered.{Numbered}
 use Rattle.board.specs.declared.Numbered.the-variants as numbered
 use Rattle.board.specs.Numbering.{numberAt, numberAtℤ}
-use Rattle.board.specs.Layout.{inner, cornerAt, cornerCount}
+use Rattle.board.specs.Layout.{inner, cornerCount}
 use Rattle.board.proofs.Corners.{corner-total}
 use Rattle.board.proofs.Laws.{corners}
-use Rattle.marker_sampling.specs.Cells.{labelled}
-use Rattle.marker_sampling.specs.Keys.{cornersOf}
-use Rattle.corner_mapping.specs.Corners.{boardCorner, idIf, idOf}
+use Rattle.marker_sampling.specs.Cells.{labelled, cornersOf}
+use Rattle.corner_mapping.specs.Corners.{boardCorner, idAt, idOf}
 
 -- a small number fits 16 bits
 pub half-fits : (z : ℤ) → natAbs z < 2 ^ 15 → SFits w16 z
@@ -54,15 +53,15 @@ module _ (b : Board) (a : GridAlignment) (grid : List ℤ) (k : ℕ) where
   label = labelled (cornersOf 0 grid) k
 
   abbrev there : Numbered
-  there = cornerAt (b .rows) (b .cols) (boardCorner a grid k .u) (boardCorner a grid k .v)
+  there = idAt b (boardCorner a grid k)
 
   pub no-point : label ≡ false → numbered.Absent ≡ idOf b a grid k
   unfolding idOf
-  no-point e = sym (ap (λ (l : Bool). idIf l there) e)
+  no-point e = sym (ap (λ (l : Bool). cond l there numbered.Absent) e)
 
   pub at-point : label ≡ true → there ≡ idOf b a grid k
   unfolding idOf
-  at-point e = sym (ap (λ (l : Bool). idIf l there) e)
+  at-point e = sym (ap (λ (l : Bool). cond l there numbered.Absent) e)
 
   pub record Has (id : ℕ) : Type 0 where
     pub has-point : label ≡ true
@@ -72,7 +71,7 @@ module _ (b : Board) (a : GridAlignment) (grid : List ℤ) (k : ℕ) where
   unfolding idOf
   has id e = go label refl e
     where
-      go : (l : Bool) → label ≡ l → idIf l there ≡ numbered.Id id → Has id
+      go : (l : Bool) → label ≡ l → cond l there numbered.Absent ≡ numbered.Id id → Has id
       go true q f = record { has-point = q; corner = f }
       go false q f = absent-not f
 

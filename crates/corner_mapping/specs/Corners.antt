@@ -1,7 +1,7 @@
 -- Document 01, Corners: `map_charuco_corners`, with the corners' indices for their positions.
 use Prim.Native.Nat.{ℕ, zero, suc}
-use mathlib.Core.Bool.{Bool, true, false, _&&_}
-use mathlib.Core.List.{List, [], _∷_, _++_}
+use mathlib.Core.Bool.{Bool, true, false, _&&_, cond}
+use mathlib.Core.List.{List, [], _∷_, _++_, flatMap}
 use mathlib.Core.Option.{Option, none, some}
 use lib.Dec.{eqb}
 use lib.ListN.{length, getD}
@@ -17,9 +17,9 @@ use Rattle.board.specs.declared.Located.{Located}
 use Rattle.board.specs.declared.Located.the-variants as located
 use Rattle.board.specs.declared.ObjectPoint.{ObjectPoint}
 use Rattle.board.specs.declared.ObjectPoint.the-variants as object
-use Rattle.board.specs.Layout.{cornerCount, cornerAt, cornerOf, objectPoint}
-use Rattle.marker_sampling.specs.Cells.{word, labelled}
-use Rattle.marker_sampling.specs.Keys.{cornersOf}
+use Rattle.board.specs.Layout.{cornerCount, cornerAt, cornerPlace, objectPoint}
+use Rattle.lent_list.specs.Front.{upTo}
+use Rattle.marker_sampling.specs.Cells.{word, labelled, cornersOf}
 
 -- A board, the alignment of the corners, and the input corners: a score and three words of `grid` each, as in the cells entry.
 pub record Input : Type 0 where
@@ -35,15 +35,13 @@ gridPoint grid k = point (word (cornersOf 0 grid) k 1) (word (cornersOf 0 grid) 
 abbrev pub boardCorner : GridAlignment → List ℤ → ℕ → Coord
 boardCorner a grid k = applied a (gridPoint grid k)
 
--- the id of the inner corner there: none for a corner without a grid point
-abbrev pub idIf : Bool → Numbered → Numbered
-idIf true n = n
-idIf false n = numbered.Absent
+-- the id of the inner corner at a point of the board: absent where there is none
+abbrev pub idAt : Board → Coord → Numbered
+idAt b p = cornerAt (b .rows) (b .cols) (p .u) (p .v)
 
+-- the id of input corner k: absent for a corner without a grid point
 unfoldable pub idOf : Board → GridAlignment → List ℤ → ℕ → Numbered
-idOf b a grid k =
-    let p = boardCorner a grid k in
-    idIf (labelled (cornersOf 0 grid) k) (cornerAt (b .rows) (b .cols) (p .u) (p .v))
+idOf b a grid k = cond (labelled (cornersOf 0 grid) k) (idAt b (boardCorner a grid k)) numbered.Absent
 
 abbrev pub isId : Numbered → ℕ → Bool
 isId (numbered.Id m) id = eqb m id
@@ -72,7 +70,7 @@ chosenTo x id (suc k) = replaced (bears x k id && greater (x .scores) (chosenTo 
 abbrev pub chosen : Input → ℕ → Option ℕ
 chosen x id = chosenTo x id (length (x .scores))
 
--- The results by rising id, for the ids below n: an id and the index of the input corner that is chosen for it.
+-- The results by rising id: an id and the index of the input corner that is chosen for it.
 pub record MappedCorner : Type 0 where
   pub id : ℕ
   pub index : ℕ
@@ -81,12 +79,11 @@ abbrev pub mappedIf : ℕ → Option ℕ → List MappedCorner
 mappedIf id none = []
 mappedIf id (some k) = record { id = id; index = k } ∷ []
 
-unfoldable pub mappedTo : (ℕ → Option ℕ) → ℕ → List MappedCorner
-mappedTo choice zero = []
-mappedTo choice (suc id) = mappedTo choice id ++ mappedIf id (choice id)
+abbrev pub mappedBy : (ℕ → Option ℕ) → ℕ → List MappedCorner
+mappedBy choice id = mappedIf id (choice id)
 
 abbrev pub mapped : Input → List MappedCorner
-mapped x = mappedTo (chosen x) (cornerCount (x .board .rows) (x .board .cols))
+mapped x = upTo (mappedBy (chosen x)) (cornerCount (x .board .rows) (x .board .cols))
 
 -- The six words of a result: id, input index, the board corner (i, j), the patterns of the target's x and y. Every id of the board has a board
 -- corner and a target; for others 0 stands.
@@ -98,10 +95,9 @@ abbrev pub targetWords : ObjectPoint → List ℕ
 targetWords (object.At x y) = toBits binary32 x ∷ toBits binary32 y ∷ []
 targetWords object.Absent = 0 ∷ 0 ∷ []
 
-abbrev pub words : Board → MappedCorner → List ℕ
-words b m =
-    m .id ∷ m .index ∷ placeWords (cornerOf (b .rows) (b .cols) (m .id)) ++ targetWords (objectPoint (b .rows) (b .cols) (b .«cell_size») (m .id))
+abbrev pub cornerWords : Board → MappedCorner → List ℕ
+cornerWords b m =
+    m .id ∷ m .index ∷ placeWords (cornerPlace (b .rows) (b .cols) (m .id)) ++ targetWords (objectPoint (b .rows) (b .cols) (b .«cell_size») (m .id))
 
-unfoldable pub wordsOf : Board → List MappedCorner → List ℕ
-wordsOf b [] = []
-wordsOf b (m ∷ ms) = words b m ++ wordsOf b ms
+abbrev pub wordsOfCorners : Board → List MappedCorner → List ℕ
+wordsOfCorners b ms = flatMap (cornerWords b) ms

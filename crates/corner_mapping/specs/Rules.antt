@@ -1,5 +1,5 @@
 -- What `proofs/Laws.antt` shows of the definitions, for every input.
-use Prim.Native.Nat.{ℕ, zero, suc, _+_, _*_, _%_, _≤_, _<_}
+use Prim.Native.Nat.{ℕ, _+_, _*_, _≤_, _<_}
 use mathlib.Core.Path.{_≡_}
 use mathlib.Core.Bool.{true, false}
 use mathlib.Core.List.{List, [], _∷_}
@@ -9,21 +9,21 @@ use lib.ListN.{length}
 use lib.Ieee.{Float, binary32, toBits, mul, ofInt, lt}
 use Rattle.grid_alignment.specs.declared.Coord.{Coord}
 use Rattle.grid_alignment.specs.declared.GridAlignment.{GridAlignment}
+use Rattle.matcher.specs.Codes.{byTurn}
 use Rattle.grid_alignment.specs.Alignment.{point, applied, corner, cornerAlignment}
 use Rattle.board.specs.declared.Board.{Board}
 use Rattle.board.specs.declared.Numbered.the-variants as numbered
 use Rattle.board.specs.declared.Located.the-variants as located
 use Rattle.board.specs.declared.Surrounding.the-variants as surrounding
-use Rattle.board.specs.Layout.{markerAt, cornerAt, cornerOf, cornerCount, fourCorners}
-use Rattle.marker_sampling.specs.Cells.{held, index, labelled}
-use Rattle.marker_sampling.specs.Entry.{allFinite}
-use Rattle.marker_sampling.specs.Keys.{cornersOf}
-use Rattle.marker_sampling.specs.Rules.{InOrder}
-use Rattle.corner_mapping.specs.Corners.{Input, MappedCorner, gridPoint, boardCorner, idOf, bears, scoreOf, chosen, mapped, words}
+use Rattle.board.specs.Layout.{markerOn, cornerAt, cornerPlace, cornerCount, surroundingCorners}
+use Rattle.marker_sampling.specs.Cells.{held, index, labelled, cornersOf}
+use Rattle.marker_sampling.specs.Entry.{finiteScores}
+use Rattle.marker_sampling.specs.Rules.{PassingInOrder}
+use Rattle.corner_mapping.specs.Corners.{Input, MappedCorner, gridPoint, boardCorner, idAt, idOf, bears, scoreOf, chosen, mapped, cornerWords}
 use Rattle.corner_mapping.specs.Entry.{alignmentAnswer}
 
 -- Of the first n corners, k bears the id, none that bears it has a greater score, and each earlier one that bears it has a lesser one.
-pub record Greatest (x : Input) (id n k : ℕ) : Type 0 where
+pub record GreatestScore (x : Input) (id n k : ℕ) : Type 0 where
   pub inside : k < n
   pub bears-it : bears x k id ≡ true
   pub most : (j : ℕ) → j < n → bears x j id ≡ true → lt (scoreOf (x .scores) k) (scoreOf (x .scores) j) ≡ false
@@ -31,7 +31,7 @@ pub record Greatest (x : Input) (id n k : ℕ) : Type 0 where
 
 -- so is the corner that is chosen for an id, where scores are finite; and if none is chosen none bears the id
 abbrev pub ChosenGreatest : Type 0
-ChosenGreatest = (x : Input) → allFinite (x .scores) ≡ true → (id k : ℕ) → chosen x id ≡ some k → Greatest x id (length (x .scores)) k
+ChosenGreatest = (x : Input) → finiteScores (x .scores) ≡ true → (id k : ℕ) → chosen x id ≡ some k → GreatestScore x id (length (x .scores)) k
 
 abbrev pub NoneBears : Type 0
 NoneBears = (x : Input) (id : ℕ) → chosen x id ≡ none → (k : ℕ) → k < length (x .scores) → bears x k id ≡ false
@@ -41,7 +41,7 @@ abbrev pub resultOf : Input → ℕ → MappedCorner
 resultOf x id = record { id = id; index = index (chosen x id) }
 
 abbrev pub ResultsInOrder : Type 0
-ResultsInOrder = (x : Input) → InOrder (λ id. held (chosen x id)) (resultOf x) (cornerCount (x .board .rows) (x .board .cols)) (mapped x)
+ResultsInOrder = (x : Input) → PassingInOrder (λ id. held (chosen x id)) (resultOf x) (cornerCount (x .board .rows) (x .board .cols)) (mapped x)
 
 -- n squares of a size, as the word of a target
 abbrev pub along : Float → ℕ → ℕ
@@ -53,29 +53,34 @@ pub record Named (x : Input) (id k : ℕ) : Type 0 where
   pub j : ℕ
   pub there : boardCorner (x .alignment) (x .grid) k ≡ point (pos i) (pos j)
   pub has-id : cornerAt (x .board .rows) (x .board .cols) (pos i) (pos j) ≡ numbered.Id id
-  pub of-id : cornerOf (x .board .rows) (x .board .cols) id ≡ located.At i j
-  pub told : words (x .board) (record { id = id; index = k }) ≡ id ∷ k ∷ i ∷ j ∷ along (x .board .«cell_size») i ∷ along (x .board .«cell_size») j ∷ []
+  pub of-id : cornerPlace (x .board .rows) (x .board .cols) id ≡ located.At i j
+  pub told : cornerWords (x .board) (record { id = id; index = k }) ≡ id ∷ k ∷ i ∷ j ∷ along (x .board .«cell_size») i ∷ along (x .board .«cell_size») j ∷ []
 
 abbrev pub BoardCornersNamed : Type 0
 BoardCornersNamed = (x : Input) (id k : ℕ) → bears x k id ≡ true → Named x id k
 
--- the corner at a place of four: top left, top right, bottom right, bottom left
-abbrev pub ofFour : ℕ → ℕ → ℕ → ℕ → ℕ → ℕ
-ofFour a b c d zero = a
-ofFour a b c d (suc zero) = b
-ofFour a b c d (suc (suc zero)) = c
-ofFour a b c d (suc (suc (suc k))) = d
-
--- The cell alignment puts cell p on the square of a marker that has four corners. Then with the corner alignment input corner n, which stands at
--- corner k of p, has the id of one of these four: after r turns that of corner k + 3 r.
-abbrev pub CornersOfMarker : Type 0
-CornersOfMarker =
-    (parity : ℕ) (board : Board) (cells : GridAlignment) (grid : List ℤ) (n : ℕ) (p : Coord) (k m a b c d : ℕ) → k < 4 →
+-- The cell alignment puts cell p on a square. Then with the corner alignment input corner n, which stands at corner k of p, has the id of the
+-- board corner at corner k + 3 r of that square, after r turns, whatever the square holds: absent where that is no inner corner.
+abbrev pub CornersOfCell : Type 0
+CornersOfCell =
+    (board : Board) (cells : GridAlignment) (grid : List ℤ) (n : ℕ) (p : Coord) (k : ℕ) →
     labelled (cornersOf 0 grid) n ≡ true →
     gridPoint grid n ≡ corner k p →
-    markerAt parity (board .rows) (board .cols) (applied cells p .u) (applied cells p .v) ≡ numbered.Id m →
-    fourCorners parity (board .rows) (board .cols) m ≡ surrounding.Corners a b c d →
-    idOf board (cornerAlignment cells) grid n ≡ numbered.Id (ofFour a b c d ((k + 3 * (cells .turn % 4)) % 4))
+    idOf board (cornerAlignment cells) grid n ≡ idAt board (corner (k + 3 * cells .turn) (applied cells p))
+
+-- corner k of four, counted as `corner` counts those of a cell: top left, top right, bottom right, bottom left, and so on around
+abbrev pub ofFour : ℕ → ℕ → ℕ → ℕ → ℕ → ℕ
+ofFour a b c d k = byTurn k a b c d
+
+-- so on the square of a marker that has four corners it has the id of one of these four
+abbrev pub CornersOfMarker : Type 0
+CornersOfMarker =
+    (board : Board) (cells : GridAlignment) (grid : List ℤ) (n : ℕ) (p : Coord) (k m a b c d : ℕ) →
+    labelled (cornersOf 0 grid) n ≡ true →
+    gridPoint grid n ≡ corner k p →
+    markerOn board (applied cells p .u) (applied cells p .v) ≡ numbered.Id m →
+    surroundingCorners board m ≡ surrounding.Corners a b c d →
+    idOf board (cornerAlignment cells) grid n ≡ numbered.Id (ofFour a b c d (k + 3 * cells .turn))
 
 -- question 18 lets pass the corner alignment of every cell alignment with a turn from 0 to 3 and a translation from −8,191 to 8,191
 abbrev pub CornerAlignmentPasses : Type 0

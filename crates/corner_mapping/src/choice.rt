@@ -5,16 +5,17 @@ ghost use lib.IntN.{natAbs};
 ghost use lib.ListN.{length};
 ghost use Rattle.corner_mapping.specs.Corners.{idOf, greater, replaced};
 ghost use Rattle.corner_mapping.specs.Entry.{input};
-ghost use Rattle.corner_mapping.specs.Inner.{Ranged, Near, choiceOf, Chosen};
+ghost use Rattle.corner_mapping.specs.Inner.{InputInRange, NearCorner, choiceOf, ChoicesHeld};
 use board::Board;
 use board::Numbered;
 use grid_alignment::GridAlignment;
+use grid_alignment::alignments;
 use marker_sampling::questions;
 
 // The id of the inner corner on which the alignment puts input corner k.
 fn id_of(board: Board, alignment: GridAlignment, grid: &[i32], k: usize) -> Numbered
     requires { ⌜ (natAbs (alignment .tx) ≤ 8192) × (natAbs (alignment .ty) ≤ 8192) ⌝ }
-    requires { ⌜ (k < 1024) × Near (now grid) k ⌝ }
+    requires { ⌜ (k < 1024) × NearCorner (now grid) k ⌝ }
     ensures { λ r. ⌜ r ≡ idOf board alignment (now (grid .entry)) k ⌝ }
 {
     if !questions::labelled(grid, k) {
@@ -22,7 +23,7 @@ fn id_of(board: Board, alignment: GridAlignment, grid: &[i32], k: usize) -> Numb
     }
     let u = questions::word(grid, 3 * k + 1) as i16;
     let v = questions::word(grid, 3 * k + 2) as i16;
-    let corner = alignment.apply(u, v);
+    let corner = alignments::apply(alignment, u, v);
     board.charuco_corner_id_from_board_corner(corner.u, corner.v)
 }
 
@@ -50,8 +51,9 @@ fn choose_next(
     k: usize,
     choices: &mut [u16; 1024],
 )
-    requires { ⌜ Ranged (input board alignment (now scores) (now grid)) × (k < length (now scores)) × Chosen (input board alignment (now scores) (now grid)) k (now choices) ⌝ }
-    ensures { λ _. ⌜ Chosen (input board alignment (now (scores .entry)) (now (grid .entry))) (k + 1) (now (choices .exit)) ⌝ }
+    requires { ⌜ InputInRange (input board alignment (now scores) (now grid)) × (k < length (now scores))
+        × ChoicesHeld (input board alignment (now scores) (now grid)) k (now choices) ⌝ }
+    ensures { λ _. ⌜ ChoicesHeld (input board alignment (now (scores .entry)) (now (grid .entry))) (k + 1) (now (choices .exit)) ⌝ }
 {
     let found = id_of(board, alignment, grid, k);
     match found {
@@ -64,8 +66,8 @@ fn choose_next(
 }
 
 pub fn choose(board: Board, alignment: GridAlignment, scores: &[f32], grid: &[i32]) -> [u16; 1024]
-    requires { ⌜ Ranged (input board alignment (now scores) (now grid)) ⌝ }
-    ensures { λ r. ⌜ Chosen (input board alignment (now (scores .entry)) (now (grid .entry))) (length (now (scores .entry))) r ⌝ }
+    requires { ⌜ InputInRange (input board alignment (now scores) (now grid)) ⌝ }
+    ensures { λ r. ⌜ ChoicesHeld (input board alignment (now (scores .entry)) (now (grid .entry))) (length (now (scores .entry))) r ⌝ }
 {
     let mut choices: [u16; 1024] = [0; 1024];
     let mut k = 0;

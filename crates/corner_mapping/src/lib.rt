@@ -1,8 +1,8 @@
-// The corner entry (corner_mapping.rs): which inner corner each input corner is, per id the one with the greatest score. Leans on `refusal`,
+// The corner entry (corner_mapping.rs): which inner corner each input corner is, per id the one with the greatest score. Uses `refusal`,
 // `grid_alignment`, `board`, `marker_sampling`, `lent_list`, `floats` and, for the laws of whole numbers, `integers`.
 ghost use mathlib.Core.Path.{_≡_};
 ghost use Prim.Native.Nat.{_≤_};
-ghost use Rattle.corner_mapping.specs.Entry.{alignmentAnswer, rangeAnswer, input, answerOn, listOn, mapCorners, mapCornersList};
+ghost use Rattle.corner_mapping.specs.Entry.{alignmentAnswer, cornerRangeAnswer, input, mappedOn, listOn, mapCorners, mapCornersList};
 
 mod choice;
 mod words;
@@ -35,7 +35,7 @@ fn alignment_in_range(alignment: GridAlignment) -> bool
 
 // Question 18 whole.
 fn in_range(scores: &[f32], grid: &[i32], alignment: GridAlignment) -> bool
-    ensures { λ r. ⌜ r ≡ rangeAnswer (now (scores .entry)) (now (grid .entry)) alignment ⌝ }
+    ensures { λ r. ⌜ r ≡ cornerRangeAnswer (now (scores .entry)) (now (grid .entry)) alignment ⌝ }
 {
     if !marker_sampling::corners_in_range(scores, grid) {
         return false;
@@ -52,7 +52,7 @@ fn map_onto(
     corners: &mut [u32],
 ) -> MappedCorners
     requires { ⌜ (board .rows ≤ 32) × (board .cols ≤ 32) ⌝ }
-    ensures answer { λ r. ⌜ r ≡ answerOn (input board alignment (now (scores .entry)) (now (grid .entry))) (now (corners .entry)) ⌝ }
+    ensures answer { λ r. ⌜ r ≡ mappedOn (input board alignment (now (scores .entry)) (now (grid .entry))) (now (corners .entry)) ⌝ }
     ensures list { λ _. ⌜ now (corners .exit) ≡ listOn (input board alignment (now (scores .entry)) (now (grid .entry))) (now (corners .entry)) ⌝ }
 {
     if !in_range(scores, grid, alignment) {
@@ -63,8 +63,8 @@ fn map_onto(
         return MappedCorners::Refused(Refusal::ListTooShort);
     }
     let choices = choice::choose(board, alignment, scores, grid);
-    let mapped = words::write_all(board, &choices, corners);
-    MappedCorners::Mapped(mapped)
+    let end = words::put_all(board, &choices, corners);
+    MappedCorners::Mapped(end / 6)
 }
 
 // The inner corners that are found, by rising id, six words each, in front of the list that is lent. `alignment` is that of the corners. A
@@ -78,7 +78,8 @@ pub fn map_charuco_corners(
     corners: &mut [u32],
 ) -> MappedCorners
     ensures answer { λ r. ⌜ r ≡ mapCorners spec (now (codes .entry)) (now (scores .entry)) (now (grid .entry)) alignment (now (corners .entry)) ⌝ }
-    ensures list { λ _. ⌜ now (corners .exit) ≡ mapCornersList spec (now (codes .entry)) (now (scores .entry)) (now (grid .entry)) alignment (now (corners .entry)) ⌝ }
+    ensures list { λ _. ⌜ now (corners .exit)
+        ≡ mapCornersList spec (now (codes .entry)) (now (scores .entry)) (now (grid .entry)) alignment (now (corners .entry)) ⌝ }
 {
     let made = Board::new(spec, codes);
     match made {

@@ -1,17 +1,18 @@
 // The results in the list that is lent: six words each, by rising id.
 ghost use mathlib.Core.Path.{_≡_};
-ghost use Prim.Native.Nat.{_+_, _*_, _≤_, _<_};
+ghost use Prim.Native.Nat.{_+_, _*_, _≤_};
 ghost use lib.ListN.{length};
+ghost use Rattle.lent_list.specs.Front.{upTo, Put};
 ghost use Rattle.board.specs.Layout.{cornerCount};
-ghost use Rattle.corner_mapping.specs.Corners.{words};
-ghost use Rattle.corner_mapping.specs.Inner.{choiceOf, stored, Put, Written};
+ghost use Rattle.corner_mapping.specs.Corners.{mappedIf, mappedBy, cornerWords, wordsOfCorners};
+ghost use Rattle.corner_mapping.specs.Inner.{choiceOf, stored};
 use board::Board;
 use board::Located;
 use board::ObjectPoint;
 
 // The words of an id and the index of the corner that is chosen for it.
 fn corner_words(board: Board, id: u32, index: u32) -> [u32; 6]
-    ensures { λ r. ⌜ r ≡ words board (record { id = id; index = index }) ⌝ }
+    ensures { λ r. ⌜ r ≡ cornerWords board (record { id = id; index = index }) ⌝ }
 {
     let place = board.board_corner(id);
     let target = board.charuco_object_xy(id);
@@ -24,30 +25,30 @@ fn corner_words(board: Board, id: u32, index: u32) -> [u32; 6]
     }
 }
 
-// The corner that is chosen for an id, if one is, is put behind the `n` results before it.
-fn write_corner(board: Board, id: u32, choice: u16, corners: &mut [u32], n: usize) -> usize
-    requires { ⌜ (n < 1024) × (6 * n + 6 ≤ length (now corners)) ⌝ }
-    ensures { λ r. ⌜ Put board id n (choiceOf choice) (now (corners .entry)) (now (corners .exit)) r ⌝ }
+// The corner that is chosen for an id, if one is, is put behind the results before it.
+fn put_corner(board: Board, id: u32, choice: u16, corners: &mut [u32], at: usize) -> usize
+    requires { ⌜ at + length (wordsOfCorners board (mappedIf id (choiceOf choice))) ≤ length (now corners) ⌝ }
+    ensures { λ r. ⌜ Put (now (corners .entry)) (now (corners .exit)) at r (wordsOfCorners board (mappedIf id (choiceOf choice))) ⌝ }
 {
     if choice == 0 {
-        return n;
+        return at;
     }
     let words = corner_words(board, id, choice as u32 - 1);
-    lent_list::put(corners, 6 * n, &words);
-    n + 1
+    lent_list::put(corners, at, &words)
 }
 
-// The results of all ids, and how many there are.
-pub fn write_all(board: Board, choices: &[u16; 1024], corners: &mut [u32]) -> usize
+// The results of all ids. Gives the place after the last word.
+pub fn put_all(board: Board, choices: &[u16; 1024], corners: &mut [u32]) -> usize
     requires { ⌜ (cornerCount (board .rows) (board .cols) ≤ 1024) × (6 * cornerCount (board .rows) (board .cols) ≤ length (now corners)) ⌝ }
-    ensures { λ r. ⌜ Written board (stored (now (choices .entry))) (cornerCount (board .rows) (board .cols)) (now (corners .entry)) (now (corners .exit)) r ⌝ }
+    ensures { λ r. ⌜ Put (now (corners .entry)) (now (corners .exit)) 0 r
+        (wordsOfCorners board (upTo (mappedBy (stored (now (choices .entry)))) (cornerCount (board .rows) (board .cols)))) ⌝ }
 {
     let count = board.corner_count() as usize;
-    let mut n = 0;
+    let mut end = 0;
     let mut id = 0;
     while id < count {
-        n = write_corner(board, id as u32, choices[id], corners, n);
+        end = put_corner(board, id as u32, choices[id], corners, end);
         id += 1;
     }
-    n
+    end
 }

@@ -1,89 +1,88 @@
--- Where a marker is emitted some cell contributes, so that the placement's evidence is a number. Assumes nothing.
-use mathlib.Core.Path.{_≡_, refl, sym, ap, _∙_}
-use mathlib.Core.Bool.{Bool, true, false, _&&_}
-use mathlib.Core.Logic.{_⊎_, inl, inr}
+-- A marker has 18 words, and a placement has at most one marker for each cell. Where a marker is emitted some cell contributes, so that the
+-- placement's evidence is a number. Assumes nothing.
+use mathlib.Core.Path.{_≡_, refl, ap, _∙_}
+use mathlib.Core.Bool.{Bool, true, false, _&&_, cond}
+use mathlib.Core.List.{List, [], _∷_, flatMap}
 use mathlib.Core.Option.{Option, none, some}
-use Prim.Native.Nat.{ℕ, zero, suc, _<_}
-use native.Mathlib.Nat.{eq-or-lt-of-le, le-of-suc-le-suc}
+use Prim.Native.Nat.{ℕ, zero, suc, _*_, _≤_, _<_}
 use native.Mathlib.Omega.{arith}
 use lib.ListN.{length, length-append}
-use lib.Ieee.{Float, binary32, add, lt}
+use lib.Ieee.{Float, lt}
 use Rattle.floats.specs.Units.{nought}
+use Rattle.lent_list.specs.Front.{upTo}
+use Rattle.lent_list.proofs.Front.{up-to-most, flatMap-length}
 use Rattle.grid_alignment.specs.declared.GridAlignment.{GridAlignment}
 use Rattle.board.specs.declared.Numbered.{Numbered}
 use Rattle.board.specs.declared.Numbered.the-variants as numbered
 use Rattle.score_matrix.specs.Scores.{evidence as evidenceOf}
 use Rattle.shot_record.specs.Shots.{Sample, Shot}
+use Rattle.ranking.specs.declared.Evidence.{Evidence}
 use Rattle.ranking.specs.declared.Evidence.the-variants as evidence
 use Rattle.hypothesis.specs.Placements.{cellTotal, cell}
-use Rattle.hypothesis.specs.Evidence.{tableOf, samplesOf, weightOf, codeOf, expected, Contribution, onlyIf, contributing, contribution, joined, mapped, sumOver, reportedTerm, reportedTo, number, reported}
-use Rattle.emit.specs.Markers.{Marker, markerWith, marker, asList, markersTo, markers}
+use Rattle.hypothesis.specs.Evidence.{tableOf, codeOf, weightWith, samplesWith, expected, reported}
+use Rattle.hypothesis.specs.Rules.{Contributes}
+use Rattle.hypothesis.proofs.Contributing.{none-rule}
+use Rattle.emit.specs.Markers.{Marker, markerOf, emittedWith, emitted, markers, markerWords}
 
--- a cell that contributes
-pub record Contributes (s : Shot) (p : GridAlignment) (n : ℕ) : Type 0 where
-  pub place : ℕ
-  pub inside : place < n
-  pub what : Contribution
-  pub is : contribution s p place ≡ some what
+-- ---- how many words
+words-length : (m : Marker) → length (markerWords m) ≡ 18
+unfolding markerWords
+words-length m = refl
 
-both : {A B : Type 0} (a b : Bool) (x y : A) (z : B) → onlyIf (a && b) x ≡ some y → onlyIf a z ≡ some z
-both true b x y z e = refl
-both false b x y z e = let w : _≡_ {A = ℕ} 0 1 = cc in absurd (omega arith)
+pub all-words : (ms : List Marker) → length (flatMap markerWords ms) ≡ 18 * length ms
+all-words ms = flatMap-length markerWords 18 words-length ms
 
-module _ (s : Shot) (p : GridAlignment) where
-  contributes : (k : ℕ) (m : Marker) → marker s p k ≡ some m → (c : Contribution) × (contribution s p k ≡ some c)
-  unfolding marker contribution
-  contributes k m e = go (cell s k .sample) (expected s p k) e
-    where
-      go : (o : Option Sample) (q : Numbered) → markerWith s p k o q ≡ some m → (c : Contribution) × (contributing s (p .turn) o q ≡ some c)
-      go none q e = let w : _≡_ {A = ℕ} 0 1 = cc in absurd (omega arith)
-      go (some x) numbered.Absent e = let w : _≡_ {A = ℕ} 0 1 = cc in absurd (omega arith)
-      go (some x) (numbered.Id i) e =
-          let c : Contribution = record { weight = weightOf s x; samples = samplesOf s x; code = codeOf s (p .turn) i } in
-          (c, both (lt nought (weightOf s x)) (lt nought (evidenceOf (tableOf s) (samplesOf s x) (codeOf s (p .turn) i))) _ m c e)
-
-  some-cell : (n : ℕ) → 0 < length (markersTo s p n) → Contributes s p n
-  unfolding markersTo
-  some-cell zero h = absurd (omega arith)
-  some-cell (suc n) h = go (some-cell n) (marker s p n) refl
-    where
-      go : (0 < length (markersTo s p n) → Contributes s p n) → (o : Option Marker) → marker s p n ≡ o → Contributes s p (suc n)
-      go earlier none e =
-          let before : 0 < length (markersTo s p n) = omega (arith, length-append (markersTo s p n) (asList (marker s p n)), ap (λ (o : Option Marker). length (asList o)) e) in
-          let r = earlier before in
-          record { place = r .place; inside = omega (arith, r .inside); what = r .what; is = r .is }
-      go earlier (some m) e = let c = contributes n m e in record { place = n; inside = omega arith; what = c .0; is = c .1 }
-
-  pub emitted-contributes : 0 < length (markers s p) → Contributes s p (cellTotal s)
-  emitted-contributes h = some-cell (cellTotal s) h
-
--- a sum to which a cell adds is a number
-added : {A : Type 0} (plus : A → A → A) (from : A) (sum : Option A) (x : A) → (y : A) × (joined plus from sum (some x) ≡ some y)
-added plus from none x = (plus from x, refl)
-added plus from (some z) x = (plus z x, refl)
-
-kept : {A : Type 0} (plus : A → A → A) (from z : A) (o : Option A) → (y : A) × (joined plus from (some z) o ≡ some y)
-kept plus from z none = (z, refl)
-kept plus from z (some x) = (plus z x, refl)
+-- ---- how many markers
+at-most-one : (b : Bool) (m : Marker) → length (cond b (m ∷ []) []) ≤ 1
+at-most-one true m = omega arith
+at-most-one false m = omega arith
 
 module _ (s : Shot) (p : GridAlignment) where
-  sum-is : (n k : ℕ) (c : Contribution) → k < n → contribution s p k ≡ some c → (y : Float) × (reportedTo s p n ≡ some y)
-  unfolding sumOver
-  sum-is zero k c h e = absurd (omega arith)
-  sum-is (suc n) k c h e = go (λ l. sum-is n k c l e) (eq-or-lt-of-le (le-of-suc-le-suc h))
+  one-in-cell : (k : ℕ) → length (emitted s p k) ≤ 1
+  unfolding emitted
+  one-in-cell k = go (cell s k .sample) (expected s p k)
     where
-      go : (k < n → (y : Float) × (reportedTo s p n ≡ some y)) → (k ≡ n) ⊎ (k < n) → (y : Float) × (reportedTo s p (suc n) ≡ some y)
-      go earlier (inl q) =
-          let a = added (add binary32) nought (reportedTo s p n) (reportedTerm s c) in
-          (a .0, ap (λ (o : Option Contribution). joined (add binary32) nought (reportedTo s p n) (mapped (reportedTerm s) o)) (ap (contribution s p) (sym q) ∙ e) ∙ a .1)
-      go earlier (inr l) =
-          let r = earlier l in
-          let a = kept (add binary32) nought (r .0) (mapped (reportedTerm s) (contribution s p n)) in
-          (a .0, ap (λ (o : Option Float). joined (add binary32) nought o (mapped (reportedTerm s) (contribution s p n))) (r .1) ∙ a .1)
+      go : (o : Option Sample) (q : Numbered) → length (emittedWith s p k o q) ≤ 1
+      go none q = omega arith
+      go (some x) numbered.Absent = omega arith
+      go (some x) (numbered.Id m) =
+          let w = weightWith s (some x) in
+          let y = samplesWith s (some x) in
+          at-most-one (lt nought w && lt nought (evidenceOf (tableOf s) y (codeOf s (p .turn) m))) (markerOf s p k x m)
+
+  pub one-per-cell : length (markers s p) ≤ cellTotal s
+  one-per-cell = omega (arith, up-to-most (emitted s p) 1 (cellTotal s) (λ k h. one-in-cell k))
+
+-- ---- where there is one
+first-holds : (a b : Bool) (m : Marker) → 0 < length (cond (a && b) (m ∷ []) []) → a ≡ true
+first-holds true b m h = refl
+first-holds false b m h = absurd (omega arith)
+
+module _ (s : Shot) (p : GridAlignment) where
+  contributes : (k : ℕ) → k < cellTotal s → 0 < length (emitted s p k) → Contributes s p k
+  unfolding emitted
+  contributes k inside h = go (cell s k .sample) refl (expected s p k) refl h
+    where
+      go : (o : Option Sample) → cell s k .sample ≡ o → (q : Numbered) → expected s p k ≡ q → 0 < length (emittedWith s p k o q) → Contributes s p k
+      go none is q at h = absurd (omega arith)
+      go (some x) is numbered.Absent at h = absurd (omega arith)
+      go (some x) is (numbered.Id i) at h =
+          let w = weightWith s (some x) in
+          let heavy = first-holds (lt nought w) (lt nought (evidenceOf (tableOf s) (samplesWith s (some x)) (codeOf s (p .turn) i))) _ h in
+          record { inside = inside; id = i; marker = at; weight = rw is heavy }
+
+  some-cell : (n : ℕ) → n ≤ cellTotal s → 0 < length (upTo (emitted s p) n) → (k : ℕ) × Contributes s p k
+  unfolding upTo
+  some-cell zero l h = absurd (omega arith)
+  some-cell (suc n) l h = go (some-cell n (omega (arith, l))) (length (emitted s p n)) refl
+    where
+      go : (0 < length (upTo (emitted s p) n) → (k : ℕ) × Contributes s p k) → (j : ℕ) → length (emitted s p n) ≡ j → (k : ℕ) × Contributes s p k
+      go earlier zero e = earlier (omega (arith, length-append (upTo (emitted s p) n) (emitted s p n)))
+      go earlier (suc j) e = (n, contributes n (omega (arith, l)) (omega (arith, e)))
 
   pub emitted-number : 0 < length (markers s p) → (y : Float) × (reported s p ≡ evidence.Number y)
-  unfolding reported
-  emitted-number h =
-      let c = emitted-contributes s p h in
-      let r = sum-is (cellTotal s) (c .place) (c .what) (c .inside) (c .is) in
-      (r .0, ap number (r .1))
+  emitted-number h = go (reported s p) refl
+    where
+      go : (x : Evidence) → reported s p ≡ x → (y : Float) × (reported s p ≡ evidence.Number y)
+      go evidence.Absent e = let k = some-cell (cellTotal s) (omega arith) h in absurd (none-rule s p .reported-only-if e (k .0) (k .1))
+      go (evidence.Number y) e = (y, e)

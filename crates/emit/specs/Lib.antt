@@ -1,2 +1,2 @@
 pub mod Markers
-pub mod Emission
+pub mod Candidates

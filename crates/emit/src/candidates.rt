@@ -3,16 +3,17 @@ ghost use mathlib.Core.Path.{_≡_};
 ghost use Prim.Native.Nat.{_<_};
 ghost use lib.ListN.{getD};
 ghost use Rattle.matcher.specs.Codes.{turnedWord};
-ghost use Rattle.shot_record.specs.Fields.{cellCount};
 ghost use Rattle.shot_record.specs.Shots.{shot};
-ghost use Rattle.emit.specs.Markers.{candidateAt};
-ghost use Rattle.emit.specs.Emission.{Found, Near};
-use board::Board;
+ghost use Rattle.hypothesis.specs.Placements.{cellTotal};
+ghost use Rattle.hypothesis.specs.Inputs.{firstCodes, Ready};
+ghost use Rattle.emit.specs.Candidates.{candidateAt};
+ghost use Rattle.grid_alignment.specs.Alignment.{NearAlignment};
 use board::Numbered;
 use grid_alignment::GridAlignment;
+use grid_alignment::alignments;
+use hypothesis::Inputs;
 use shot_record::ReadCell;
 use shot_record::cells;
-use shot_record::fields::Fields;
 
 // A sampled cell and the marker that is expected in it, with the marker's turned code.
 pub struct Candidate {
@@ -44,17 +45,18 @@ fn turned_code(codes: &[u64; 512], id: u32, bits: u8, turn: u8) -> u64
 // What is expected in cell k.
 pub fn expected_in(
     bytes: &[u8],
-    f: Fields,
+    inputs: Inputs,
     starts: &[u16; 256],
     codes: &[u64; 512],
-    board: Board,
     alignment: GridAlignment,
     k: usize,
 ) -> Expected
-    requires { ⌜ Found (now bytes) f (now starts) (now codes) board × Near alignment × (k < cellCount (now bytes)) ⌝ }
+    requires { ⌜ Ready (now bytes) inputs (now starts) × (now codes ≡ firstCodes (shot (now bytes))) × NearAlignment alignment
+        × (k < cellTotal (shot (now bytes))) ⌝ }
     ensures { λ r. ⌜ r ≡ candidateAt (shot (now (bytes .entry))) alignment k ⌝ }
 {
-    let read = cells::cell_at(bytes, f, starts, k);
+    let board = inputs.board;
+    let read = cells::cell_at(bytes, inputs.fields, starts, k);
     let ReadCell::Sampled {
         u,
         v,
@@ -64,7 +66,7 @@ pub fn expected_in(
     else {
         return Expected::Absent;
     };
-    let square = alignment.apply(u, v);
+    let square = alignments::apply(alignment, u, v);
     let found = board.marker_id_at(square.u, square.v);
     let Numbered::Id(id) = found else {
         return Expected::Absent;

@@ -1,90 +1,80 @@
-// Marker emission for a chosen placement (emit.rs): the markers whose own cells speak for them. Leans on `floats`, `lent_list`,
-// `matcher`, `grid_alignment`, `board`, `score_matrix`, `shot_record`, `ranking` and `hypothesis`.
-ghost use Prim.Native.Nat.{_+_, _*_, _<_, _≤_};
+// Marker emission for a chosen placement (emit.rs): in cell order, the markers that are expected in sampled cells with a weight above 0 and
+// evidence above 0. Uses `integers`, `floats`, `lent_list`, `matcher`, `grid_alignment`, `board`, `score_matrix`, `shot_record` and `hypothesis`.
+ghost use mathlib.Core.Path.{_≡_};
+ghost use mathlib.Core.List.{flatMap};
+ghost use Prim.Native.Nat.{_+_, _*_, _≤_};
 ghost use lib.ListN.{length};
-ghost use Rattle.shot_record.specs.Fields.{cellCount};
+ghost use Rattle.lent_list.specs.Front.{inFront, Put};
 ghost use Rattle.shot_record.specs.Shots.{shot};
-ghost use Rattle.emit.specs.Markers.{marker};
-ghost use Rattle.emit.specs.Emission.{Found, Set, Near, Written, Emitted};
+ghost use Rattle.hypothesis.specs.Placements.{cellTotal};
+ghost use Rattle.hypothesis.specs.Evidence.{tableOf};
+ghost use Rattle.hypothesis.specs.Inputs.{Ready, Loaded};
+ghost use Rattle.emit.specs.Markers.{markers as markersOf, markerWords};
+ghost use Rattle.emit.specs.Candidates.{OfCell, emittedFor};
+ghost use Rattle.grid_alignment.specs.Alignment.{NearAlignment};
 
 mod candidates;
 mod words;
 
-use board::Board;
 use candidates::Expected;
 use grid_alignment::GridAlignment;
-use score_matrix::BoardMatchConfig;
+use hypothesis::Inputs;
 use shot_record::cells;
-use shot_record::fields::Fields;
 
-// The marker of cell k, if it is emitted, is put behind the `n` markers before it.
-fn emit_cell(
+// The words of the marker that is expected, if it is emitted, are put from the place `at` on. Gives the place after them.
+fn emit_expected(
     bytes: &[u8],
-    f: Fields,
+    inputs: Inputs,
     starts: &[u16; 256],
-    codes: &[u64; 512],
     table: &[f32; 511],
-    board: Board,
-    config: BoardMatchConfig,
-    alignment: GridAlignment,
-    k: usize,
+    expected: Expected,
     markers: &mut [u32],
-    n: usize,
+    at: usize,
 ) -> usize
-    requires { ⌜ Found (now bytes) f (now starts) (now codes) board × Set (now bytes) (now table) config × Near alignment × (k < cellCount (now bytes)) ⌝ }
-    requires { ⌜ (n < 256) × (18 * n + 18 ≤ length (now markers)) ⌝ }
-    ensures { λ r. ⌜ Written n (marker (shot (now (bytes .entry))) alignment k) (now (markers .entry)) (now (markers .exit)) r ⌝ }
+    requires { ⌜ Ready (now bytes) inputs (now starts) × (now table ≡ tableOf (shot (now bytes))) × OfCell (shot (now bytes)) expected ⌝ }
+    requires { ⌜ at + length (flatMap markerWords (emittedFor (shot (now bytes)) expected)) ≤ length (now markers) ⌝ }
+    ensures { λ r. ⌜ Put (now (markers .entry)) (now (markers .exit)) at r (flatMap markerWords (emittedFor (shot (now (bytes .entry))) expected)) ⌝ }
 {
-    let expected = candidates::expected_in(bytes, f, starts, codes, board, alignment, k);
     let Expected::Marker(c) = expected else {
-        return n;
+        return at;
     };
-    let grid = cells::grid_at(bytes, f, starts, k);
+    let board = inputs.board;
+    let grid = cells::grid_at(bytes, inputs.fields, starts, c.cell as usize);
     words::emit_marker(
         c,
         grid,
         board.bits,
         board.border_bits,
-        config,
+        inputs.config,
         table,
         markers,
-        n,
+        at,
     )
 }
 
-// The words of the markers, in cell order, and how many markers there are.
+// The words of the markers, 18 each, stand in front of the list that is lent. Gives how many markers there are.
 pub fn emit_markers(
     bytes: &[u8],
-    f: Fields,
+    inputs: Inputs,
     starts: &[u16; 256],
-    codes: &[u64; 512],
     table: &[f32; 511],
-    board: Board,
-    config: BoardMatchConfig,
+    codes: &[u64; 512],
     alignment: GridAlignment,
     markers: &mut [u32],
 ) -> usize
-    requires { ⌜ Found (now bytes) f (now starts) (now codes) board × Set (now bytes) (now table) config × Near alignment ⌝ }
-    requires { ⌜ 18 * cellCount (now bytes) ≤ length (now markers) ⌝ }
-    ensures { λ r. ⌜ Emitted (shot (now (bytes .entry))) alignment (now (markers .entry)) (now (markers .exit)) r ⌝ }
+    requires { ⌜ Loaded (now bytes) inputs (now starts) (now table) (now codes) × NearAlignment alignment ⌝ }
+    requires { ⌜ 18 * cellTotal (shot (now bytes)) ≤ length (now markers) ⌝ }
+    ensures count { λ r. ⌜ r ≡ length (markersOf (shot (now (bytes .entry))) alignment) ⌝ }
+    ensures list { λ _. ⌜ now (markers .exit) ≡ inFront (flatMap markerWords (markersOf (shot (now (bytes .entry))) alignment)) (now (markers .entry)) ⌝ }
 {
-    let mut n = 0;
+    let f = inputs.fields;
+    let count = f.cell_count;
+    let mut at = 0;
     let mut k = 0;
-    while k < f.cell_count {
-        n = emit_cell(
-            bytes,
-            f,
-            starts,
-            codes,
-            table,
-            board,
-            config,
-            alignment,
-            k,
-            markers,
-            n,
-        );
+    while k < count {
+        let expected = candidates::expected_in(bytes, inputs, starts, codes, alignment, k);
+        at = emit_expected(bytes, inputs, starts, table, expected, markers, at);
         k += 1;
     }
-    n
+    at / 18
 }

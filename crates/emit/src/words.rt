@@ -1,19 +1,22 @@
 // The marker of one cell, and its 18 words in the list that is lent.
 ghost use mathlib.Core.Path.{_≡_};
-ghost use Prim.Native.Nat.{_+_, _*_, _≤_, _<_};
+ghost use mathlib.Core.List.{flatMap};
+ghost use Prim.Native.Nat.{_+_, _*_, _≤_};
 ghost use lib.ListN.{length};
 ghost use lib.IntN.{pos};
 ghost use lib.Ieee.{binary32, div, ofInt};
 ghost use Rattle.score_matrix.specs.Scores.{samples, side};
-ghost use Rattle.emit.specs.Markers.{markerFrom, emitted, words};
-ghost use Rattle.emit.specs.Emission.{Written};
+ghost use Rattle.lent_list.specs.Front.{Put};
+ghost use Rattle.emit.specs.Markers.{markerWords};
+ghost use Rattle.emit.specs.Candidates.{markerFrom, emittedFrom};
 use super::candidates::Candidate;
 use score_matrix::BoardMatchConfig;
+use score_matrix::BorderSample;
 use score_matrix::cell;
 
 // `read` is the code that is read from the cell.
 fn marker_words(c: Candidate, read: u64, quotient: f32, px_per_square: f32) -> [u32; 18]
-    ensures { λ r. ⌜ r ≡ words (markerFrom c read quotient «px_per_square») ⌝ }
+    ensures { λ r. ⌜ r ≡ markerWords (markerFrom c read quotient «px_per_square») ⌝ }
 {
     let top_left = grid_alignment::rotate_gc_top_left(c.u, c.v, c.turn);
     let corners = grid_alignment::cell_rect_corners_at(c.u, c.v, px_per_square);
@@ -22,7 +25,7 @@ fn marker_words(c: Candidate, read: u64, quotient: f32, px_per_square: f32) -> [
         c.id,
         integers::word(top_left.u),
         integers::word(top_left.v),
-        c.turn as u32,
+        (c.turn % 4) as u32,
         matcher::differing_bits(read, c.code),
         (read % 0x1_0000_0000) as u32,
         (read / 0x1_0000_0000) as u32,
@@ -47,7 +50,8 @@ fn quotient(score: f32, bits: u8) -> f32
     score / (n * n) as f32
 }
 
-// The cell's marker, if the cell has weight and speaks for the marker, is put behind the `n` markers before it.
+// The words of the candidate's marker, if the cell has a weight above 0 and evidence above 0, are put from the place `at` on.
+// Gives the place after them.
 pub fn emit_marker(
     c: Candidate,
     grid: &[u8],
@@ -56,23 +60,23 @@ pub fn emit_marker(
     config: BoardMatchConfig,
     table: &[f32; 511],
     markers: &mut [u32],
-    n: usize,
+    at: usize,
 ) -> usize
     requires { ⌜ bits ≤ 8 ⌝ }
     requires { do ⌜ (← ⟦grid.len()⟧) ≡ side bits border * side bits border ⌝ }
-    requires { ⌜ (n < 256) × (18 * n + 18 ≤ length (now markers)) ⌝ }
-    ensures { λ r. ⌜ Written n (emitted config (now (table .entry)) (samples bits border (c .threshold) (now (grid .entry))) c) (now (markers .entry)) (now (markers .exit)) r ⌝ }
+    requires { ⌜ at + length (flatMap markerWords (emittedFrom config (now table) (samples bits border (c .threshold) (now grid)) c)) ≤ length (now markers) ⌝ }
+    ensures { λ r. ⌜ Put (now (markers .entry)) (now (markers .exit)) at r
+        (flatMap markerWords (emittedFrom config (now (table .entry)) (samples bits border (c .threshold) (now (grid .entry))) c)) ⌝ }
 {
-    let weight = score_matrix::cell_weight(config, true, c.fraction);
+    let weight = score_matrix::cell_weight(config, BorderSample::BlackFraction(c.fraction));
     if !(0.0 < weight) {
-        return n;
+        return at;
     }
     let score = cell::score(table, grid, c.threshold, bits, border, c.code);
     if !(0.0 < score_matrix::evidence(score, bits)) {
-        return n;
+        return at;
     }
     let read = cell::read_code(grid, c.threshold, bits, border);
     let marker = marker_words(c, read, quotient(score, bits), config.px_per_square);
-    lent_list::put(markers, 18 * n, &marker);
-    n + 1
+    lent_list::put(markers, at, &marker)
 }

@@ -7,7 +7,7 @@ use mathlib.Core.Bool.{Bool, true, false}
 use lib.IntN.{ℤ, pos, negℤ, natAbs, _*ℤ_}
 use lib.Pow.{pow-pos}
 use lib.Ieee.{Float, Format, prec, low, unlike}
-use Rattle.integers.proofs.Parts.{plus, ext}
+use Rattle.integers.proofs.Parts.{plus, minus, ext}
 use Rattle.integers.proofs.Distances.{Near, scale-is}
 use Rattle.floats.specs.Units.{signed, value, Finite}
 use Rattle.floats.proofs.Grid.{Rounded}
@@ -21,6 +21,7 @@ pub record CloseTimes (f : Format) (w : ℕ) (z : ℤ) (e : ℕ) (r : Float) : T
   pub under : (c j : ℕ) → c < 2 ^ prec f → natAbs z ≤ w * (c * 2 ^ j) → natAbs (value f r) ≤ c * 2 ^ j
   pub exact : (c j : ℕ) → c < 2 ^ prec f → natAbs z ≡ w * (c * 2 ^ j) → value f r *ℤ pos w ≡ z
   pub negative : plus z ≡ 0 → plus (value f r) ≡ 0
+  pub positive : minus z ≡ 0 → minus (value f r) ≡ 0
 
 -- ---- signed numbers
 neg-zero : (n : ℕ) → n ≡ 0 → pos n ≡ negℤ (pos n)
@@ -49,6 +50,10 @@ negative-of : (σ : Bool) (g q : ℕ) → (q ≤ 0 → g ≤ 0) → plus (signed
 negative-of false g q u h = let l : g ≤ 0 = u (omega (arith, signed-plus q)) in omega (arith, signed-plus g)
 negative-of true g q u h = signed-minus g .0
 
+positive-of : (σ : Bool) (g q : ℕ) → (q ≤ 0 → g ≤ 0) → minus (signed σ q) ≡ 0 → minus (signed σ g) ≡ 0
+positive-of false g q u h = signed-plus g .1
+positive-of true g q u h = let l : g ≤ 0 = u (omega (arith, signed-minus q)) in omega (arith, signed-minus g)
+
 -- ---- from a fraction of naturals with a sign to whole numbers
 pub close : (f : Format) (σ : Bool) (q w u : ℕ) (r : Float) → Rounded f σ q w u r → CloseTimes f w (signed σ q) (w * u / 2) r
 close f σ q w u r k =
@@ -64,6 +69,7 @@ close f σ q w u r k =
           let a : g ≡ c * 2 ^ j = le-antisymm (k .under c j c₀ (le-of-eq m)) (k .over c j c₀ (le-of-eq (sym m))) in
           ap (λ (z : ℤ). z *ℤ pos w) e ∙ scale σ g w ∙ ap (λ (n : ℕ). signed σ n) (ap (λ (n : ℕ). n * w) a ∙ mul-comm (c * 2 ^ j) w ∙ sym m);
       negative = λ l. rw e (negative-of σ g q none l);
+      positive = λ l. rw e (positive-of σ g q none l);
     }
 
 -- ---- the same where z is a whole number of units
@@ -73,6 +79,7 @@ pub record Close (f : Format) (z : ℤ) (e : ℕ) (r : Float) : Type 0 where
   pub under : (c j : ℕ) → c < 2 ^ prec f → natAbs z ≤ c * 2 ^ j → natAbs (value f r) ≤ c * 2 ^ j
   pub exact : (c j : ℕ) → c < 2 ^ prec f → natAbs z ≡ c * 2 ^ j → value f r ≡ z
   pub negative : plus z ≡ 0 → plus (value f r) ≡ 0
+  pub positive : minus z ≡ 0 → minus (value f r) ≡ 0
 
 times-one : (a : ℤ) → a *ℤ pos 1 ≡ a
 times-one a = ext (a *ℤ pos 1) a (omega (arith, scale-is a 1))
@@ -85,4 +92,5 @@ close-units f z u r k =
       under = λ c j c₀ l. k .under c j c₀ (rw one-mul l);
       exact = λ c j c₀ l. sym (times-one (value f r)) ∙ k .exact c j c₀ (rw one-mul l);
       negative = k .negative;
+      positive = k .positive;
     }

@@ -37,13 +37,19 @@ module _ (A B C a b l : ℕ) (C₀ : 0 < C) (l₀ : 0 < l) (p : A * l ≡ a * C)
   below-is : (s t : Bool) → T (below s A t B) → Lt (signed s a) (signed t b)
   below-is false false h = omega (arith, scaled-lt A B C a b l l₀ p q (ltb→lt A B h), signed-plus a, signed-plus b)
   below-is false true h = absurd h
-  below-is true false h = omega (arith, scaled-lt 0 (A + B) C 0 (a + b) l l₀ (omega arith) (sums A B C a b l p q) (ltb→lt 0 (A + B) h), signed-minus a, signed-plus b)
+  below-is true false h = omega (
+    arith,
+    scaled-lt 0 (A + B) C 0 (a + b) l l₀ (omega arith) (sums A B C a b l p q) (ltb→lt 0 (A + B) h),
+    signed-minus a,
+    signed-plus b,
+  )
   below-is true true h = omega (arith, scaled-lt B A C b a l l₀ q p (ltb→lt B A h), signed-minus a, signed-minus b)
 
   is-below : (s t : Bool) → Lt (signed s a) (signed t b) → T (below s A t B)
   is-below false false h = lt→ltb A B (scaled-lt a b l A B C C₀ (sym p) (sym q) (omega (arith, signed-plus a, signed-plus b)))
   is-below false true h = absurd (omega (arith, signed-plus a, signed-minus b))
-  is-below true false h = lt→ltb 0 (A + B) (scaled-lt 0 (a + b) l 0 (A + B) C C₀ (omega arith) (sym (sums A B C a b l p q)) (omega (arith, signed-minus a, signed-plus b)))
+  is-below true false h = lt→ltb 0 (A + B) (scaled-lt 0 (a + b) l 0 (A + B) C C₀ (omega arith) (sym (sums A B C a b l p q))
+      (omega (arith, signed-minus a, signed-plus b)))
   is-below true true h = lt→ltb B A (scaled-lt b a l B A C C₀ (sym q) (sym p) (omega (arith, signed-minus a, signed-minus b)))
 
   scaled-eq : A ≡ B → a ≡ b
@@ -70,8 +76,10 @@ module _ (A B C a b l : ℕ) (C₀ : 0 < C) (l₀ : 0 < l) (p : A * l ≡ a * C)
   is-level : (s t : Bool) → plus (signed s a) + minus (signed t b) ≡ plus (signed t b) + minus (signed s a) → T (level s A t B)
   is-level false false h = and-i (eqb A B) true (eq→eqb (eq-scaled (omega (arith, signed-plus a, signed-plus b)))) tt
   is-level true true h = and-i (eqb A B) true (eq→eqb (eq-scaled (omega (arith, signed-minus a, signed-minus b)))) tt
-  is-level false true h = and-i (eqb A B) (eqb A 0) (eq→eqb (eq-scaled (omega (arith, signed-plus a, signed-minus b)))) (eq→eqb (none-back (omega (arith, signed-plus a, signed-minus b))))
-  is-level true false h = and-i (eqb A B) (eqb A 0) (eq→eqb (eq-scaled (omega (arith, signed-minus a, signed-plus b)))) (eq→eqb (none-back (omega (arith, signed-minus a, signed-plus b))))
+  is-level false true h = and-i (eqb A B) (eqb A 0) (eq→eqb (eq-scaled (omega (arith, signed-plus a, signed-minus b))))
+      (eq→eqb (none-back (omega (arith, signed-plus a, signed-minus b))))
+  is-level true false h = and-i (eqb A B) (eqb A 0) (eq→eqb (eq-scaled (omega (arith, signed-minus a, signed-plus b))))
+      (eq→eqb (none-back (omega (arith, signed-minus a, signed-plus b))))
 
 -- ---- at two floats
 record Pair (f : Format) (x y : Float) : Type 0 where

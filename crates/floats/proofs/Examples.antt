@@ -4,15 +4,15 @@ use Prim.Native.Nat.{_^_}
 use mathlib.Core.Bool.{true, false}
 use lib.IntN.{pos, negsuc, negℤ, natAbs, _+ℤ_, _-ℤ_}
 use lib.Ieee.{nan, fin, binary32, add, lt, ofBits}
-use Rattle.floats.specs.Units.{value, units, one, clamp01}
+use Rattle.floats.specs.Units.{value, unitsOf, unity, clamp01}
 
 -- −8.0, by its bits
-minus-eight : units (ofBits binary32 0xC1000000) ≡ negℤ (pos (2 ^ 152))
+minus-eight : unitsOf (ofBits binary32 0xC1000000) ≡ negℤ (pos (2 ^ 152))
 unfolding value ofBits
 minus-eight = refl
 
 -- 1 + 2⁻²⁴ is a tie, and is rounded to 1. It is off by 2⁻²⁴, the bound that `add-close` gives for sums up to 2.
-no-better : natAbs (units (add binary32 one (fin false 1 (negsuc 23))) -ℤ (units one +ℤ units (fin false 1 (negsuc 23)))) ≡ 2 ^ 125
+no-better : natAbs (unitsOf (add binary32 unity (fin false 1 (negsuc 23))) -ℤ (unitsOf unity +ℤ unitsOf (fin false 1 (negsuc 23)))) ≡ 2 ^ 125
 unfolding value add
 no-better = refl
 

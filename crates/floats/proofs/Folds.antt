@@ -1,7 +1,8 @@
 -- The error of a sum of many values, added in order. Assumes nothing.
 use mathlib.Core.Path.{_≡_, refl, sym, ap, ap₂, _∙_}
 use Prim.Native.Nat.{ℕ, zero, suc, _+_, _-_, _*_, _/_, _^_, _≤_, _<_, zero-le, suc-le-suc}
-use native.Mathlib.Nat.{le-trans, le-of-lt, lt-of-le-of-lt, le-of-suc-le-suc, le-of-suc-le, le-step, le-refl, mul-le-mul-right, le-of-mul-le-mul-right, mul-one, pow-suc}
+use native.Mathlib.Nat.{le-trans, le-of-lt, lt-of-le-of-lt, le-of-suc-le-suc, le-of-suc-le, le-step, le-refl, mul-le-mul-right, le-of-mul-le-mul-right, mul-one}
+use native.Mathlib.Nat.{pow-suc}
 use native.Mathlib.Omega.{arith}
 use mathlib.Core.Bool.{Bool, true, false, not}
 use lib.IntN.{ℤ, pos, natAbs, _+ℤ_}
@@ -12,7 +13,7 @@ use lib.Ieee.Fits.{add-fits}
 use lib.Ieee.Digits.{size-lt, size-le, size-reaches}
 use Rattle.integers.proofs.Parts.{plus, minus, add-is, abs-is, abs-add, parts-le, ext}
 use Rattle.integers.proofs.Distances.{Near, near-refl, near-wider, near-trans, near-add}
-use Rattle.floats.specs.Units.{value, units, Finite, nought, sumTo, exactTo}
+use Rattle.floats.specs.Units.{value, unitsOf, Finite, nought, sumTo, exactTo}
 use Rattle.floats.proofs.Values.{whole, value-size, value-nought, nought-parts}
 use Rattle.floats.proofs.Close.{Close}
 use Rattle.floats.proofs.Sums.{add-close}
@@ -51,7 +52,8 @@ unfolding fits errs
 start f b K = record { holds = tt; is-finite = tt; small = rw value-nought (omega arith); near = rw value-nought (near-refl (pos 0)) }
 
 -- adding to 0 changes nothing
-add-nought : (f : Format) (x y : Float) (K : ℕ) → T (fits f x) → T (fits f y) → Finite x → Finite y → natAbs (value f x) ≤ 0 → natAbs (value f y) ≤ 2 ^ K → suc K ≤ low f + suc (emax f)
+add-nought : (f : Format) (x y : Float) (K : ℕ) → T (fits f x) → T (fits f y) → Finite x → Finite y → natAbs (value f x) ≤ 0
+    → natAbs (value f y) ≤ 2 ^ K → suc K ≤ low f + suc (emax f)
     → value f (add f x y) ≡ value f x +ℤ value f y
 add-nought f x y K fx fy x₀ y₀ h l o =
     let w = whole f y fy y₀ in
@@ -71,7 +73,8 @@ sum-sign a b p q =
     let s = add-is a b in
     omega (arith, parts-le (a +ℤ b) (minus a + minus b) (omega arith) (omega arith))
 
-module _ {f : Format} {c j n : ℕ} {K : ℕ → ℕ} (S : Schedule f c j n K) (i : ℕ) (acc : Float) (z : ℤ) (x : Float) (l : suc i ≤ n) (v : Inv f (c * 2 ^ j) K i acc z) (t : Item f (c * 2 ^ j) x) where
+module _ {f : Format} {c j n : ℕ} {K : ℕ → ℕ} (S : Schedule f c j n K) (i : ℕ) (acc : Float) (z : ℤ) (x : Float) (l : suc i ≤ n)
+    (v : Inv f (c * 2 ^ j) K i acc z) (t : Item f (c * 2 ^ j) x) where
   within : natAbs (value f acc +ℤ value f x) ≤ suc i * (c * 2 ^ j)
   within = omega (arith, abs-add (value f acc) (value f x))
 
@@ -88,9 +91,11 @@ module _ {f : Format} {c j n : ℕ} {K : ℕ → ℕ} (S : Schedule f c j n K) (
         near = go i l v next;
       }
     where
-      go : (i : ℕ) → suc i ≤ n → Inv f (c * 2 ^ j) K i acc z → Close f (value f acc +ℤ value f x) (2 ^ (K (suc i) - prec f) / 2) (add f acc x) → Near (value f (add f acc x)) (z +ℤ value f x) (errs (prec f) K (suc i))
+      go : (i : ℕ) → suc i ≤ n → Inv f (c * 2 ^ j) K i acc z → Close f (value f acc +ℤ value f x) (2 ^ (K (suc i) - prec f) / 2) (add f acc x)
+          → Near (value f (add f acc x)) (z +ℤ value f x) (errs (prec f) K (suc i))
       go zero l v k =
-          rw (add-nought f acc x (K 1) (v .holds) (t .holds) (v .is-finite) (t .is-finite) (omega (arith, v .small)) (le-trans (t .small) (le-trans (omega arith) (S .room 1 l))) (S .top 1 l))
+          rw (add-nought f acc x (K 1) (v .holds) (t .holds) (v .is-finite) (t .is-finite) (omega (arith, v .small))
+          (le-trans (t .small) (le-trans (omega arith) (S .room 1 l))) (S .top 1 l))
           (near-add (v .near) (near-refl (value f x)))
       go (suc i) l v k = near-wider (omega arith) (near-trans (k .near) (near-add (v .near) (near-refl (value f x))))
 
@@ -110,7 +115,7 @@ module _ {c j n : ℕ} {K : ℕ → ℕ} (S : Schedule binary32 c j n K) (t : �
   sum-error zero l a = start binary32 (c * 2 ^ j) K
   sum-error (suc i) l a = step S i (sumTo t i) (exactTo t i) (t i) l (sum-error i (le-of-suc-le l) (λ k h. a k (le-step h))) (a i (le-refl (suc i)))
 
-  pub sum-negative : (i : ℕ) → i ≤ n → ((k : ℕ) → k < i → Nonpositive binary32 (c * 2 ^ j) (t k)) → plus (units (sumTo t i)) ≡ 0
+  pub sum-negative : (i : ℕ) → i ≤ n → ((k : ℕ) → k < i → Nonpositive binary32 (c * 2 ^ j) (t k)) → plus (unitsOf (sumTo t i)) ≡ 0
   unfolding sumTo
   sum-negative zero l a = nought-parts binary32 .0
   sum-negative (suc i) l a =
@@ -140,7 +145,8 @@ unfoldable pub tight : ℕ → ℕ → ℕ
 unfolding size
 tight b i = size (i * b - 1)
 
-pub tight-schedule : (f : Format) (c j n m : ℕ) → n * c < 2 ^ prec f → n * (c * 2 ^ j) ≤ 2 ^ m → suc m ≤ low f + suc (emax f) → Schedule f c j n (tight (c * 2 ^ j))
+pub tight-schedule : (f : Format) (c j n m : ℕ) → n * c < 2 ^ prec f → n * (c * 2 ^ j) ≤ 2 ^ m → suc m ≤ low f + suc (emax f)
+    → Schedule f c j n (tight (c * 2 ^ j))
 unfolding tight
 tight-schedule f c j n m few room top =
     let b = c * 2 ^ j in
@@ -166,7 +172,8 @@ half-place p y = go (leb (size y) p) (leb→le (size y) p) (nleb→lt (size y) p
         rw e (omega arith)
     go false s m =
         let l : p < size y = m tt in
-        let w : 2 ^ (size y - p) * 2 ^ p ≡ 2 ^ (size y - 1) * 2 = sym (pow-add 2 (size y - p) p) ∙ ap (λ (x : ℕ). 2 ^ x) (last (size y) l) ∙ pow-suc 2 (size y - 1) in
+        let w : 2 ^ (size y - p) * 2 ^ p ≡ 2 ^ (size y - 1) * 2 = sym (pow-add 2 (size y - p) p) ∙ ap (λ (x : ℕ). 2 ^ x) (last (size y) l)
+        ∙ pow-suc 2 (size y - 1) in
         let h : 2 ^ (size y - p) / 2 * 2 * 2 ^ p ≤ 2 ^ (size y - p) * 2 ^ p = mul-le-mul-right (2 ^ p) (omega arith) in
         omega (arith, size-reaches y (size y - 1) (omega arith))
       where
@@ -193,11 +200,11 @@ errs-tight p d n = le-of-mul-le-mul-right {k = 2 ^ suc p} (omega (arith, errs-lo
 pub schedule-64 : Schedule binary32 1 152 64 (λ _. 158)
 schedule-64 = flat binary32 1 152 64 158 (lit< tt) (lit≤ tt) (lit≤ tt)
 
-pub near-64 : {n : ℕ} {acc : Float} {z : ℤ} → n ≤ 64 → Inv binary32 (2 ^ 152) (λ _. 158) n acc z → Near (units acc) z (64 * 2 ^ 133)
+pub near-64 : {n : ℕ} {acc : Float} {z : ℤ} → n ≤ 64 → Inv binary32 (2 ^ 152) (λ _. 158) n acc z → Near (unitsOf acc) z (64 * 2 ^ 133)
 near-64 {n} l v = near-wider (le-trans (errs-flat 24 158 63 n l) (lit≤ tt)) (v .near)
 
 pub sum-of-64 : (t : ℕ → Float) (n : ℕ) → n ≤ 64 → ((k : ℕ) → k < n → Nonpositive binary32 (2 ^ 152) (t k))
-    → Nonpositive binary32 (n * 2 ^ 152) (sumTo t n) × Near (units (sumTo t n)) (exactTo t n) (64 * 2 ^ 133)
+    → Nonpositive binary32 (n * 2 ^ 152) (sumTo t n) × Near (unitsOf (sumTo t n)) (exactTo t n) (64 * 2 ^ 133)
 sum-of-64 t n l a =
     let v = sum-error schedule-64 t n l (λ k h. item (a k h)) in
     (item-nonpositive (inv-item v) (sum-negative schedule-64 t n l a), near-64 l v)
@@ -206,9 +213,9 @@ sum-of-64 t n l a =
 pub long-schedule : (n : ℕ) → n < 2 ^ 24 → Schedule binary32 1 158 n (tight (2 ^ 158))
 long-schedule n l = tight-schedule binary32 1 158 n 182 (rw mul-one l) (le-trans (mul-le-mul-right (2 ^ 158) (le-of-lt l)) (lit≤ tt)) (lit≤ tt)
 
-pub long-near : {n : ℕ} {acc : Float} {z : ℤ} → Inv binary32 (2 ^ 158) (tight (2 ^ 158)) n acc z → Near (units acc) z (n * (n + 1) * 2 ^ 133)
+pub long-near : {n : ℕ} {acc : Float} {z : ℤ} → Inv binary32 (2 ^ 158) (tight (2 ^ 158)) n acc z → Near (unitsOf acc) z (n * (n + 1) * 2 ^ 133)
 long-near {n} v = near-wider (errs-tight 24 (2 ^ 133) n) (v .near)
 
 pub long-sum : (t : ℕ → Float) (n : ℕ) → n < 2 ^ 24 → ((k : ℕ) → k < n → Item binary32 (2 ^ 158) (t k))
-    → Item binary32 (n * 2 ^ 158) (sumTo t n) × Near (units (sumTo t n)) (exactTo t n) (n * (n + 1) * 2 ^ 133)
+    → Item binary32 (n * 2 ^ 158) (sumTo t n) × Near (unitsOf (sumTo t n)) (exactTo t n) (n * (n + 1) * 2 ^ 133)
 long-sum t n l a = let v = sum-error (long-schedule n l) t n (le-refl n) a in (inv-item v, long-near v)

@@ -3,7 +3,8 @@
 use mathlib.Core.Path.{_≡_, sym, ap, _∙_, subst}
 use mathlib.Core.Logic.{inl, inr}
 use Prim.Native.Nat.{ℕ, zero, suc, _+_, _-_, _*_, _/_, _%_, _^_, _≤_, _<_, compare, zero-le, suc-le-suc, Ordering, Ordering·lt, Ordering·eq, Ordering·gt}
-use native.Mathlib.Nat.{le-trans, le-of-lt, lt-of-le-of-lt, le-of-suc-le-suc, mul-assoc, div-div-eq-div-mul, le-div-iff-mul-le, le-of-eq, eq-or-lt-of-le, mul-comm, mul-le-mul-right, mul-le-mul-left, mul-pos, le-of-mul-le-mul-right, div-add-mod', mod-lt, pow-suc, div-lt-iff-lt-mul}
+use native.Mathlib.Nat.{le-trans, le-of-lt, lt-of-le-of-lt, le-of-suc-le-suc, mul-assoc, div-div-eq-div-mul, le-div-iff-mul-le, le-of-eq, eq-or-lt-of-le}
+use native.Mathlib.Nat.{mul-comm, mul-le-mul-right, mul-le-mul-left, mul-pos, le-of-mul-le-mul-right, div-add-mod', mod-lt, pow-suc, div-lt-iff-lt-mul}
 use native.Mathlib.Omega.{arith}
 use mathlib.Core.Bool.{Bool, true, false, not}
 use lib.Dec.{T, isLe, isEq, leb, leb→le, nleb→lt, eqb→eq}
@@ -30,7 +31,8 @@ tie q u r n (suc (suc b)) e h l = absurd (omega arith)
 parity : (q : ℕ) → q % 2 < 2
 parity q = omega arith
 
-nearest-half : (q u r n : ℕ) (o : Ordering) → q * u + r ≡ n → r < u → (T (isLe o) → r * 2 ≤ u) → (T (not (isLe o)) → u < r * 2) → (T (isEq o) → r * 2 ≡ u) → Half (nearest q o * u) n u
+nearest-half : (q u r n : ℕ) (o : Ordering) → q * u + r ≡ n → r < u → (T (isLe o) → r * 2 ≤ u) → (T (not (isLe o)) → u < r * 2)
+    → (T (isEq o) → r * 2 ≡ u) → Half (nearest q o * u) n u
 nearest-half q u r n Ordering·lt e l a b c = let h : r * 2 ≤ u = a tt in record { above = omega arith; below = omega arith }
 nearest-half q u r n Ordering·eq e l a b c = tie q u r n (q % 2) e (c tt) (parity q)
 nearest-half q u r n Ordering·gt e l a b c = let h : u < r * 2 = b tt in record { above = omega arith; below = omega arith }
@@ -78,7 +80,8 @@ kept-under p n c K P C h = elim (eq-or-lt-of-le h) [ inl e ↦ exactly e | inr l
     exactly : n ≡ c * 2 ^ K → Half (kept p n c * 2 ^ drop p n c * c) n (c * 2 ^ (K - p))
     exactly e =
         let k = drop p n c in
-        let below : n < 2 ^ suc K * c = subst (λ (x : ℕ). x < 2 ^ suc K * c) (sym e) (omega (arith, mul-pos C (pow-pos K), ap (λ (x : ℕ). x * c) (pow-suc 2 K))) in
+        let below : n < 2 ^ suc K * c = subst (λ (x : ℕ). x < 2 ^ suc K * c) (sym e)
+        (omega (arith, mul-pos C (pow-pos K), ap (λ (x : ℕ). x * c) (pow-suc 2 K))) in
         let l : k ≤ K = fewer-suc (size (n / c)) p K P (size-le (n / c) (suc K) (div-lt-iff-lt-mul C .1 below)) in
         let w : 2 ^ (K - k) * 2 ^ k ≡ 2 ^ K = sym (pow-add 2 (K - k) k) ∙ ap (λ (x : ℕ). 2 ^ x) (back K k l) in
         let m : n ≡ 2 ^ (K - k) * (c * 2 ^ k) = e ∙ ap (λ (x : ℕ). c * x) (sym w) ∙ omega arith in
@@ -103,7 +106,8 @@ kept-le p n d c j D c₀ h =
     let l : k ≤ j = over-size p j (size (n / d)) (size-le (n / d) (p + j) (lt-of-le-of-lt m (shl-lt p j c₀))) in
     let e = multiple c j k l in
     let v : n ≤ c * 2 ^ (j - k) * u = le-trans h (le-of-eq (ap (λ (x : ℕ). d * x) (sym e) ∙ omega arith)) in
-    let a : kept p n d ≤ c * 2 ^ (j - k) = le-trans (closest-mono n u (c * 2 ^ (j - k) * u) u U U (mul-le-mul-right u v)) (le-of-eq (closest-exact (c * 2 ^ (j - k)) u U)) in
+    let a : kept p n d ≤ c * 2 ^ (j - k) = le-trans (closest-mono n u (c * 2 ^ (j - k) * u) u U U (mul-le-mul-right u v))
+    (le-of-eq (closest-exact (c * 2 ^ (j - k)) u U)) in
     le-trans (mul-le-mul-right (2 ^ k) a) (le-of-eq e)
 
 all-in-use : (z p : ℕ) → 2 ≤ p → 0 < z - p → p - 1 + (z - p) < z
@@ -116,7 +120,8 @@ kept-full p n d P K =
     let u = d * 2 ^ k in
     let w = n / d in
     let a : 2 ^ (p - 1) * 2 ^ k ≤ w = le-trans (le-of-eq (sym (pow-add 2 (p - 1) k))) (size-reaches w (p - 1 + k) (all-in-use (size w) p P K)) in
-    le-trans (subst (λ (x : ℕ). 2 ^ (p - 1) ≤ x) (div-div-eq-div-mul n d (2 ^ k)) (le-div-iff-mul-le (pow-pos k) .1 a)) (nearest-ge (n / u) (compare (n % u * 2) u))
+    le-trans (subst (λ (x : ℕ). 2 ^ (p - 1) ≤ x) (div-div-eq-div-mul n d (2 ^ k)) (le-div-iff-mul-le (pow-pos k) .1 a))
+    (nearest-ge (n / u) (compare (n % u * 2) u))
 
 higher : (p j k : ℕ) → 2 ≤ p → j < k → p + j ≤ p - 1 + k
 higher p j k P h = omega arith
@@ -131,7 +136,8 @@ kept-ge p n d c j P D c₀ h = go (leb (drop p n d) j) (leb→le (drop p n d) j)
         let U : 0 < u = mul-pos D (pow-pos k) in
         let e = multiple c j k (y tt) in
         let v : c * 2 ^ (j - k) * u ≤ n = le-trans (le-of-eq (omega arith ∙ ap (λ (x : ℕ). d * x) e)) h in
-        let a : c * 2 ^ (j - k) ≤ kept p n d = le-trans (le-of-eq (sym (closest-exact (c * 2 ^ (j - k)) u U))) (closest-mono (c * 2 ^ (j - k) * u) u n u U U (mul-le-mul-right u v)) in
+        let a : c * 2 ^ (j - k) ≤ kept p n d = le-trans (le-of-eq (sym (closest-exact (c * 2 ^ (j - k)) u U)))
+        (closest-mono (c * 2 ^ (j - k) * u) u n u U U (mul-le-mul-right u v)) in
         le-trans (le-of-eq (sym e)) (mul-le-mul-right (2 ^ k) a)
     go false y x =
         let k = drop p n d in

@@ -6,5 +6,6 @@ pub mod Products
 pub mod Compare
 pub mod Order
 pub mod Ranges
+pub mod Signs
 pub mod Folds
 mod Examples

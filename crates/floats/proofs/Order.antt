@@ -68,7 +68,8 @@ lt-self nan h = absurd h
 lt-self (inf s) h = absurd h
 lt-self (fin s m e) h = signed-self s (m * up e * down e)
 
-lt-passed : (w : Bool) (x y z : Float) → Finite x → Finite y → Finite z → ((s t u : Bool) (a b c : ℕ) → signedBelow s a t b ≡ w → signedBelow t b u c ≡ w → signedBelow s a u c ≡ w) → lt x y ≡ w → lt y z ≡ w → lt x z ≡ w
+lt-passed : (w : Bool) (x y z : Float) → Finite x → Finite y → Finite z
+    → ((s t u : Bool) (a b c : ℕ) → signedBelow s a t b ≡ w → signedBelow t b u c ≡ w → signedBelow s a u c ≡ w) → lt x y ≡ w → lt y z ≡ w → lt x z ≡ w
 unfolding lt
 lt-passed w nan y z x₀ y₀ z₀ f h k = absurd x₀
 lt-passed w (inf s) y z x₀ y₀ z₀ f h k = absurd x₀

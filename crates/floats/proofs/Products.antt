@@ -24,7 +24,8 @@ mul-fin f s m e t n d a b K p q h o =
 
 -- The exact product is `value f x *ℤ value f y` of the units 2 ^ −(2 × low f). If it is at most 2 ^ K of the format's own units, it is
 -- rounded by at most half of 2 ^ (K − prec) of these.
-pub mul-close : (f : Format) (x y : Float) (K : ℕ) → T (fits f x) → T (fits f y) → Finite x → Finite y → natAbs (value f x *ℤ value f y) ≤ 2 ^ low f * 2 ^ K → suc K ≤ low f + suc (emax f)
+pub mul-close : (f : Format) (x y : Float) (K : ℕ) → T (fits f x) → T (fits f y) → Finite x → Finite y
+    → natAbs (value f x *ℤ value f y) ≤ 2 ^ low f * 2 ^ K → suc K ≤ low f + suc (emax f)
     → CloseTimes f (2 ^ low f) (value f x *ℤ value f y) (2 ^ low f * 2 ^ (K - prec f) / 2) (mul f x y)
 mul-close f nan y K fx fy x₀ y₀ h o = absurd x₀
 mul-close f (inf s) y K fx fy x₀ y₀ h o = absurd x₀
@@ -37,6 +38,7 @@ mul-close f (fin s m e) (fin t n d) K fx fy x₀ y₀ h o =
     let b = w .a in
     let σ = unlike s t in
     let l = 2 ^ low f in
-    let prod : value f (fin s m e) *ℤ value f (fin t n d) ≡ signed σ (a * b) = ap₂ _*ℤ_ (value-is f (fin s m e) s a (refl, v .has .1)) (value-is f (fin t n d) t b (refl, w .has .1)) ∙ signed-mul s t a b in
+    let prod : value f (fin s m e) *ℤ value f (fin t n d) ≡ signed σ (a * b) =
+    ap₂ _*ℤ_ (value-is f (fin s m e) s a (refl, v .has .1)) (value-is f (fin t n d) t b (refl, w .has .1)) ∙ signed-mul s t a b in
     let k = mul-fin f s m e t n d a b K (v .has .1) (w .has .1) (rw (prod, abs-signed) at h) o in
     rw prod (close f σ (a * b) l (2 ^ (K - prec f)) (mul f (fin s m e) (fin t n d)) k)

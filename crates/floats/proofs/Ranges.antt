@@ -10,7 +10,7 @@ use lib.Ieee.{Float, nan, inf, fin, Format, binary32, prec, emax, low, unlike, u
 use lib.Ieee.Fits.{round-is}
 use Rattle.integers.proofs.Parts.{plus, minus, sub-is-parts, abs-is, parts-le}
 use Rattle.integers.proofs.Distances.{Le}
-use Rattle.floats.specs.Units.{value, Finite, nought, one, Between, clamp01}
+use Rattle.floats.specs.Units.{value, Finite, nought, unity, Between, clamp01}
 use Rattle.floats.proofs.Values.{nought-parts}
 use Rattle.floats.proofs.Compare.{le→Le, Le→le, not-lt→le}
 
@@ -67,11 +67,11 @@ nonnegative-size {f} {b} {x} h = omega (arith, abs-is (value f x))
 
 -- ---- the same as ranges of floats: one end is 0, and the other is any float b
 -- one of the parts is 0
-not-above : (z : ℤ) → plus z ≤ minus z → plus z ≡ 0
-not-above z h = omega (arith, parts-le z (minus z) (omega arith) (omega arith))
+pub no-plus : (z : ℤ) → plus z ≤ minus z → plus z ≡ 0
+no-plus z h = omega (arith, parts-le z (minus z) (omega arith) (omega arith))
 
-not-below : (z : ℤ) → minus z ≤ plus z → minus z ≡ 0
-not-below z h = omega (arith, parts-le z (plus z) (omega arith) (omega arith))
+pub no-minus : (z : ℤ) → minus z ≤ plus z → minus z ≡ 0
+no-minus z h = omega (arith, parts-le z (plus z) (omega arith) (omega arith))
 
 module _ (f : Format) (b x : Float) (fb : T (fits f b)) (b₀ : Finite b) where
   pub nonpositive : T (fits f x) → Between b nought x → Nonpositive f (minus (value f b)) x
@@ -79,7 +79,7 @@ module _ (f : Format) (b x : Float) (fb : T (fits f b)) (b₀ : Finite b) where
   nonpositive fx h =
       let o = nought-parts f in
       let k = between-units f b nought x fb tt fx b₀ tt h in
-      let s = not-above (value f x) (omega arith) in
+      let s = no-plus (value f x) (omega arith) in
       record { holds = fx; is-finite = between-finite b nought x b₀ tt h; sign = s; small = omega arith }
 
   pub nonpositive-between : plus (value f b) ≡ 0 → Nonpositive f (minus (value f b)) x → Between b nought x
@@ -93,7 +93,7 @@ module _ (f : Format) (b x : Float) (fb : T (fits f b)) (b₀ : Finite b) where
   nonnegative fx h =
       let o = nought-parts f in
       let k = between-units f nought b x tt fb fx tt b₀ h in
-      let s = not-below (value f x) (omega arith) in
+      let s = no-minus (value f x) (omega arith) in
       record { holds = fx; is-finite = between-finite nought b x tt b₀ h; sign = s; small = omega arith }
 
 -- ---- −8..0, 0..1, and back to −512..0
@@ -101,19 +101,19 @@ pub from-minus-8 : (x : Float) → T (fits binary32 x) → Between (fin true 1 (
 unfolding value minus fits
 from-minus-8 x fx h = nonpositive binary32 (fin true 1 (pos 3)) x tt tt fx h
 
-pub to-one : (x : Float) → T (fits binary32 x) → Between nought one x → Nonnegative binary32 (2 ^ 149) x
+pub to-one : (x : Float) → T (fits binary32 x) → Between nought unity x → Nonnegative binary32 (2 ^ 149) x
 unfolding value plus fits
-to-one x fx h = nonnegative binary32 one x tt tt fx h
+to-one x fx h = nonnegative binary32 unity x tt tt fx h
 
 pub between-minus-512 : (x : Float) → Nonpositive binary32 (2 ^ 158) x → Between (fin true 1 (pos 9)) nought x
 unfolding value plus minus fits
 between-minus-512 x h = nonpositive-between binary32 (fin true 1 (pos 9)) x tt tt refl h
 
 -- ---- `clamp01`
-pub clamp01-between : (x : Float) → T (not (isNan x)) → Between nought one (clamp01 x)
-clamp01-between x x₀ = go (lt x nought) (lt one x) (not-lt→le x nought x₀ (unfold isNan in tt)) (not-lt→le one x (unfold isNan in tt) x₀)
+pub clamp01-between : (x : Float) → T (not (isNan x)) → Between nought unity (clamp01 x)
+clamp01-between x x₀ = go (lt x nought) (lt unity x) (not-lt→le x nought x₀ (unfold isNan in tt)) (not-lt→le unity x (unfold isNan in tt) x₀)
   where
-    go : (a b : Bool) → (T (not a) → T (le nought x)) → (T (not b) → T (le x one)) → Between nought one (cond a nought (cond b one x))
+    go : (a b : Bool) → (T (not a) → T (le nought x)) → (T (not b) → T (le x unity)) → Between nought unity (cond a nought (cond b unity x))
     go true b p q = unfold le lt eq in (tt, tt)
     go false true p q = unfold le lt eq in (tt, tt)
     go false false p q = (p tt, q tt)

@@ -51,7 +51,15 @@ pow-le-back i j h = le-of-suc-le-suc (lt-of-not-le (λ (g : suc j ≤ i). not-le
 
 whole-fin : (f : Format) (t : Bool) (m : ℕ) (e : ℤ) → down e ≤ 2 ^ low f → m < 2 ^ prec f → Whole f (fin t m e)
 whole-fin f t m (pos k) h n =
-    record { s = t; a = m * 2 ^ k * 2 ^ low f; has = (refl, sym (mul-one (m * 2 ^ k * 2 ^ low f))); c = m; j = k + low f; short = n; is = mul-assoc m (2 ^ k) (2 ^ low f) ∙ ap (λ (x : ℕ). m * x) (sym (pow-add 2 k (low f))) }
+    record {
+      s = t;
+      a = m * 2 ^ k * 2 ^ low f;
+      has = (refl, sym (mul-one (m * 2 ^ k * 2 ^ low f)));
+      c = m;
+      j = k + low f;
+      short = n;
+      is = mul-assoc m (2 ^ k) (2 ^ low f) ∙ ap (λ (x : ℕ). m * x) (sym (pow-add 2 k (low f)));
+    }
 whole-fin f t m (negsuc k) h n =
     let l = low f in
     let le : suc k ≤ l = pow-le-back (suc k) l h in

@@ -18,8 +18,8 @@ value f (inf s) = pos 0
 value f (fin s m e) = signed s (m * up e * 2 ^ low f / down e)
 
 -- an f32 in units of 2⁻¹⁴⁹
-abbrev pub units : Float → ℤ
-units x = value binary32 x
+abbrev pub unitsOf : Float → ℤ
+unitsOf x = value binary32 x
 
 abbrev pub Finite : Float → Type 0
 Finite x = T (finite x)
@@ -28,8 +28,8 @@ Finite x = T (finite x)
 abbrev pub nought : Float
 nought = fin false 0 (pos 0)
 
-abbrev pub one : Float
-one = fin false 1 (pos 0)
+abbrev pub unity : Float
+unity = fin false 1 (pos 0)
 
 -- t 0 + … + t (n − 1), added in this order from +0: as f32 adds, and exactly in units of 2⁻¹⁴⁹
 unfoldable pub sumTo : (ℕ → Float) → ℕ → Float
@@ -38,7 +38,7 @@ sumTo t (suc n) = add binary32 (sumTo t n) (t n)
 
 unfoldable pub exactTo : (ℕ → Float) → ℕ → ℤ
 exactTo t zero = pos 0
-exactTo t (suc n) = exactTo t n +ℤ units (t n)
+exactTo t (suc n) = exactTo t n +ℤ unitsOf (t n)
 
 -- l ≤ x ≤ h
 abbrev pub Between : Float → Float → Float → Type 0
@@ -46,4 +46,4 @@ Between l h x = T (le l x) × T (le x h)
 
 -- x.clamp(0.0, 1.0): NaN stays NaN, and −0.0 stays −0.0
 abbrev pub clamp01 : Float → Float
-clamp01 x = cond (lt x nought) nought (cond (lt one x) one x)
+clamp01 x = cond (lt x nought) nought (cond (lt unity x) unity x)

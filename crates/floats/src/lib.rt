@@ -1,5 +1,5 @@
 // What the library asks of an f32, and its bits, on every pattern and every value. What its sums and products are off by is in
-// `proofs/`, in whole numbers of `specs/Units.antt`. Leans on `integers`.
+// `proofs/`, in whole numbers of `specs/Units.antt`. Uses `integers`.
 ghost use mathlib.Core.Path.{_≡_};
 ghost use lib.Ieee.{binary32, nanBits, ofBits, toBits};
 ghost use lib.Ieee.Scale.{finite};

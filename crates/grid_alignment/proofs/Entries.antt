@@ -1,22 +1,16 @@
 -- The entries of the turns' matrices: their size, what they make of a point, and the least point of the turned unit square.
 -- Assumes nothing.
 use mathlib.Core.Path.{_≡_, refl, ap₂}
-use Prim.Native.Nat.{ℕ, zero, suc, _+_, _*_, _≤_, _<_}
+use Prim.Native.Nat.{ℕ, _+_, _*_, _%_, _≤_}
+use native.Mathlib.Nat.{mod-mod}
 use native.Mathlib.Omega.{arith}
 use lib.IntN.{ℤ, pos, negsuc, negℤ, natAbs, _+ℤ_, _*ℤ_}
 use Rattle.integers.proofs.Parts.{plus, minus, ext, add-is, mul-is, plus-neg, minus-neg, abs-neg}
 use Rattle.integers.proofs.Words.{word}
+use Rattle.matcher.proofs.Turns.{by-turn, each-turn}
 use Rattle.grid_alignment.specs.declared.Coord.{Coord}
 use Rattle.grid_alignment.specs.declared.Matrix.{Matrix}
-use Rattle.grid_alignment.specs.Alignment.{point, sends, matrixOf, least, lowest}
-
--- what holds at each turn
-pub each : (P : ℕ → Type 0) → P 0 → P 1 → P 2 → P 3 → (r : ℕ) → r < 4 → P r
-each P a b c d zero h = a
-each P a b c d (suc zero) h = b
-each P a b c d (suc (suc zero)) h = c
-each P a b c d (suc (suc (suc zero))) h = d
-each P a b c d (suc (suc (suc (suc r)))) h = absurd (omega arith)
+use Rattle.grid_alignment.specs.Alignment.{point, sends, matrixOf, lesser, lowestPoint}
 
 -- ---- the entries as factors
 abbrev pub Small : Matrix → Type 0
@@ -26,13 +20,11 @@ Small m =
 
 pub entries-small : (r : ℕ) → Small (matrixOf r)
 unfolding matrixOf
-entries-small zero = omega arith
-entries-small (suc zero) = omega arith
-entries-small (suc (suc zero)) = omega arith
-entries-small (suc (suc (suc r))) = omega arith
+entries-small r = by-turn Small r (omega arith) (omega arith) (omega arith) (omega arith)
 
 -- a x + b y is z
-combination : (a b x y z : ℤ) → plus z + (plus a * minus x + minus a * plus x + (plus b * minus y + minus b * plus y)) ≡ minus z + (plus a * plus x + minus a * minus x + (plus b * plus y + minus b * minus y)) → a *ℤ x +ℤ b *ℤ y ≡ z
+combination : (a b x y z : ℤ) → plus z + (plus a * minus x + minus a * plus x + (plus b * minus y + minus b * plus y))
+    ≡ minus z + (plus a * plus x + minus a * minus x + (plus b * plus y + minus b * minus y)) → a *ℤ x +ℤ b *ℤ y ≡ z
 combination a b x y z h =
     ext (a *ℤ x +ℤ b *ℤ y) z (omega (arith, mul-is a x, mul-is b y, add-is (a *ℤ x) (b *ℤ y)))
 
@@ -43,42 +35,34 @@ combined m x y =
 
 pub combined-is : (r : ℕ) (x y : ℤ) → combined (matrixOf r) x y ≡ sends r (point x y)
 unfolding matrixOf sends plus minus
-combined-is zero x y =
-    ap₂ point (combination (pos 1) (pos 0) x y x (omega arith)) (combination (pos 0) (pos 1) x y y (omega arith))
-combined-is (suc zero) x y =
-    ap₂ point (combination (pos 0) (pos 1) x y y (omega arith))
-    (combination (negsuc 0) (pos 0) x y (negℤ x) (omega (arith, plus-neg x, minus-neg x)))
-combined-is (suc (suc zero)) x y =
-    ap₂ point (combination (negsuc 0) (pos 0) x y (negℤ x) (omega (arith, plus-neg x, minus-neg x)))
-    (combination (pos 0) (negsuc 0) x y (negℤ y) (omega (arith, plus-neg y, minus-neg y)))
-combined-is (suc (suc (suc r))) x y =
-    ap₂ point (combination (pos 0) (negsuc 0) x y (negℤ y) (omega (arith, plus-neg y, minus-neg y)))
-    (combination (pos 1) (pos 0) x y x (omega arith))
+combined-is r x y =
+    rw (mod-mod r 4) at
+    (each-turn (λ m. combined (matrixOf m) x y ≡ sends m (point x y))
+    (ap₂ point (combination (pos 1) (pos 0) x y x (omega arith)) (combination (pos 0) (pos 1) x y y (omega arith)))
+    (ap₂ point (combination (pos 0) (pos 1) x y y (omega arith)) (combination (negsuc 0) (pos 0) x y (negℤ x) (omega (arith, plus-neg x, minus-neg x))))
+    (ap₂ point (combination (negsuc 0) (pos 0) x y (negℤ x) (omega (arith, plus-neg x, minus-neg x)))
+    (combination (pos 0) (negsuc 0) x y (negℤ y) (omega (arith, plus-neg y, minus-neg y))))
+    (ap₂ point (combination (pos 0) (negsuc 0) x y (negℤ y) (omega (arith, plus-neg y, minus-neg y))) (combination (pos 1) (pos 0) x y x (omega arith)))
+    r)
 
 -- a turn makes no coordinate larger
 pub sends-small : (r n : ℕ) (p : Coord) → natAbs (p .u) ≤ n → natAbs (p .v) ≤ n → (natAbs (sends r p .u) ≤ n) × (natAbs (sends r p .v) ≤ n)
 unfolding sends
-sends-small zero n p hu hv = (hu, hv)
-sends-small (suc zero) n p hu hv = (hv, rw abs-neg hu)
-sends-small (suc (suc zero)) n p hu hv = (rw abs-neg hu, rw abs-neg hv)
-sends-small (suc (suc (suc r))) n p hu hv = (rw abs-neg hv, hu)
+sends-small r n p hu hv =
+    by-turn (λ (q : Coord). (natAbs (q .u) ≤ n) × (natAbs (q .v) ≤ n)) r (hu, hv) (hv, rw abs-neg hu) (rw abs-neg hu, rw abs-neg hv) (rw abs-neg hv, hu)
 
 -- ---- the least point of the turned unit square, from the entries
 abbrev pub minima : Matrix → Coord
 minima m =
-    point (word (least (word (m .a)) (pos 0)) +ℤ word (least (word (m .b)) (pos 0)))
-    (word (least (word (m .c)) (pos 0)) +ℤ word (least (word (m .d)) (pos 0)))
+    point (word (lesser (word (m .a)) (pos 0)) +ℤ word (lesser (word (m .b)) (pos 0)))
+    (word (lesser (word (m .c)) (pos 0)) +ℤ word (lesser (word (m .d)) (pos 0)))
 
-pub minima-is : (r : ℕ) → minima (matrixOf r) ≡ lowest 1 r
-unfolding matrixOf lowest
-minima-is zero = refl
-minima-is (suc zero) = refl
-minima-is (suc (suc zero)) = refl
-minima-is (suc (suc (suc r))) = refl
+pub minima-is : (r : ℕ) → minima (matrixOf r) ≡ lowestPoint 1 r
+unfolding matrixOf sends lowestPoint
+minima-is r = rw (mod-mod r 4) at (each-turn (λ m. minima (matrixOf m) ≡ lowestPoint 1 m) refl refl refl refl r)
 
-pub lowest-small : (r : ℕ) → (natAbs (lowest 1 r .u) ≤ 1) × (natAbs (lowest 1 r .v) ≤ 1)
-unfolding lowest
-lowest-small zero = omega arith
-lowest-small (suc zero) = omega arith
-lowest-small (suc (suc zero)) = omega arith
-lowest-small (suc (suc (suc r))) = omega arith
+pub lowest-small : (r : ℕ) → (natAbs (lowestPoint 1 r .u) ≤ 1) × (natAbs (lowestPoint 1 r .v) ≤ 1)
+unfolding sends lowestPoint
+lowest-small r =
+    rw (mod-mod r 4) at (each-turn (λ m. (natAbs (lowestPoint 1 m .u) ≤ 1) × (natAbs (lowestPoint 1 m .v) ≤ 1)) (omega arith) (omega arith)
+    (omega arith) (omega arith) r)

@@ -1,10 +1,11 @@
 -- Document 01, "What takes another shape" and Emission: the quarter turns of grid points, cells and their corners.
-use Prim.Native.Nat.{ℕ, zero, suc, _%_}
+use Prim.Native.Nat.{ℕ, _^_, _≤_}
 use mathlib.Core.Bool.{cond}
 use mathlib.Core.List.{List, [], _∷_}
-use lib.IntN.{ℤ, pos, negsuc, negℤ, _+ℤ_, _-ℤ_}
+use lib.IntN.{ℤ, pos, negsuc, natAbs, negℤ, _+ℤ_, _-ℤ_}
 use lib.Signed.{leZ}
 use lib.Ieee.{Float, binary32, add, mul, ofInt}
+use Rattle.matcher.specs.Codes.{byTurn}
 use Rattle.grid_alignment.specs.declared.Coord.{Coord}
 use Rattle.grid_alignment.specs.declared.Matrix.{Matrix}
 use Rattle.grid_alignment.specs.declared.GridAlignment.{GridAlignment}
@@ -15,43 +16,39 @@ point u v = record { u = u; v = v }
 
 -- the fixed table: turn 0 sends (u, v) to (u, v), 1 to (v, −u), 2 to (−u, −v), 3 to (−v, u)
 unfoldable pub sends : ℕ → Coord → Coord
-sends zero p = p
-sends (suc zero) p = point (p .v) (negℤ (p .u))
-sends (suc (suc zero)) p = point (negℤ (p .u)) (negℤ (p .v))
-sends (suc (suc (suc r))) p = point (negℤ (p .v)) (p .u)
+sends turn p = byTurn turn p (point (p .v) (negℤ (p .u))) (point (negℤ (p .u)) (negℤ (p .v))) (point (negℤ (p .v)) (p .u))
 
 -- the same as the entries of a matrix: (u, v) goes to (a × u + b × v, c × u + d × v)
+abbrev pub matrix : ℤ → ℤ → ℤ → ℤ → Matrix
+matrix a b c d = record { a = a; b = b; c = c; d = d }
+
 unfoldable pub matrixOf : ℕ → Matrix
-matrixOf zero = record { a = pos 1; b = pos 0; c = pos 0; d = pos 1 }
-matrixOf (suc zero) = record { a = pos 0; b = pos 1; c = negsuc 0; d = pos 0 }
-matrixOf (suc (suc zero)) = record { a = negsuc 0; b = pos 0; c = pos 0; d = negsuc 0 }
-matrixOf (suc (suc (suc r))) = record { a = pos 0; b = negsuc 0; c = pos 1; d = pos 0 }
+matrixOf turn =
+    byTurn turn (matrix (pos 1) (pos 0) (pos 0) (pos 1)) (matrix (pos 0) (pos 1) (negsuc 0) (pos 0)) (matrix (negsuc 0) (pos 0) (pos 0) (negsuc 0))
+    (matrix (pos 0) (negsuc 0) (pos 1) (pos 0))
 
 -- a turn and then a translation
 abbrev pub moved : Coord → ℤ → ℤ → Coord
 moved p tx ty = point (p .u +ℤ tx) (p .v +ℤ ty)
 
 abbrev pub applied : GridAlignment → Coord → Coord
-applied a p = moved (sends (a .turn % 4) p) (a .tx) (a .ty)
+applied a p = moved (sends (a .turn) p) (a .tx) (a .ty)
 
--- A cell is named by its top left corner. Its corners, clockwise from there: top left, top right, bottom right, bottom left.
+-- A cell is named by its top left corner. Its corners, clockwise from there: top left, top right, bottom right, bottom left, and so on around.
 unfoldable pub corner : ℕ → Coord → Coord
-corner zero p = p
-corner (suc zero) p = moved p (pos 1) (pos 0)
-corner (suc (suc zero)) p = moved p (pos 1) (pos 1)
-corner (suc (suc (suc k))) p = moved p (pos 0) (pos 1)
+corner k p = byTurn k p (moved p (pos 1) (pos 0)) (moved p (pos 1) (pos 1)) (moved p (pos 0) (pos 1))
 
 -- the least u and the least v of two points
-abbrev pub least : ℤ → ℤ → ℤ
-least x y = cond (leZ x y) x y
+abbrev pub lesser : ℤ → ℤ → ℤ
+lesser x y = cond (leZ x y) x y
 
 abbrev pub meet : Coord → Coord → Coord
-meet p q = point (least (p .u) (q .u)) (least (p .v) (q .v))
+meet p q = point (lesser (p .u) (q .u)) (lesser (p .v) (q .v))
 
 -- the least u and the least v of the turned corners of the square from (0, 0) to (m, m)
-unfoldable pub lowest : ℕ → ℕ → Coord
+unfoldable pub lowestPoint : ℕ → ℕ → Coord
 unfolding sends
-lowest m r =
+lowestPoint m r =
     meet (meet (sends r (point (pos 0) (pos 0))) (sends r (point (pos m) (pos 0))))
     (meet (sends r (point (pos m) (pos m))) (sends r (point (pos 0) (pos m))))
 
@@ -59,7 +56,11 @@ lowest m r =
 -- the cells' less the least point of the turned unit square
 abbrev pub cornerAlignment : GridAlignment → GridAlignment
 cornerAlignment a =
-    record { turn = a .turn; tx = a .tx -ℤ lowest 1 (a .turn % 4) .u; ty = a .ty -ℤ lowest 1 (a .turn % 4) .v }
+    record { turn = a .turn; tx = a .tx -ℤ lowestPoint 1 (a .turn) .u; ty = a .ty -ℤ lowestPoint 1 (a .turn) .v }
+
+-- a translation that adds up in 32 bits with every point of a cell
+abbrev pub NearAlignment : GridAlignment → Type 0
+NearAlignment a = (natAbs (a .tx) ≤ 2 ^ 30) × (natAbs (a .ty) ≤ 2 ^ 30)
 
 -- `cell_rect_corners_at`: the corners of a cell where a cell is s wide, the Rust's f32 operations in order
 abbrev pub rectCorners : ℤ → ℤ → Float → List (List Float)

@@ -1,1 +1,2 @@
 pub mod Alignment
+pub mod Rules

@@ -1,9 +1,9 @@
 // Quarter turns of the grid (grid_alignment.rs; `rotate_gc_top_left` of emit.rs). A grid point comes as two i16, as the record
-// holds it; results are i32, as the Rust's `Coord`. Leans on `integers`, and for the laws of codes on `matcher`.
+// holds it; results are i32, as the Rust's `Coord`. Uses `integers` and `matcher`.
 ghost use mathlib.Core.Path.{_≡_};
-ghost use Prim.Native.Nat.{_%_, _^_, _≤_};
-ghost use lib.IntN.{natAbs};
-ghost use Rattle.grid_alignment.specs.Alignment.{point, sends, matrixOf, applied, corner, cornerAlignment, rectCorners};
+ghost use Rattle.grid_alignment.specs.Alignment.{point, sends, matrixOf, corner, rectCorners};
+
+pub mod alignments;
 
 pub struct Coord {
     pub u: i32,
@@ -28,7 +28,7 @@ pub struct Matrix {
 const TURNS: [[i32; 4]; 4] = [[1, 0, 0, 1], [0, 1, -1, 0], [-1, 0, 0, -1], [0, -1, 1, 0]];
 
 pub fn turn_matrix(turn: u8) -> Matrix
-    ensures { λ r. ⌜ r ≡ matrixOf (turn % 4) ⌝ }
+    ensures { λ r. ⌜ r ≡ matrixOf turn ⌝ }
 {
     let r = (turn % 4) as usize;
     let row = TURNS[r];
@@ -41,7 +41,7 @@ pub fn turn_matrix(turn: u8) -> Matrix
 }
 
 pub fn turned(turn: u8, u: i16, v: i16) -> Coord
-    ensures { λ r. ⌜ r ≡ sends (turn % 4) (point u v) ⌝ }
+    ensures { λ r. ⌜ r ≡ sends turn (point u v) ⌝ }
 {
     let m = turn_matrix(turn);
     Coord {
@@ -50,38 +50,9 @@ pub fn turned(turn: u8, u: i16, v: i16) -> Coord
     }
 }
 
-impl GridAlignment {
-    // Where the alignment puts a grid point.
-    pub fn apply(self, u: i16, v: i16) -> Coord
-        requires { ⌜ (natAbs (self .tx) ≤ 2 ^ 30) × (natAbs (self .ty) ≤ 2 ^ 30) ⌝ }
-        ensures { λ r. ⌜ r ≡ applied self (point u v) ⌝ }
-    {
-        let p = turned(self.turn, u, v);
-        Coord {
-            u: p.u + self.tx,
-            v: p.v + self.ty,
-        }
-    }
-
-    // The alignment of the corners, from that of the cells.
-    pub fn cell_to_corner_alignment(self) -> GridAlignment
-        requires { ⌜ (natAbs (self .tx) ≤ 2 ^ 30) × (natAbs (self .ty) ≤ 2 ^ 30) ⌝ }
-        ensures { λ r. ⌜ r ≡ cornerAlignment self ⌝ }
-    {
-        let m = turn_matrix(self.turn);
-        let ou = integers::min(m.a, 0) + integers::min(m.b, 0);
-        let ov = integers::min(m.c, 0) + integers::min(m.d, 0);
-        GridAlignment {
-            turn: self.turn,
-            tx: self.tx - ou,
-            ty: self.ty - ov,
-        }
-    }
-}
-
 // The corner of a cell that a turn makes its top left one.
 pub fn rotate_gc_top_left(u: i16, v: i16, turn: u8) -> Coord
-    ensures { λ r. ⌜ r ≡ corner (turn % 4) (point u v) ⌝ }
+    ensures { λ r. ⌜ r ≡ corner turn (point u v) ⌝ }
 {
     let x = u as i32;
     let y = v as i32;

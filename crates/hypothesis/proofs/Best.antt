@@ -1,44 +1,45 @@
--- The best placement is one of the shot's placements, with its evidence and a small translation; and what the answer of the search says of the
--- best and of the number of placements. Assumes nothing.
+-- The best placement is one of the shot's placements, with its evidence and a small translation, and so is the runner-up, another one; and what the
+-- answer of the search says of the best and of the number of placements. Assumes nothing.
 use mathlib.Core.Path.{_≡_, refl, sym, ap, _∙_}
 use Prim.Native.Nat.{ℕ, zero, suc, _-_, _/_, _%_, _≤_, _<_}
 use native.Mathlib.Nat.{div-lt-iff-lt-mul, mod-lt}
 use native.Mathlib.Omega.{arith}
-use mathlib.Core.List.{List, [], _∷_, map}
-use mathlib.Core.Option.{some}
-use lib.ListN.{length, length-map}
+use mathlib.Core.List.{List, [], _∷_, _++_, map}
+use mathlib.Core.Option.{some, Option·none-ne-some}
+use lib.ListN.{length, take, drop, length-map, getElem?}
 use lib.IntN.{ℤ, pos, natAbs, _-ℤ_}
 use Rattle.integers.proofs.Parts.{abs-sub}
 use Rattle.grid_alignment.specs.declared.GridAlignment.{GridAlignment}
 use Rattle.shot_record.specs.Shots.{Shot}
-use Rattle.lent_list.specs.Places.{nth}
 use Rattle.ranking.specs.declared.Hypothesis.{Hypothesis}
 use Rattle.ranking.specs.declared.Choice.{Choice}
 use Rattle.ranking.specs.declared.Choice.the-variants as choice
-use Rattle.ranking.specs.Greatest.{firstGreatest}
+use Rattle.ranking.specs.Greatest.{firstGreatest, rest}
+use Rattle.ranking.specs.Rules.{AllFinite, IsFirstGreatest}
 use Rattle.ranking.proofs.Greatest.{empty, greatest-rule}
 use Rattle.hypothesis.specs.declared.Selection.{Selection}
 use Rattle.hypothesis.specs.declared.Enumerated.the-variants as enumerated
-use Rattle.hypothesis.specs.Placements.{cellTotal, frame, across, down, placements}
+use Rattle.hypothesis.specs.Placements.{cellTotal, frame, movesAcross, movesDown, placements}
 use Rattle.hypothesis.specs.Evidence.{reported}
-use Rattle.hypothesis.specs.Search.{hypothesis, hypotheses, best, selection, selected, enumerate}
-use Rattle.hypothesis.specs.Inputs.{Passed}
+use Rattle.hypothesis.specs.Search.{hypothesis, hypotheses, best, runnerUp, selection, selected, enumerate}
+use Rattle.hypothesis.specs.Accuracy.{Placement, RunsUp, Checked}
+use Rattle.hypothesis.specs.Inputs.{PassedShot}
 use Rattle.hypothesis.proofs.Sides.{near-sides}
 use Rattle.hypothesis.proofs.Places.{Stands, stands}
-use Rattle.hypothesis.proofs.Placements.{positive}
+use Rattle.hypothesis.proofs.Placements.{positive, distinct}
 use Rattle.hypothesis.proofs.Turned.{across-small, down-small, all-finite}
 
 -- ---- the best placement
 pub record BestPlaced (s : Shot) (b : Hypothesis) : Type 0 where
-  pub placement : (k : ℕ) × (nth (placements s) k ≡ some (b .alignment))
+  pub placement : Placement s (b .alignment)
   pub turn : b .alignment .turn < 4
   pub tx : natAbs (b .alignment .tx) ≤ 4127
   pub ty : natAbs (b .alignment .ty) ≤ 4127
   pub evidence-is : b .evidence ≡ reported s (b .alignment)
 
 -- a hypothesis of the list: its placement stands at the same place
-mapped : (s : Shot) (ps : List GridAlignment) (k : ℕ) (h : Hypothesis) → nth (map (hypothesis s) ps) k ≡ some h → (nth ps k ≡ some (h .alignment)) × (h .evidence ≡ reported s (h .alignment))
-unfolding nth
+mapped : (s : Shot) (ps : List GridAlignment) (k : ℕ) (h : Hypothesis) → getElem? (map (hypothesis s) ps) k ≡ some h → (getElem? ps k ≡ some (h .alignment))
+    × (h .evidence ≡ reported s (h .alignment))
 mapped s [] k h e = absurd (let z : _≡_ {A = ℕ} 0 1 = cc in omega arith)
 mapped s (p ∷ ps) zero h e =
     let q : hypothesis s p ≡ h = cc in
@@ -48,18 +49,19 @@ mapped s (p ∷ ps) (suc k) h e = mapped s ps k h e
 small-move : (a n : ℕ) (least : ℤ) → a < n → n ≤ 32 → natAbs least ≤ 4096 → natAbs (pos a -ℤ least) ≤ 4127
 small-move a n least l m h = omega (arith, l, m, h, abs-sub (pos a) least)
 
-module _ (s : Shot) (p : Passed s) where
+module _ (s : Shot) (p : PassedShot s) where
   -- the frame of a turn lies as near as the cells
   pub near-frame : (r : ℕ) → (natAbs (frame s r .u) ≤ 4096) × (natAbs (frame s r .v) ≤ 4096)
   unfolding frame
   near-frame r = let n = near-sides s p r (cellTotal s - 1) in (n .left, n .top)
 
-  small-translation : (k : ℕ) (q : GridAlignment) → Stands s 4 k q → (natAbs (q .tx) ≤ 4127) × (natAbs (q .ty) ≤ 4127)
+  pub small-translation : (k : ℕ) (q : GridAlignment) → Stands s 4 k q → (natAbs (q .tx) ≤ 4127) × (natAbs (q .ty) ≤ 4127)
   small-translation k q o =
       let r = o .r in
-      let d₀ = positive (across s r) (down s r) (o .j) (o .inside) in
-      let x = small-move (o .j / down s r) (across s r) (frame s r .u) (div-lt-iff-lt-mul d₀ .1 (o .inside)) (across-small s (p .cols) (p .rows) r) (near-frame r .0) in
-      let y = small-move (o .j % down s r) (down s r) (frame s r .v) (mod-lt (o .j) d₀) (down-small s (p .cols) (p .rows) r) (near-frame r .1) in
+      let d₀ = positive (movesAcross s r) (movesDown s r) (o .j) (o .inside) in
+      let x = small-move (o .j / movesDown s r) (movesAcross s r) (frame s r .u) (div-lt-iff-lt-mul d₀ .1 (o .inside)) (across-small s (p .cols) (p .rows) r)
+      (near-frame r .0) in
+      let y = small-move (o .j % movesDown s r) (movesDown s r) (frame s r .v) (mod-lt (o .j) d₀) (down-small s (p .cols) (p .rows) r) (near-frame r .1) in
       rw (o .is) (x, y)
 
   pub best-placed : (b : Hypothesis) → best s ≡ choice.Placement b → BestPlaced s b
@@ -75,6 +77,35 @@ module _ (s : Shot) (p : Passed s) where
         tx = small .0;
         ty = small .1;
         evidence-is = m .1;
+      }
+
+-- ---- the runner-up
+-- what stands in a list without its place p stands in the list, at another place
+without : {A : Type 0} (xs : List A) (p k : ℕ) (x : A) → getElem? (take p xs ++ drop (suc p) xs) k ≡ some x → (j : ℕ) × (j ≡ p → ⊥) × (getElem? xs j ≡ some x)
+without [] zero k x e = absurd (Option·none-ne-some x e)
+without [] (suc p) k x e = absurd (Option·none-ne-some x e)
+without (y ∷ xs) zero k x e = (suc k, λ z. absurd (omega (arith, z)), e)
+without (y ∷ xs) (suc p) zero x e = (0, λ z. absurd (omega (arith, z)), e)
+without (y ∷ xs) (suc p) (suc k) x e = let r = without xs p k x e in (suc (r .0), λ z. r .1 (omega (arith, z)), r .2)
+
+module _ (s : Shot) (c : Checked s) where
+  rest-finite : (b : Hypothesis) → IsFirstGreatest (hypotheses s) b → AllFinite (rest (hypotheses s))
+  rest-finite b g k h e =
+      let r = without (hypotheses s) (g .place) k h (ap (λ (l : List Hypothesis). getElem? l k) (sym (g .others)) ∙ e) in
+      all-finite s c (placements s) (r .0) h (r .2)
+
+  pub runner-up-placed : (b g : Hypothesis) → best s ≡ choice.Placement b → runnerUp s ≡ choice.Placement g → RunsUp s b g
+  runner-up-placed b g is next =
+      let f = greatest-rule (hypotheses s) b (all-finite s c (placements s)) is in
+      let h = greatest-rule (rest (hypotheses s)) g (rest-finite b f) next in
+      let r = without (hypotheses s) (f .place) (h .place) g (ap (λ (l : List Hypothesis). getElem? l (h .place)) (sym (f .others)) ∙ h .there) in
+      let m = mapped s (placements s) (f .place) b (f .there) in
+      let n = mapped s (placements s) (r .0) g (r .2) in
+      record {
+        placed = (r .0, n .0);
+        other = λ e. r .1 (distinct s (r .0) (f .place) (b .alignment) (n .0 ∙ ap some e) (m .0));
+        evidence-is = n .1;
+        not-above = f .greatest (r .0) g (r .2);
       }
 
 -- ---- the answer

@@ -1,73 +1,80 @@
 -- What one cell contributes to the placements of a turn. Assumes nothing.
 use mathlib.Core.Path.{_≡_, refl, ap, _∙_}
 use mathlib.Core.Bool.{Bool, true, false, cond}
-use mathlib.Core.Option.{Option, none, some}
-use Prim.Native.Nat.{ℕ, _+_, _*_, _/_, _%_, _<_}
+use mathlib.Core.List.{[], _∷_}
+use Prim.Native.Nat.{ℕ, _+_, _*_, _/_, _≤_, _<_}
+use native.Mathlib.Nat.{mul-le-mul}
 use native.Mathlib.Omega.{arith}
-use lib.Dec.{T, eqb→eq}
 use lib.Ieee.{lt}
 use Rattle.floats.specs.Units.{nought}
 use Rattle.grid_alignment.specs.declared.Coord.{Coord}
 use Rattle.grid_alignment.specs.declared.GridAlignment.{GridAlignment}
 use Rattle.board.specs.declared.Numbered.{Numbered}
 use Rattle.board.specs.declared.Numbered.the-variants as numbered
-use Rattle.board.specs.Numbering.{numberIf, numberAt, numberAtℤ}
-use Rattle.board.specs.Layout.{odd, holds, markerAt}
-use Rattle.board.proofs.Places.{has-number}
-use Rattle.board.proofs.Formulas.{unnumbered}
-use Rattle.board.proofs.Markers.{marker-has}
-use Rattle.shot_record.specs.Shots.{Sample, Shot}
-use Rattle.hypothesis.specs.Placements.{cellTotal, cell, across, down, shifted}
-use Rattle.hypothesis.specs.Evidence.{samplesOf, weightOf, expected, codeOf, Contribution, contributing, contribution}
+use Rattle.board.specs.Numbering.{numberIf}
+use Rattle.board.specs.Layout.{parityOf, holdsMarker, markerOn}
+use Rattle.score_matrix.specs.Scores.{nullScore}
+use Rattle.shot_record.specs.Shots.{Shot}
+use Rattle.hypothesis.specs.declared.sums.Counted.{Counted}
+use Rattle.hypothesis.specs.Placements.{cellTotal, movesAcross, movesDown, shifted}
+use Rattle.hypothesis.specs.Evidence.{boardIn, weightOf, samplesOf, expected, Contribution, contributedWith, contributed}
+use Rattle.hypothesis.specs.Sums.{markerAfter, Stays}
+use Rattle.hypothesis.proofs.Columns.{on-square}
 use Rattle.hypothesis.proofs.Frames.{offsetU, offsetV, framed, lands}
 
--- a square of the board by its parity
-marker-on : (rows cols i j : ℕ) → i < cols → j < rows → numberAt (holds odd) cols rows i j ≡ numberIf (holds odd i j) ((j * cols + i) / 2)
-marker-on rows cols i j wide high = go (holds odd i j) (λ t. eqb→eq ((i + j) % 2) odd t) (λ n. unnumbered (holds odd) cols rows i j (λ a b t. n t))
-  where
-    go : (b : Bool) → (T b → (i + j) % 2 ≡ odd) → ((T b → ⊥) → numberAt (holds odd) cols rows i j ≡ numbered.Absent) → numberAt (holds odd) cols rows i j ≡ numberIf b ((j * cols + i) / 2)
-    go true f g = has-number (holds odd) cols rows i j ((j * cols + i) / 2) (marker-has rows cols i j wide high (f tt))
-    go false f g = g (λ t. t)
+-- cell k as one that may count
+abbrev pub countedCell : Shot → ℕ → ℕ → Counted
+countedCell s r k = record { i = offsetU s r k; j = offsetV s r k; weight = weightOf s k; null = nullScore (s .bits); board = boardIn s }
 
-module _ (s : Shot) (r : ℕ) (r₄ : r < 4) (k : ℕ) (inside : k < cellTotal s) where
-  abbrev i : ℕ
-  i = offsetU s r k
-
-  abbrev j : ℕ
-  j = offsetV s r k
-
-  -- what the placement whose frame is moved by (a, b) expects in the cell
-  pub expects : (a b : ℕ) → a < across s r → b < down s r → expected s (shifted s r a b) k ≡ numberIf (holds odd (i + a) (j + b)) (((j + b) * s .cols + (i + a)) / 2)
-  unfolding expected numberAtℤ
-  expects a b l m =
+module _ (s : Shot) (r k : ℕ) (inside : k < cellTotal s) where
+  -- its square stays on the board
+  pub stays : (0 < movesAcross s r) × (0 < movesDown s r) → s .bits ≤ 8 → s .cols ≤ 32 → s .rows ≤ 32
+      → Stays (countedCell s r k) (movesAcross s r) (movesDown s r)
+  stays fit b c h =
       let f = framed s r k inside in
-      ap (λ (q : Coord). markerAt odd (s .rows) (s .cols) (q .u) (q .v)) (lands s r r₄ a b k inside)
-      ∙ marker-on (s .rows) (s .cols) (i + a) (j + b) (omega (arith, f .wide, l)) (omega (arith, f .high, m))
+      record { bits = b; cols = c; rows = h; wide = omega (arith, f .wide, fit .0); high = omega (arith, f .high, fit .1) }
 
-  -- a cell that is sampled and weighs more than 0
-  abbrev pub share : Sample → ℕ → Contribution
-  share x m = record { weight = weightOf s x; samples = samplesOf s x; code = codeOf s r m }
+  module _ (a b : ℕ) (l : a < movesAcross s r) (m : b < movesDown s r) where
+    -- what the placement whose frame is moved by (a, b) expects in the cell, and the marker's number, if there is one
+    abbrev pub on : Bool
+    on = holdsMarker (parityOf (boardIn s)) (offsetU s r k + a) (offsetV s r k + b)
 
-  by-marker : (x : Sample) (e : Numbered) (t : Bool) (m : ℕ) → e ≡ numberIf t m → lt nought (weightOf s x) ≡ true → contributing s r (some x) e ≡ cond t (some (share x m)) none
-  by-marker x e true m is heavy = rw (is, heavy) refl
-  by-marker x e false m is heavy = rw is refl
+    abbrev pub id : ℕ
+    id = ((offsetV s r k + b) * s .cols + (offsetU s r k + a)) / 2
 
-  pub counts : (x : Sample) → cell s k .sample ≡ some x → lt nought (weightOf s x) ≡ true → (a b : ℕ) → a < across s r → b < down s r
-      → contribution s (shifted s r a b) k ≡ cond (holds odd (i + a) (j + b)) (some (share x (((j + b) * s .cols + (i + a)) / 2))) none
-  unfolding contribution
-  counts x is heavy a b l m =
-      ap (λ (o : Option Sample). contributing s r o (expected s (shifted s r a b) k)) is
-      ∙ by-marker x (expected s (shifted s r a b) k) (holds odd (i + a) (j + b)) (((j + b) * s .cols + (i + a)) / 2) (expects a b l m) heavy
+    pub marker-is : markerAfter (countedCell s r k) a b ≡ numberIf on id
+    marker-is =
+        let f = framed s r k inside in
+        on-square (boardIn s) (offsetU s r k + a) (offsetV s r k + b) (omega (arith, f .wide, l)) (omega (arith, f .high, m))
 
--- a cell that is not sampled, or weighs nothing, contributes to none
-pub unsampled : (s : Shot) (p : GridAlignment) (k : ℕ) → cell s k .sample ≡ none → contribution s p k ≡ none
-unfolding contribution
-unsampled s p k e = ap (λ (o : Option Sample). contributing s (p .turn) o (expected s p k)) e
+    expects : expected s (shifted s r a b) k ≡ numberIf on id
+    unfolding expected
+    expects = ap (λ (q : Coord). markerOn (boardIn s) (q .u) (q .v)) (lands s r a b k inside) ∙ marker-is
 
-pub light : (s : Shot) (p : GridAlignment) (k : ℕ) (x : Sample) → cell s k .sample ≡ some x → lt nought (weightOf s x) ≡ false → contribution s p k ≡ none
-unfolding contribution
-light s p k x e w = ap (λ (o : Option Sample). contributing s (p .turn) o (expected s p k)) e ∙ go (expected s p k)
+    pub id-small : s .cols ≤ 32 → s .rows ≤ 32 → id < 512
+    id-small c h =
+        let f = framed s r k inside in
+        let p : (offsetV s r k + b) * s .cols ≤ 31 * 32 = mul-le-mul {n₂ = 31} {m₂ = 32} (omega (arith, f .high, m, h)) c in
+        omega (arith, p, f .wide, l, c)
+
+    -- a cell that weighs more than 0
+    abbrev pub share : Contribution
+    share = record { weight = weightOf s k; samples = samplesOf s k; id = id }
+
+    by-marker : (e : Numbered) (t : Bool) → e ≡ numberIf t id → lt nought (weightOf s k) ≡ true
+        → contributedWith (weightOf s k) (samplesOf s k) e ≡ cond t (share ∷ []) []
+    by-marker e true is heavy = rw (is, heavy) refl
+    by-marker e false is heavy = rw is refl
+
+    pub counts : lt nought (weightOf s k) ≡ true → contributed s (shifted s r a b) k ≡ cond on (share ∷ []) []
+    unfolding contributed
+    counts heavy = by-marker (expected s (shifted s r a b) k) on expects heavy
+
+-- a cell that weighs nothing contributes to no placement
+pub light : (s : Shot) (p : GridAlignment) (k : ℕ) → lt nought (weightOf s k) ≡ false → contributed s p k ≡ []
+unfolding contributed
+light s p k w = go (expected s p k)
   where
-    go : (m : Numbered) → contributing s (p .turn) (some x) m ≡ none
+    go : (m : Numbered) → contributedWith (weightOf s k) (samplesOf s k) m ≡ []
     go numbered.Absent = refl
     go (numbered.Id m) = rw w refl

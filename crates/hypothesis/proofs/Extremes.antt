@@ -10,9 +10,9 @@ use lib.Signed.{leZ}
 use borrow.Author.Tests.{leb-true, leb-false}
 use Rattle.integers.proofs.Parts.{plus, minus, add-is, sub-is-parts, abs-is, parts-le, ext}
 use Rattle.integers.proofs.Distances.{Le}
-use Rattle.grid_alignment.specs.Alignment.{least}
+use Rattle.grid_alignment.specs.Alignment.{lesser}
 use Rattle.ranking.proofs.Order.{clash}
-use Rattle.hypothesis.specs.Placements.{leastTo, greatest, greatestTo, squares}
+use Rattle.hypothesis.specs.Placements.{leastTo, higher, greatestTo, squares}
 
 -- ---- the tests of order
 passed : (x y : ℤ) → leZ x y ≡ true → Le x y
@@ -30,14 +30,14 @@ failed (negsuc a) (pos b) e = absurd (clash true e refl)
 failed (negsuc a) (negsuc b) e = omega (arith, leb-false b a e)
 
 -- ---- of two
-least-le : (x y : ℤ) → Le (least x y) x × Le (least x y) y
+least-le : (x y : ℤ) → Le (lesser x y) x × Le (lesser x y) y
 least-le x y = go (leZ x y) refl
   where
     go : (t : Bool) → leZ x y ≡ t → Le (cond t x y) x × Le (cond t x y) y
     go true e = (omega arith, passed x y e)
     go false e = (failed x y e, omega arith)
 
-le-greatest : (x y : ℤ) → Le x (greatest x y) × Le y (greatest x y)
+le-greatest : (x y : ℤ) → Le x (higher x y) × Le y (higher x y)
 le-greatest x y = go (leZ x y) refl
   where
     go : (t : Bool) → leZ x y ≡ t → Le x (cond t y x) × Le y (cond t y x)

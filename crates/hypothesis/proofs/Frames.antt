@@ -1,14 +1,13 @@
 -- Where the cells of a shot lie in the frame of a turn, where a placement puts them, and which placements fit. Assumes nothing.
-use mathlib.Core.Path.{_≡_, ap, ap₂, subst, _∙_}
+use mathlib.Core.Path.{_≡_, ap, ap₂, _∙_}
 use Prim.Native.Nat.{ℕ, _+_, _-_, _≤_, _<_}
-use native.Mathlib.Nat.{mod-eq-of-lt}
 use native.Mathlib.Omega.{arith}
 use lib.IntN.{ℤ, pos, _+ℤ_, _-ℤ_}
 use Rattle.grid_alignment.specs.declared.Coord.{Coord}
 use Rattle.grid_alignment.specs.declared.GridAlignment.{GridAlignment}
 use Rattle.grid_alignment.specs.Alignment.{point, sends, moved, applied}
 use Rattle.shot_record.specs.Shots.{Shot}
-use Rattle.hypothesis.specs.Placements.{cellTotal, pointOf, turnedU, turnedV, frame, across, down, shifted}
+use Rattle.hypothesis.specs.Placements.{cellTotal, cellPoint, turnedU, turnedV, frame, movesAcross, movesDown, shifted}
 use Rattle.hypothesis.specs.Rules.{Fits, OnBoard}
 use Rattle.hypothesis.proofs.Extremes.{offset, offset-is, offset-below, moved-is, Move, move}
 
@@ -27,8 +26,8 @@ pub record Framed (s : Shot) (r k : ℕ) : Type 0 where
 
 -- the frame as large as it is said to be, on the board with its least point on square (a, b)
 pub record Moves (s : Shot) (r a b : ℕ) : Type 0 where
-  pub columns : a < across s r
-  pub rows : b < down s r
+  pub columns : a < movesAcross s r
+  pub rows : b < movesDown s r
 
 module _ (s : Shot) (r : ℕ) where
   pub framed : (k : ℕ) → k < cellTotal s → Framed s r k
@@ -44,20 +43,19 @@ module _ (s : Shot) (r : ℕ) where
       }
 
   -- cell k under the placement whose frame has its least point on square (a, b)
-  pub lands : r < 4 → (a b k : ℕ) → k < cellTotal s → applied (shifted s r a b) (pointOf s k) ≡ point (pos (offsetU s r k + a)) (pos (offsetV s r k + b))
+  pub lands : (a b k : ℕ) → k < cellTotal s → applied (shifted s r a b) (cellPoint s k) ≡ point (pos (offsetU s r k + a)) (pos (offsetV s r k + b))
   unfolding frame
-  lands r₄ a b k h =
+  lands a b k h =
       let n = cellTotal s - 1 in
       let l : k ≤ n = omega arith in
-      ap (λ (m : ℕ). moved (sends m (pointOf s k)) (pos a -ℤ frame s r .u) (pos b -ℤ frame s r .v)) (mod-eq-of-lt r₄)
-      ∙ ap₂ point (moved-is (turnedU s r) n a k l) (moved-is (turnedV s r) n b k l)
+      ap₂ point (moved-is (turnedU s r) n a k l) (moved-is (turnedV s r) n b k l)
 
   pub moves-fit : r < 4 → (a b : ℕ) → Moves s r a b → Fits s (shifted s r a b)
   moves-fit r₄ a b m = (r₄, λ k h. on k h)
     where
-      on : (k : ℕ) → k < cellTotal s → OnBoard s (applied (shifted s r a b) (pointOf s k))
+      on : (k : ℕ) → k < cellTotal s → OnBoard s (applied (shifted s r a b) (cellPoint s k))
       on k h =
-          let e = lands r₄ a b k h in
+          let e = lands a b k h in
           let f = framed k h in
           record {
             i = offsetU s r k + a;
@@ -78,9 +76,9 @@ pub record Shifted (s : Shot) (p : GridAlignment) : Type 0 where
   pub moves : Moves s (p .turn) a b
 
 module _ (s : Shot) (first : 0 < cellTotal s) (p : GridAlignment) (f : Fits s p) where
-  lies : (k : ℕ) → k ≤ cellTotal s - 1 → OnBoard s (moved (sends (p .turn) (pointOf s k)) (p .tx) (p .ty))
+  lies : (k : ℕ) → k ≤ cellTotal s - 1 → OnBoard s (moved (sends (p .turn) (cellPoint s k)) (p .tx) (p .ty))
   lies k h =
-      subst (λ (m : ℕ). OnBoard s (moved (sends m (pointOf s k)) (p .tx) (p .ty))) (mod-eq-of-lt (f .0)) (f .1 k (omega arith))
+      f .1 k (omega arith)
 
   across-move : Move (turnedU s (p .turn)) (cellTotal s - 1) (p .tx) (s .cols)
   across-move =

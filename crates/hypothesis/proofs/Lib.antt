@@ -1,3 +1,4 @@
+pub mod Contributing
 mod Terms
 mod Partial
 pub mod Accuracy

@@ -10,12 +10,12 @@ use Rattle.integers.proofs.Distances.{Le}
 use Rattle.integers.proofs.Words.{word, word-is}
 use Rattle.integers.proofs.Sums.{Exact, exact-op}
 use Rattle.grid_alignment.specs.declared.Coord.{Coord}
-use Rattle.grid_alignment.specs.Alignment.{least}
+use Rattle.grid_alignment.specs.Alignment.{lesser}
 use Rattle.grid_alignment.proofs.Entries.{sends-small}
 use Rattle.shot_record.specs.Shots.{Shot}
 use Rattle.hypothesis.specs.declared.framing.Sides.{Sides}
-use Rattle.hypothesis.specs.Placements.{cellTotal, pointOf, turnedPoint, turnedU, turnedV, leastTo, greatest, greatestTo, squares}
-use Rattle.hypothesis.specs.Inputs.{Passed}
+use Rattle.hypothesis.specs.Placements.{cellTotal, cellPoint, turnedPoint, turnedU, turnedV, leastTo, higher, greatestTo, squares}
+use Rattle.hypothesis.specs.Inputs.{PassedShot}
 use Rattle.hypothesis.specs.Extremes.{sidesTo}
 use Rattle.hypothesis.proofs.Extremes.{least-bound, greatest-bound, least-reached, greatest-reached}
 
@@ -27,9 +27,9 @@ module _ (f : ℕ → ℤ) (b : ℕ) (near : (k : ℕ) → natAbs (f k) ≤ b) w
   greatest-near : (n : ℕ) → natAbs (greatestTo f n) ≤ b
   greatest-near n = let r = greatest-reached f n in omega (arith, ap natAbs (r .is), near (r .k))
 
-module _ (s : Shot) (p : Passed s) (r : ℕ) where
+module _ (s : Shot) (p : PassedShot s) (r : ℕ) where
   pub near-point : (k : ℕ) → (natAbs (turnedU s r k) ≤ 4096) × (natAbs (turnedV s r k) ≤ 4096)
-  near-point k = let n = p .near k in sends-small r 4096 (pointOf s k) (n .0) (n .1)
+  near-point k = let n = p .near k in sends-small r 4096 (cellPoint s k) (n .0) (n .1)
 
   -- the sides of the cells 0 to n lie as near
   pub record Near (n : ℕ) : Type 0 where
@@ -59,15 +59,15 @@ pub record Seen (s : Shot) (r k : ℕ) (left right top bottom : ℤ) : Type 0 wh
   pub bottom-is : bottom ≡ greatestTo (turnedV s r) n
 
 module _ (f : ℕ → ℤ) (n : ℕ) (x y z : ℤ) (ey : y ≡ f (suc n)) where
-  less : x ≡ leastTo f n → z ≡ least x y → natAbs (leastTo f (suc n)) ≤ 4096 → word z ≡ leastTo f (suc n)
+  less : x ≡ leastTo f n → z ≡ lesser x y → natAbs (leastTo f (suc n)) ≤ 4096 → word z ≡ leastTo f (suc n)
   unfolding leastTo
-  less ex e h = word-is (leastTo f (suc n)) (e ∙ ap₂ least ex ey) (omega arith)
+  less ex e h = word-is (leastTo f (suc n)) (e ∙ ap₂ lesser ex ey) (omega arith)
 
-  more : x ≡ greatestTo f n → z ≡ greatest x y → natAbs (greatestTo f (suc n)) ≤ 4096 → word z ≡ greatestTo f (suc n)
+  more : x ≡ greatestTo f n → z ≡ higher x y → natAbs (greatestTo f (suc n)) ≤ 4096 → word z ≡ greatestTo f (suc n)
   unfolding greatestTo
-  more ex e h = word-is (greatestTo f (suc n)) (e ∙ ap₂ greatest ex ey) (omega arith)
+  more ex e h = word-is (greatestTo f (suc n)) (e ∙ ap₂ higher ex ey) (omega arith)
 
-module _ (s : Shot) (p : Passed s) (r : ℕ) where
+module _ (s : Shot) (p : PassedShot s) (r : ℕ) where
   first-u : (k : ℕ) (q : Coord) → q ≡ turnedPoint s r k → word (q .u) ≡ turnedU s r k
   first-u k q e = word-is (turnedU s r k) (ap (λ (z : Coord). z .u) e) (omega (arith, near-point s p r k .0))
 
@@ -82,7 +82,9 @@ module _ (s : Shot) (p : Passed s) (r : ℕ) where
       record { n = 0; k-is = refl; left-is = u; right-is = u; top-is = v; bottom-is = v }
 
   -- with cell k, whose point after the turn is q
-  pub next-seen : (k : ℕ) (left right top bottom : ℤ) (q : Coord) → Seen s r k left right top bottom → q ≡ turnedPoint s r k → (left' right' top' bottom' : ℤ) → left' ≡ least left (word (q .u)) → right' ≡ greatest right (word (q .u)) → top' ≡ least top (word (q .v)) → bottom' ≡ greatest bottom (word (q .v)) → Seen s r (k + 1) (word left') (word right') (word top') (word bottom')
+  pub next-seen : (k : ℕ) (left right top bottom : ℤ) (q : Coord) → Seen s r k left right top bottom → q ≡ turnedPoint s r k
+      → (left' right' top' bottom' : ℤ) → left' ≡ lesser left (word (q .u)) → right' ≡ higher right (word (q .u)) → top' ≡ lesser top (word (q .v))
+      → bottom' ≡ higher bottom (word (q .v)) → Seen s r (k + 1) (word left') (word right') (word top') (word bottom')
   next-seen k left right top bottom q h e left' right' top' bottom' el er et eb =
       let at = e ∙ ap (turnedPoint s r) (h .k-is) in
       let u = first-u (suc (h .n)) q at in
@@ -100,7 +102,8 @@ module _ (s : Shot) (p : Passed s) (r : ℕ) where
   abbrev sides : ℤ → ℤ → ℤ → ℤ → Sides
   sides left right top bottom = record { left = left; right = right; top = top; bottom = bottom }
 
-  pub all-seen : (k : ℕ) (left right top bottom : ℤ) → Seen s r k left right top bottom → k ≡ cellTotal s → sides left right top bottom ≡ sidesTo s r (cellTotal s - 1)
+  pub all-seen : (k : ℕ) (left right top bottom : ℤ) → Seen s r k left right top bottom → k ≡ cellTotal s
+      → sides left right top bottom ≡ sidesTo s r (cellTotal s - 1)
   all-seen k left right top bottom h e =
       let last : h .n ≡ cellTotal s - 1 = omega (arith, h .k-is) in
       (λ i. sides (h .left-is i) (h .right-is i) (h .top-is i) (h .bottom-is i)) ∙ ap (sidesTo s r) last
@@ -135,19 +138,21 @@ counted low high x y le nl nh ex ey =
       small = few;
     }
 
-module _ (s : Shot) (p : Passed s) (r n : ℕ) (e : Sides) (is : e ≡ sidesTo s r n) where
+module _ (s : Shot) (p : PassedShot s) (r n : ℕ) (e : Sides) (is : e ≡ sidesTo s r n) where
   sides-order : (f : ℕ → ℤ) → Le (leastTo f n) (greatestTo f n)
   sides-order f = omega (arith, least-bound f n 0 (omega arith), greatest-bound f n 0 (omega arith))
 
   pub counted-across : Counted (e .right) (e .left) (squares (leastTo (turnedU s r) n) (greatestTo (turnedU s r) n))
   counted-across =
       let near = near-sides s p r n in
-      counted (leastTo (turnedU s r) n) (greatestTo (turnedU s r) n) (e .right) (e .left) (sides-order (turnedU s r)) (near .left) (near .right) (ap (λ (z : Sides). z .right) is) (ap (λ (z : Sides). z .left) is)
+      counted (leastTo (turnedU s r) n) (greatestTo (turnedU s r) n) (e .right) (e .left) (sides-order (turnedU s r)) (near .left) (near .right)
+      (ap (λ (z : Sides). z .right) is) (ap (λ (z : Sides). z .left) is)
 
   pub counted-down : Counted (e .bottom) (e .top) (squares (leastTo (turnedV s r) n) (greatestTo (turnedV s r) n))
   counted-down =
       let near = near-sides s p r n in
-      counted (leastTo (turnedV s r) n) (greatestTo (turnedV s r) n) (e .bottom) (e .top) (sides-order (turnedV s r)) (near .top) (near .bottom) (ap (λ (z : Sides). z .bottom) is) (ap (λ (z : Sides). z .top) is)
+      counted (leastTo (turnedV s r) n) (greatestTo (turnedV s r) n) (e .bottom) (e .top) (sides-order (turnedV s r)) (near .top) (near .bottom)
+      (ap (λ (z : Sides). z .bottom) is) (ap (λ (z : Sides). z .top) is)
 
   pub left-read : word (e .left) ≡ leastTo (turnedU s r) n
   left-read = word-is (leastTo (turnedU s r) n) (ap (λ (z : Sides). z .left) is) (omega (arith, near-sides s p r n .left))

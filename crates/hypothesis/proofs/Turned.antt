@@ -9,7 +9,6 @@ use lib.ListN.{length-map}
 use lib.Ieee.{Float}
 use Rattle.grid_alignment.specs.declared.GridAlignment.{GridAlignment}
 use Rattle.shot_record.specs.Shots.{Shot, list}
-use Rattle.lent_list.specs.Places.{nth}
 use Rattle.ranking.specs.declared.Evidence.{Evidence}
 use Rattle.ranking.specs.declared.Hypothesis.{Hypothesis}
 use Rattle.ranking.specs.declared.Choice.{Choice}
@@ -24,7 +23,7 @@ use Rattle.hypothesis.specs.declared.Enumerated.{Enumerated}
 use Rattle.hypothesis.specs.declared.Enumerated.the-variants as enumerated
 use Rattle.hypothesis.specs.declared.Frame.{Frame}
 use Rattle.hypothesis.specs.declared.turns.Seen.{Seen}
-use Rattle.hypothesis.specs.Placements.{frame, across, down, placementAt, withTurnsBelow, placements}
+use Rattle.hypothesis.specs.Placements.{frame, movesAcross, movesDown, placementAt, withTurnsBelow, placements}
 use Rattle.hypothesis.specs.Evidence.{capacity}
 use Rattle.hypothesis.specs.Search.{hypothesis, best, runnerUp, selected, enumerate}
 use Rattle.hypothesis.specs.Accuracy.{Checked}
@@ -48,61 +47,76 @@ module _ {A B : Type 0} where
 -- ---- the hypotheses of a shot
 module _ (s : Shot) (c : Checked s) where
   pub all-finite : (ps : List GridAlignment) → AllFinite (map (hypothesis s) ps)
-  unfolding nth
   all-finite [] k h e = absurd (let z : _≡_ {A = ℕ} 0 1 = cc in omega arith)
   all-finite (p ∷ ps) zero h e = let q : hypothesis s p ≡ h = cc in rw (sym q) (reported-finite s c p)
   all-finite (p ∷ ps) (suc k) h e = all-finite ps k h e
 
   -- the ranking of a list with f 0 to f (n − 1) at its end
-  listed-ranked : (ps : List GridAlignment) (f : ℕ → GridAlignment) (n : ℕ) → rankedTo (rankingOf (map (hypothesis s) ps)) (λ (j : ℕ). hypothesis s (f j)) n ≡ rankingOf (map (hypothesis s) (ps ++ list f n))
+  listed-ranked : (ps : List GridAlignment) (f : ℕ → GridAlignment) (n : ℕ)
+      → rankedTo (rankingOf (map (hypothesis s) ps)) (λ (j : ℕ). hypothesis s (f j)) n ≡ rankingOf (map (hypothesis s) (ps ++ list f n))
   unfolding rankedTo list
   listed-ranked ps f zero = ap (λ (qs : List GridAlignment). rankingOf (map (hypothesis s) qs)) (sym (append-nil ps))
   listed-ranked ps f (suc n) =
       ap (λ (k : Ranking). ranked k (hypothesis s (f n))) (listed-ranked ps f n)
       ∙ sym (pass (hypothesis s (f n)) (reported-finite s c (f n)) (map (hypothesis s) (ps ++ list f n)) (all-finite (ps ++ list f n)))
       ∙ ap rankingOf (sym (map-last (hypothesis s) (ps ++ list f n) (f n)))
-      ∙ ap (λ (qs : List GridAlignment). rankingOf (map (hypothesis s) qs)) (append-assoc ps (list f n) (f n ∷ []) ∙ ap (λ (qs : List GridAlignment). ps ++ qs) (sym (last-listed f n)))
+      ∙ ap (λ (qs : List GridAlignment). rankingOf (map (hypothesis s) qs))
+      (append-assoc ps (list f n) (f n ∷ []) ∙ ap (λ (qs : List GridAlignment). ps ++ qs) (sym (last-listed f n)))
 
   -- a turn more
   module _ (r : ℕ) (sums : List Float) (seen : Seen) (h : Summed s r sums seen) where
-    moved-is : (j : ℕ) → j < many s r → movedTo sums seen (frame s r) r (down s r) (j / down s r) (j % down s r) ≡ hypothesis s (placementAt s r j)
+    moved-is : (j : ℕ) → j < many s r → movedTo sums seen (frame s r) r (movesDown s r) (j / movesDown s r) (j % movesDown s r)
+        ≡ hypothesis s (placementAt s r j)
     moved-is j l =
-        let d₀ = positive (across s r) (down s r) j l in
-        ap (λ (e : Evidence). record { alignment = placementAt s r j; evidence = e }) (h (j / down s r) (j % down s r) (div-lt-iff-lt-mul d₀ .1 l) (mod-lt j d₀))
+        let d₀ = positive (movesAcross s r) (movesDown s r) j l in
+        ap (λ (e : Evidence). record { alignment = placementAt s r j; evidence = e })
+        (h (j / movesDown s r) (j % movesDown s r) (div-lt-iff-lt-mul d₀ .1 l) (mod-lt j d₀))
 
-    pub turn-ranked : (k : Ranking) (f : Frame) (n d : ℕ) → f ≡ frame s r → n ≡ across s r → d ≡ down s r → k ≡ rankingOf (map (hypothesis s) (withTurnsBelow s r)) → rankedTurn k sums seen f r n d ≡ rankingOf (map (hypothesis s) (withTurnsBelow s (r + 1)))
+    pub turn-ranked : (k : Ranking) (f : Frame) (n d : ℕ) → f ≡ frame s r → n ≡ movesAcross s r → d ≡ movesDown s r
+        → k ≡ rankingOf (map (hypothesis s) (withTurnsBelow s r)) → rankedTurn k sums seen f r n d ≡ rankingOf (map (hypothesis s) (withTurnsBelow s (r + 1)))
     unfolding withTurnsBelow
     turn-ranked k f n d ef en ed ek =
         let e : suc r ≡ r + 1 = omega arith in
         rw (ef, en, ed, ek)
-        (ranked-same (rankingOf (map (hypothesis s) (withTurnsBelow s r))) (λ (j : ℕ). movedTo sums seen (frame s r) r (down s r) (j / down s r) (j % down s r)) (λ (j : ℕ). hypothesis s (placementAt s r j)) (many s r) moved-is
+        (ranked-same (rankingOf (map (hypothesis s) (withTurnsBelow s r)))
+        (λ (j : ℕ). movedTo sums seen (frame s r) r (movesDown s r) (j / movesDown s r) (j % movesDown s r))
+        (λ (j : ℕ). hypothesis s (placementAt s r j)) (many s r)
+        moved-is
         ∙ listed-ranked (withTurnsBelow s r) (placementAt s r) (many s r)
         ∙ ap (λ (m : ℕ). rankingOf (map (hypothesis s) (withTurnsBelow s m))) e)
 
 -- ---- how many there are
 module _ (s : Shot) (wide : s .cols ≤ 32) (high : s .rows ≤ 32) where
-  pub across-small : (r : ℕ) → across s r ≤ 32
+  pub across-small : (r : ℕ) → movesAcross s r ≤ 32
   unfolding frame
   across-small r = omega (arith, wide)
 
-  pub down-small : (r : ℕ) → down s r ≤ 32
+  pub down-small : (r : ℕ) → movesDown s r ≤ 32
   unfolding frame
   down-small r = omega (arith, high)
 
   start-small : (r : ℕ) → start s r ≤ r * 1024
   unfolding withTurnsBelow
   start-small zero = omega arith
-  start-small (suc r) = omega (arith, start-next s r, start-small r, mul-le-mul {n₁ = across s r} {m₁ = down s r} {n₂ = 32} {m₂ = 32} (across-small r) (down-small r))
+  start-small (suc r) = omega (
+    arith,
+    start-next s r,
+    start-small r,
+    mul-le-mul {n₁ = movesAcross s r} {m₁ = movesDown s r} {n₂ = 32} {m₂ = 32} (across-small r)
+        (down-small r),
+  )
 
   pub total-small : (r : ℕ) (k : Ranking) → k ≡ rankingOf (map (hypothesis s) (withTurnsBelow s r)) → k .total ≤ r * 1024
   total-small r k e = rw e (omega (arith, length-map (withTurnsBelow s r) (hypothesis s), start-small r))
 
 -- ---- a turn that has no placement
-pub no-placement-ranked : (s : Shot) (r : ℕ) → across s r * down s r ≡ 0 → rankingOf (map (hypothesis s) (withTurnsBelow s r)) ≡ rankingOf (map (hypothesis s) (withTurnsBelow s (r + 1)))
+pub no-placement-ranked : (s : Shot) (r : ℕ) → movesAcross s r * movesDown s r ≡ 0
+    → rankingOf (map (hypothesis s) (withTurnsBelow s r)) ≡ rankingOf (map (hypothesis s) (withTurnsBelow s (r + 1)))
 unfolding withTurnsBelow list
 no-placement-ranked s r none =
     let e : suc r ≡ r + 1 = omega arith in
-    ap (λ (qs : List GridAlignment). rankingOf (map (hypothesis s) qs)) (sym (append-nil (withTurnsBelow s r)) ∙ ap (λ (n : ℕ). withTurnsBelow s r ++ list (placementAt s r) n) (sym none))
+    ap (λ (qs : List GridAlignment). rankingOf (map (hypothesis s) qs))
+    (sym (append-nil (withTurnsBelow s r)) ∙ ap (λ (n : ℕ). withTurnsBelow s r ++ list (placementAt s r) n) (sym none))
     ∙ ap (λ (m : ℕ). rankingOf (map (hypothesis s) (withTurnsBelow s m))) e
 
 -- ---- before the first turn, and the answer after the last
@@ -125,7 +139,13 @@ module _ (s : Shot) (k : Ranking) (e : k ≡ rankingOf (map (hypothesis s) (with
   pub enumerate-selected : (b : Hypothesis) → k .best ≡ choice.Placement b → enumerate s ≡ enumerated.Selected (selectionOf k b (capacity s (b .alignment)))
   unfolding placements
   enumerate-selected b h =
-      let answer : Choice → ℕ → Enumerated = λ next n. enumerated.Selected (record { best = b; «runner_up» = next; total = n; margin = margin (b .evidence) (capacity s (b .alignment)) next }) in
+      let answer : Choice → ℕ → Enumerated = λ next n. enumerated.Selected (record {
+        best = b;
+        «runner_up» = next;
+        total = n;
+        margin = margin (b .evidence)
+            (capacity s (b .alignment)) next;
+      }) in
       chosen (choice.Placement b) h
       ∙ ap (answer (runnerUp s)) (sym (length-map (placements s) (hypothesis s)))
       ∙ ap (λ (x : Ranking). answer (x .«runner_up») (x .total)) (sym e)

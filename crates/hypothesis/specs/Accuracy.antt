@@ -1,22 +1,23 @@
 -- Document 01, Search: the accuracy rule, for every placement of a shot. Exact values are whole numbers of 2⁻²⁹⁸.
 use Prim.Native.Nat.{ℕ, _+_, _*_, _^_, _≤_, _<_}
 use mathlib.Core.Path.{_≡_}
+use mathlib.Core.Bool.{false}
 use mathlib.Core.Option.{none, some}
-use lib.ListN.{getD}
+use lib.ListN.{getD, getElem?}
 use lib.IntN.{ℤ, pos, _-ℤ_, _*ℤ_}
-use lib.Signed.{ltZ}
+use lib.Signed.{_<ℤ_}
 use lib.Dec.{T}
 use lib.Ieee.{Float}
 use Rattle.integers.specs.Distance.{Within}
-use Rattle.floats.specs.Units.{units, Finite, nought, one, Between}
+use Rattle.floats.specs.Units.{unitsOf, Finite, nought, unity, Between}
 use Rattle.grid_alignment.specs.declared.GridAlignment.{GridAlignment}
 use Rattle.score_matrix.specs.Table.{isTable}
 use Rattle.shot_record.specs.Shots.{Sample, Shot}
-use Rattle.lent_list.specs.Places.{nth}
-use Rattle.shot_record.specs.Answers.{float}
+use Rattle.shot_record.specs.Answers.{ofPattern}
 use Rattle.ranking.specs.declared.Evidence.the-variants as evidence
 use Rattle.ranking.specs.declared.Hypothesis.{Hypothesis}
 use Rattle.ranking.specs.declared.Choice.the-variants as choice
+use Rattle.ranking.specs.Greatest.{liesBelow}
 use Rattle.hypothesis.specs.Placements.{cellTotal, cell, placements}
 use Rattle.hypothesis.specs.Evidence.{tableOf, reported, exact}
 use Rattle.hypothesis.specs.Search.{best}
@@ -27,19 +28,19 @@ bound s = cellTotal s * (cellTotal s + 67) * 2 ^ 282
 
 -- a reported number in these units
 abbrev pub wide : Float → ℤ
-wide x = units x *ℤ pos (2 ^ 149)
+wide x = unitsOf x *ℤ pos (2 ^ 149)
 
 -- a placement of the shot
 abbrev pub Placement : Shot → GridAlignment → Type 0
-Placement s p = (k : ℕ) × (nth (placements s) k ≡ some p)
+Placement s p = (k : ℕ) × (getElem? (placements s) k ≡ some p)
 
 -- the best's lead over another placement with a number, worked out without rounding, is more than twice the bound
 abbrev pub Leads : Shot → Float → GridAlignment → Type 0
-Leads s x q = (y : Float) → reported s q ≡ evidence.Number y → T (ltZ (pos (2 * bound s)) (wide x -ℤ wide y))
+Leads s x q = (y : Float) → reported s q ≡ evidence.Number y → pos (2 * bound s) <ℤ (wide x -ℤ wide y)
 
 -- For every placement: the reported evidence is none exactly when the exact one is, is finite, and lies within the bound. If the best
 -- leads every other placement that has a number, every other placement has less exact evidence than the best, or none.
-pub record Accurate (s : Shot) : Type 0 where
+pub record AccurateEvidence (s : Shot) : Type 0 where
   pub none-if : (p : GridAlignment) → Placement s p → exact s p ≡ none → reported s p ≡ evidence.Absent
   pub none-only-if : (p : GridAlignment) → Placement s p → reported s p ≡ evidence.Absent → exact s p ≡ none
   pub is-finite : (p : GridAlignment) → Placement s p → (x : Float) → reported s p ≡ evidence.Number x → Finite x
@@ -47,20 +48,27 @@ pub record Accurate (s : Shot) : Type 0 where
   pub true-lead :
       (b : Hypothesis) (x : Float) (e : ℤ) → best s ≡ choice.Placement b → reported s (b .alignment) ≡ evidence.Number x → exact s (b .alignment) ≡ some e
       → ((q : GridAlignment) → Placement s q → (q ≡ b .alignment → ⊥) → Leads s x q)
-      → (q : GridAlignment) → Placement s q → (q ≡ b .alignment → ⊥) → (z : ℤ) → exact s q ≡ some z → T (ltZ z e)
+      → (q : GridAlignment) → Placement s q → (q ≡ b .alignment → ⊥) → (z : ℤ) → exact s q ≡ some z → z <ℤ e
+
+-- g as runner-up of b: a placement other than b's, with the evidence reported for it, that does not lie above b
+pub record RunsUp (s : Shot) (b g : Hypothesis) : Type 0 where
+  pub placed : Placement s (g .alignment)
+  pub other : g .alignment ≡ b .alignment → ⊥
+  pub evidence-is : g .evidence ≡ reported s (g .alignment)
+  pub not-above : liesBelow (b .evidence) (g .evidence) ≡ false
 
 -- ---- what the questions let pass
 pub record Sound (x : Sample) : Type 0 where
-  pub fraction : Between nought one (float (x .fraction))
+  pub fraction : Between nought unity (ofPattern (x .fraction))
   pub threshold : x .threshold < 256
   pub greys : (i : ℕ) → getD (x .grid) i 0 < 256
 
 pub record Checked (s : Shot) : Type 0 where
   pub small : s .bits ≤ 8
   pub table : T (isTable (tableOf s))
-  pub threshold : Finite (float (s .borderThreshold))
+  pub threshold : Finite (ofPattern (s .borderThreshold))
   pub few : cellTotal s ≤ 256
   pub cells : (k : ℕ) (x : Sample) → cell s k .sample ≡ some x → Sound x
 
 abbrev pub AccuracyRule : Type 0
-AccuracyRule = (s : Shot) → Checked s → Accurate s
+AccuracyRule = (s : Shot) → Checked s → AccurateEvidence s

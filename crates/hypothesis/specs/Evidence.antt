@@ -1,7 +1,7 @@
--- Document 01, Search: the evidence of a placement, reported and exact, and its capacity.
-use Prim.Native.Nat.{ℕ, zero, suc}
-use mathlib.Core.Bool.{Bool, true, false}
-use mathlib.Core.List.{List, map}
+-- Document 01, Search: the contributing cells of a placement, its evidence, reported and exact, and its capacity.
+use Prim.Native.Nat.{ℕ}
+use mathlib.Core.Bool.{cond}
+use mathlib.Core.List.{List, [], _∷_, map, foldl}
 use mathlib.Core.Option.{Option, none, some}
 use lib.ListN.{getD}
 use lib.IntN.{ℤ, pos, _+ℤ_}
@@ -12,100 +12,112 @@ use Rattle.grid_alignment.specs.declared.GridAlignment.{GridAlignment}
 use Rattle.grid_alignment.specs.Alignment.{applied}
 use Rattle.board.specs.declared.Numbered.{Numbered}
 use Rattle.board.specs.declared.Numbered.the-variants as numbered
-use Rattle.board.specs.Layout.{odd, markerAt}
+use Rattle.board.specs.declared.Board.{Board}
+use Rattle.board.specs.Layout.{markerOn}
+use Rattle.board.specs.Questions.{boardOf}
 use Rattle.score_matrix.specs.Scores.{Samples, samples, nullScore}
-use Rattle.score_matrix.specs.Weights.{sampledWeight}
+use Rattle.score_matrix.specs.declared.BorderSample.{BorderSample}
+use Rattle.score_matrix.specs.declared.BorderSample.the-variants as border
+use Rattle.score_matrix.specs.Weights.{weight}
 use Rattle.score_matrix.specs.Accuracy.{weighted, exactWeighted}
+use Rattle.lent_list.specs.Front.{upTo}
 use Rattle.shot_record.specs.Shots.{Sample, Shot}
-use Rattle.shot_record.specs.Answers.{float}
+use Rattle.shot_record.specs.Answers.{ofPattern, configOf, specOf, gridWith}
 use Rattle.ranking.specs.declared.Evidence.{Evidence}
 use Rattle.ranking.specs.declared.Evidence.the-variants as evidence
-use Rattle.hypothesis.specs.Placements.{cellTotal, cell, pointOf}
+use Rattle.hypothesis.specs.Placements.{cellTotal, cell, cellPoint}
 
--- the likelihood table, and what is sampled of a cell
+-- the board, the likelihood table, and the code of a marker after r quarter turns
+abbrev pub boardIn : Shot → Board
+boardIn s = boardOf (specOf s)
+
 abbrev pub tableOf : Shot → List Float
-tableOf s = map float (s .table)
-
-abbrev pub samplesOf : Shot → Sample → Samples
-samplesOf s x = samples (s .bits) (s .border) (x .threshold) (x .grid)
-
-abbrev pub weightOf : Shot → Sample → Float
-weightOf s x = sampledWeight (float (s .borderThreshold)) (float (x .fraction))
-
--- the marker that a placement expects in cell k, and the code of a marker after r quarter turns
-unfoldable pub expected : Shot → GridAlignment → ℕ → Numbered
-expected s p k = let q = applied p (pointOf s k) in markerAt odd (s .rows) (s .cols) (q .u) (q .v)
+tableOf s = map ofPattern (s .table)
 
 abbrev pub codeOf : Shot → ℕ → ℕ → ℕ
 codeOf s r m = turned (s .bits) r (getD (s .codes) m 0)
 
--- A contributing cell: marker expected and weight above 0. An unsampled cell has weight 0.
+-- The weight of cell k, and what is sampled of it. An unsampled cell has weight 0, threshold 0 and an empty grid.
+abbrev pub borderWith : Option Sample → BorderSample
+borderWith none = border.Unsampled
+borderWith (some x) = border.BlackFraction (ofPattern (x .fraction))
+
+abbrev pub weightWith : Shot → Option Sample → Float
+weightWith s o = weight (configOf s) (borderWith o)
+
+abbrev pub thresholdWith : Option Sample → ℕ
+thresholdWith none = 0
+thresholdWith (some x) = x .threshold
+
+abbrev pub samplesWith : Shot → Option Sample → Samples
+samplesWith s o = samples (s .bits) (s .border) (thresholdWith o) (gridWith o)
+
+abbrev pub weightOf : Shot → ℕ → Float
+weightOf s k = weightWith s (cell s k .sample)
+
+abbrev pub samplesOf : Shot → ℕ → Samples
+samplesOf s k = samplesWith s (cell s k .sample)
+
+-- the marker that a placement expects in cell k
+unfoldable pub expected : Shot → GridAlignment → ℕ → Numbered
+expected s p k = let q = applied p (cellPoint s k) in markerOn (boardIn s) (q .u) (q .v)
+
+-- A contributing cell: marker expected and weight above 0. `id` is that of the marker.
 pub record Contribution : Type 0 where
   pub weight : Float
   pub samples : Samples
-  pub code : ℕ
+  pub id : ℕ
 
-abbrev pub onlyIf : {A : Type 0} → Bool → A → Option A
-onlyIf true x = some x
-onlyIf false x = none
+abbrev pub contributedWith : Float → Samples → Numbered → List Contribution
+contributedWith w x numbered.Absent = []
+contributedWith w x (numbered.Id m) = cond (lt nought w) (record { weight = w; samples = x; id = m } ∷ []) []
 
-abbrev pub contributing : Shot → ℕ → Option Sample → Numbered → Option Contribution
-contributing s r none m = none
-contributing s r (some x) numbered.Absent = none
-contributing s r (some x) (numbered.Id m) = onlyIf (lt nought (weightOf s x)) (record { weight = weightOf s x; samples = samplesOf s x; code = codeOf s r m })
+-- cell k if it contributes, the contributing cells of the first n, and all of them, in cell order
+unfoldable pub contributed : Shot → GridAlignment → ℕ → List Contribution
+contributed s p k = contributedWith (weightOf s k) (samplesOf s k) (expected s p k)
 
-unfoldable pub contribution : Shot → GridAlignment → ℕ → Option Contribution
-contribution s p k = contributing s (p .turn) (cell s k .sample) (expected s p k)
+abbrev pub contributionsTo : Shot → GridAlignment → ℕ → List Contribution
+contributionsTo s p n = upTo (contributed s p) n
 
--- Of the cells 0 to n − 1 those that contribute, each turned to a number by f, summed from 0 in cell order; none where none contributes.
-abbrev pub joined : {A : Type 0} → (A → A → A) → A → Option A → Option A → Option A
-joined plus from sum none = sum
-joined plus from none (some x) = some (plus from x)
-joined plus from (some y) (some x) = some (plus y x)
+abbrev pub contributions : Shot → GridAlignment → List Contribution
+contributions s p = contributionsTo s p (cellTotal s)
 
-abbrev pub mapped : {A B : Type 0} → (A → B) → Option A → Option B
-mapped f none = none
-mapped f (some x) = some (f x)
+-- what a contributing cell adds after r quarter turns: weight × evidence, as f32 multiplies and exactly; and to the capacity weight × −null
+abbrev pub reportedTerm : Shot → ℕ → Contribution → Float
+reportedTerm s r c = weighted (c .weight) (tableOf s) (c .samples) (codeOf s r (c .id))
 
-unfoldable pub sumOver : {A : Type 0} → (A → A → A) → A → (Contribution → A) → (ℕ → Option Contribution) → ℕ → Option A
-sumOver plus from f t zero = none
-sumOver plus from f t (suc n) = joined plus from (sumOver plus from f t n) (mapped f (t n))
-
--- what a contributing cell adds: weight × evidence, as f32 multiplies and exactly; and to the capacity weight × −null
-abbrev pub reportedTerm : Shot → Contribution → Float
-reportedTerm s c = weighted (c .weight) (tableOf s) (c .samples) (c .code)
-
-abbrev pub exactTerm : Shot → Contribution → ℤ
-exactTerm s c = exactWeighted (c .weight) (tableOf s) (c .samples) (c .code)
+abbrev pub exactTerm : Shot → ℕ → Contribution → ℤ
+exactTerm s r c = exactWeighted (c .weight) (tableOf s) (c .samples) (codeOf s r (c .id))
 
 abbrev pub capacityTerm : Shot → Contribution → Float
 capacityTerm s c = mul binary32 (c .weight) (neg (nullScore (s .bits)))
 
--- the sums over the first n cells
-abbrev pub reportedTo : Shot → GridAlignment → ℕ → Option Float
-reportedTo s p n = sumOver (add binary32) nought (reportedTerm s) (contribution s p) n
+-- the sums from 0 over contributing cells in their order
+abbrev pub reportedSum : Shot → ℕ → List Contribution → Float
+reportedSum s r cs = foldl (λ (x : Float) (c : Contribution). add binary32 x (reportedTerm s r c)) nought cs
 
-abbrev pub exactTo : Shot → GridAlignment → ℕ → Option ℤ
-exactTo s p n = sumOver _+ℤ_ (pos 0) (exactTerm s) (contribution s p) n
+abbrev pub exactSum : Shot → ℕ → List Contribution → ℤ
+exactSum s r cs = foldl (λ (z : ℤ) (c : Contribution). z +ℤ exactTerm s r c) (pos 0) cs
 
-abbrev pub capacityTo : Shot → GridAlignment → ℕ → Option Float
-capacityTo s p n = sumOver (add binary32) nought (capacityTerm s) (contribution s p) n
+abbrev pub capacitySum : Shot → List Contribution → Float
+capacitySum s cs = foldl (λ (x : Float) (c : Contribution). add binary32 x (capacityTerm s c)) nought cs
 
--- A placement's reported evidence: the f32 sum, or none.
-abbrev pub number : Option Float → Evidence
-number none = evidence.Absent
-number (some x) = evidence.Number x
+-- A placement's reported evidence: the f32 sum, or none where no cell contributes.
+abbrev pub reportedOver : Shot → ℕ → List Contribution → Evidence
+reportedOver s r [] = evidence.Absent
+reportedOver s r (c ∷ cs) = evidence.Number (reportedSum s r (c ∷ cs))
 
 unfoldable pub reported : Shot → GridAlignment → Evidence
-reported s p = number (reportedTo s p (cellTotal s))
+reported s p = reportedOver s (p .turn) (contributions s p)
 
--- Its exact evidence in whole numbers of 2⁻²⁹⁸, or none.
+-- Its exact evidence in whole numbers of 2⁻²⁹⁸, or none where no cell contributes.
+abbrev pub exactOver : Shot → ℕ → List Contribution → Option ℤ
+exactOver s r [] = none
+exactOver s r (c ∷ cs) = some (exactSum s r (c ∷ cs))
+
 unfoldable pub exact : Shot → GridAlignment → Option ℤ
-exact s p = exactTo s p (cellTotal s)
+exact s p = exactOver s (p .turn) (contributions s p)
 
-abbrev pub orNought : Option Float → Float
-orNought none = nought
-orNought (some x) = x
-
+-- Its capacity: 0 where no cell contributes.
 unfoldable pub capacity : Shot → GridAlignment → Float
-capacity s p = orNought (capacityTo s p (cellTotal s))
+capacity s p = capacitySum s (contributions s p)

@@ -1,49 +1,67 @@
 -- The sums of all placements of a turn after the first n cells, as the search keeps them.
 use mathlib.Core.Path.{_≡_}
 use mathlib.Core.Bool.{Bool, true, false, _||_}
-use mathlib.Core.List.{List}
-use mathlib.Core.Option.{Option, none, some}
-use Prim.Native.Nat.{ℕ, _+_, _*_, _%_, _<_}
-use lib.Dec.{eqb}
+use mathlib.Core.List.{List, [], _∷_}
+use Prim.Native.Nat.{ℕ, _+_, _*_, _≤_, _<_}
 use lib.ListN.{length, getD}
 use lib.IntN.{natAbs, _-ℤ_}
 use lib.Ieee.{Float, nan}
 use Rattle.grid_alignment.specs.Alignment.{sends}
-use Rattle.score_matrix.specs.Scores.{nullScore}
+use Rattle.board.specs.Layout.{parityOf, holdsMarker}
+use Rattle.score_matrix.specs.Scores.{nullScore, score}
+use Rattle.score_matrix.specs.Likelihoods.{Sources}
 use Rattle.shot_record.specs.declared.ReadCell.{ReadCell}
-use Rattle.shot_record.specs.Shots.{Shot}
+use Rattle.shot_record.specs.Shots.{Shot, shot}
 use Rattle.hypothesis.specs.declared.Inputs.{Inputs}
 use Rattle.hypothesis.specs.declared.sums.Counted.{Counted}
 use Rattle.hypothesis.specs.declared.fill.Turn.{Turn}
 use Rattle.hypothesis.specs.declared.turns.Seen.{Seen}
-use Rattle.hypothesis.specs.Placements.{frame, across, down, shifted}
-use Rattle.hypothesis.specs.Evidence.{reportedTo, orNought}
-use Rattle.hypothesis.specs.Reads.{pointRead}
+use Rattle.hypothesis.specs.Placements.{frame, movesAcross, movesDown, shifted}
+use Rattle.hypothesis.specs.Evidence.{tableOf, codeOf, samplesOf, contributionsTo, reportedSum}
+use Rattle.hypothesis.specs.Inputs.{Loaded}
+use Rattle.hypothesis.specs.Reads.{pointRead, weightRead}
 use Rattle.hypothesis.specs.Turns.{seenAt}
 
-abbrev pub isSome : {A : Type 0} → Option A → Bool
-isSome none = false
-isSome (some x) = true
+abbrev pub nonempty : {A : Type 0} → List A → Bool
+nonempty [] = false
+nonempty (x ∷ xs) = true
 
--- a sum that has no cell yet is 0
+-- each sum, and whether some cell contributes to it
 pub record SumsTo (s : Shot) (r n : ℕ) (sums : List Float) (seen : Seen) : Type 0 where
   pub size : length sums ≡ 1024
-  pub value : (a b : ℕ) → a < across s r → b < down s r → getD sums (a * down s r + b) nan ≡ orNought (reportedTo s (shifted s r a b) n)
-  pub told : (a b : ℕ) → a < across s r → b < down s r → seenAt seen (a + b) ≡ isSome (reportedTo s (shifted s r a b) n)
+  pub value : (a b : ℕ) → a < movesAcross s r → b < movesDown s r
+      → getD sums (a * movesDown s r + b) nan ≡ reportedSum s r (contributionsTo s (shifted s r a b) n)
+  pub told : (a b : ℕ) → a < movesAcross s r → b < movesDown s r → seenAt seen (a + b) ≡ nonempty (contributionsTo s (shifted s r a b) n)
 
 abbrev pub noneSeen : Seen
 noneSeen = record { even = false; odd = false }
 
--- what is seen once a cell on square (i, j) of the frame counts: it lands on markers where i + j + a + b is odd
-abbrev pub seenWith : Seen → ℕ → Seen
-seenWith seen n = record { even = seen .even || eqb (n % 2) 1; odd = seen .odd || eqb (n % 2) 0 }
+-- what is seen once a cell counts: whether its square in the frame holds a marker where the frame is moved by (0, 0), and by (1, 0)
+abbrev pub seenWith : Seen → Counted → Seen
+seenWith seen c =
+    let p = parityOf (c .board) in
+    record { even = seen .even || holdsMarker p (c .i) (c .j); odd = seen .odd || holdsMarker p (c .i + 1) (c .j) }
 
 -- a turn, as the search keeps it
-abbrev pub turnOf : Shot → ℕ → Turn
-turnOf s r = record { turn = r; u = frame s r .u; v = frame s r .v; across = across s r; down = down s r }
+abbrev pub turnOf : Inputs → Shot → ℕ → Turn
+turnOf i s r = record { inputs = i; turn = r; u = frame s r .u; v = frame s r .v; across = movesAcross s r; down = movesDown s r }
 
--- a cell that counts, by what is read of it
-abbrev pub countedOf : Inputs → Turn → ReadCell → Float → Counted
-countedOf i t read weight =
-    let p = sends (t .turn % 4) (pointRead read) in
-    record { i = natAbs (p .u -ℤ t .u); j = natAbs (p .v -ℤ t .v); weight = weight; null = nullScore (i .board .bits); bits = i .board .bits; cols = i .board .cols }
+-- What the sums of a turn are made of: the turn of a record that was loaded, on whose board its frame fits, and where the bits of a turned code
+-- come from.
+pub record Turning (bytes starts : List ℕ) (table : List Float) (codes sources : List ℕ) (t : Turn) : Type 0 where
+  pub loaded : Loaded bytes (t .inputs) starts table codes
+  pub is : t ≡ turnOf (t .inputs) (shot bytes) (t .turn)
+  pub sources-are : Sources (t .inputs .board .bits) (t .turn) (t .inputs .board .bits * t .inputs .board .bits) sources
+  pub fits : (0 < t .across) × (0 < t .down)
+  pub near : (natAbs (t .u) ≤ 4096) × (natAbs (t .v) ≤ 4096)
+
+-- a cell that was read, as one that may count
+abbrev pub countedOf : Turn → ReadCell → Counted
+countedOf t read =
+    let p = sends (t .turn) (pointRead read) in
+    let i = t .inputs in
+    record { i = natAbs (p .u -ℤ t .u); j = natAbs (p .v -ℤ t .v); weight = weightRead (i .config) read; null = nullScore (i .board .bits); board = i .board }
+
+-- the scores of cell n after r quarter turns, by the marker's id
+abbrev pub CellScores : Shot → ℕ → ℕ → (ℕ → Float) → Type 0
+CellScores s r n scores = (m : ℕ) → m < 512 → scores m ≡ score (tableOf s) (samplesOf s n) (codeOf s r m)

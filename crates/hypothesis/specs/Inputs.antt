@@ -6,21 +6,20 @@ use Prim.Native.Nat.{ℕ, _*_, _≤_, _<_}
 use lib.ListN.{length, getD}
 use lib.IntN.{natAbs}
 use lib.Ieee.{Float}
-use Rattle.board.specs.Questions.{boardOf}
 use Rattle.score_matrix.specs.Scores.{side}
 use Rattle.shot_record.specs.Shots.{Sample, Shot, list, shot}
-use Rattle.shot_record.specs.Answers.{configOf, specOf, Indexed}
+use Rattle.shot_record.specs.Answers.{configOf, Indexed}
 use Rattle.hypothesis.specs.declared.Inputs.{Inputs}
 use Rattle.hypothesis.specs.Placements.{cellTotal, cell}
-use Rattle.hypothesis.specs.Evidence.{tableOf}
+use Rattle.hypothesis.specs.Evidence.{boardIn, tableOf}
 use Rattle.hypothesis.specs.Accuracy.{Checked}
 
 -- the first 512 codes, those of all markers that a board can have
 abbrev pub firstCodes : Shot → List ℕ
 firstCodes s = list (λ (k : ℕ). getD (s .codes) k 0) 512
 
--- what the questions let pass, as far as the search leans on it
-pub record Passed (s : Shot) : Type 0 where
+-- what the questions let pass, as far as the search uses it
+pub record PassedShot (s : Shot) : Type 0 where
   pub checked : Checked s
   pub rows : s .rows ≤ 32
   pub cols : s .cols ≤ 32
@@ -29,9 +28,9 @@ pub record Passed (s : Shot) : Type 0 where
   pub grids : (k : ℕ) (x : Sample) → cell s k .sample ≡ some x → length (x .grid) ≡ side (s .bits) (s .border) * side (s .bits) (s .border)
 
 pub record Ready (bytes : List ℕ) (i : Inputs) (starts : List ℕ) : Type 0 where
-  pub passed : Passed (shot bytes)
+  pub passed : PassedShot (shot bytes)
   pub index : Indexed bytes (i .fields) starts
-  pub board : i .board ≡ boardOf (specOf (shot bytes))
+  pub board : i .board ≡ boardIn (shot bytes)
   pub config : i .config ≡ configOf (shot bytes)
 
 -- with the likelihood table and the codes

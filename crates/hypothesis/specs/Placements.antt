@@ -8,7 +8,7 @@ use lib.IntN.{ℤ, pos, natAbs, _-ℤ_}
 use lib.Signed.{leZ}
 use Rattle.grid_alignment.specs.declared.Coord.{Coord}
 use Rattle.grid_alignment.specs.declared.GridAlignment.{GridAlignment}
-use Rattle.grid_alignment.specs.Alignment.{point, sends, least}
+use Rattle.grid_alignment.specs.Alignment.{point, sends, lesser}
 use Rattle.shot_record.specs.Shots.{Cell, Shot, list}
 use Rattle.hypothesis.specs.declared.Frame.{Frame}
 
@@ -23,24 +23,24 @@ noCell = record { u = pos 0; v = pos 0; sample = none }
 abbrev pub cell : Shot → ℕ → Cell
 cell s k = getD (s .cells) k noCell
 
-abbrev pub pointOf : Shot → ℕ → Coord
-pointOf s k = point (cell s k .u) (cell s k .v)
+abbrev pub cellPoint : Shot → ℕ → Coord
+cellPoint s k = point (cell s k .u) (cell s k .v)
 
 -- the point of cell k after r quarter turns
 abbrev pub turnedPoint : Shot → ℕ → ℕ → Coord
-turnedPoint s r k = sends r (pointOf s k)
+turnedPoint s r k = sends r (cellPoint s k)
 
 -- the least and the greatest of f 0 to f n
 unfoldable pub leastTo : (ℕ → ℤ) → ℕ → ℤ
 leastTo f zero = f 0
-leastTo f (suc n) = least (leastTo f n) (f (suc n))
+leastTo f (suc n) = lesser (leastTo f n) (f (suc n))
 
-abbrev pub greatest : ℤ → ℤ → ℤ
-greatest x y = cond (leZ x y) y x
+abbrev pub higher : ℤ → ℤ → ℤ
+higher x y = cond (leZ x y) y x
 
 unfoldable pub greatestTo : (ℕ → ℤ) → ℕ → ℤ
 greatestTo f zero = f 0
-greatestTo f (suc n) = greatest (greatestTo f n) (f (suc n))
+greatestTo f (suc n) = higher (greatestTo f n) (f (suc n))
 
 -- The frame of the turned cells: its least u and v, and its width and height in squares.
 abbrev pub squares : ℤ → ℤ → ℕ
@@ -66,11 +66,11 @@ unfoldable pub frame : Shot → ℕ → Frame
 frame s r = frameTo s r (cellTotal s - 1)
 
 -- In how many ways the frame moves on the board: across and down, 0 where it is too wide or too high.
-abbrev pub across : Shot → ℕ → ℕ
-across s r = s .cols + 1 - frame s r .width
+abbrev pub movesAcross : Shot → ℕ → ℕ
+movesAcross s r = s .cols + 1 - frame s r .width
 
-abbrev pub down : Shot → ℕ → ℕ
-down s r = s .rows + 1 - frame s r .height
+abbrev pub movesDown : Shot → ℕ → ℕ
+movesDown s r = s .rows + 1 - frame s r .height
 
 -- The frame of turn r with its least point on square (a, b).
 abbrev pub shifted : Shot → ℕ → ℕ → ℕ → GridAlignment
@@ -78,10 +78,10 @@ shifted s r a b = record { turn = r; tx = pos a -ℤ frame s r .u; ty = pos b -�
 
 -- For each turn in order every translation, tx outer, ty inner, rising.
 abbrev pub placementAt : Shot → ℕ → ℕ → GridAlignment
-placementAt s r k = shifted s r (k / down s r) (k % down s r)
+placementAt s r k = shifted s r (k / movesDown s r) (k % movesDown s r)
 
 abbrev pub withTurn : Shot → ℕ → List GridAlignment
-withTurn s r = list (placementAt s r) (across s r * down s r)
+withTurn s r = list (placementAt s r) (movesAcross s r * movesDown s r)
 
 unfoldable pub withTurnsBelow : Shot → ℕ → List GridAlignment
 withTurnsBelow s zero = []

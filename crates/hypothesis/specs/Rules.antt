@@ -1,19 +1,23 @@
--- What `proofs/` shows of the placements.
+-- What `proofs/` shows of the placements, and of their evidence.
 use Prim.Native.Nat.{ℕ, _+_, _-_, _*_, _<_}
 use mathlib.Core.Path.{_≡_}
 use mathlib.Core.Logic.{_⊎_}
-use mathlib.Core.Bool.{_&&_, cond}
-use mathlib.Core.Option.{some}
-use lib.Dec.{T, leb}
-use lib.ListN.{length}
+use mathlib.Core.Bool.{true, _&&_, cond}
+use mathlib.Core.Option.{none, some}
+use lib.Dec.{leb}
+use lib.ListN.{length, getElem?}
 use lib.IntN.{pos}
-use lib.Signed.{ltZ}
+use lib.Signed.{_<ℤ_}
+use lib.Ieee.{lt}
+use Rattle.floats.specs.Units.{nought}
 use Rattle.grid_alignment.specs.declared.Coord.{Coord}
 use Rattle.grid_alignment.specs.declared.GridAlignment.{GridAlignment}
 use Rattle.grid_alignment.specs.Alignment.{applied}
+use Rattle.board.specs.declared.Numbered.the-variants as numbered
 use Rattle.shot_record.specs.Shots.{Shot}
-use Rattle.lent_list.specs.Places.{nth}
-use Rattle.hypothesis.specs.Placements.{cellTotal, pointOf, frame, placements}
+use Rattle.ranking.specs.declared.Evidence.the-variants as evidence
+use Rattle.hypothesis.specs.Placements.{cellTotal, cellPoint, frame, placements}
+use Rattle.hypothesis.specs.Evidence.{weightOf, expected, reported, exact}
 
 -- a point on a square of the board
 pub record OnBoard (s : Shot) (p : Coord) : Type 0 where
@@ -25,11 +29,11 @@ pub record OnBoard (s : Shot) (p : Coord) : Type 0 where
 
 -- a turn and a translation that put all cells on the board
 abbrev pub Fits : Shot → GridAlignment → Type 0
-Fits s p = (p .turn < 4) × ((k : ℕ) → k < cellTotal s → OnBoard s (applied p (pointOf s k)))
+Fits s p = (p .turn < 4) × ((k : ℕ) → k < cellTotal s → OnBoard s (applied p (cellPoint s k)))
 
 -- by turn, then tx, then ty
-abbrev pub Before : GridAlignment → GridAlignment → Type 0
-Before p q = (p .turn < q .turn) ⊎ ((p .turn ≡ q .turn) × (T (ltZ (p .tx) (q .tx)) ⊎ ((p .tx ≡ q .tx) × T (ltZ (p .ty) (q .ty)))))
+abbrev pub Precedes : GridAlignment → GridAlignment → Type 0
+Precedes p q = (p .turn < q .turn) ⊎ ((p .turn ≡ q .turn) × ((p .tx <ℤ q .tx) ⊎ ((p .tx ≡ q .tx) × (p .ty <ℤ q .ty))))
 
 -- document 01's count: the sum, over turns that fit, of (cols − width + 1) × (rows − height + 1)
 abbrev pub countWith : Shot → ℕ → ℕ
@@ -41,11 +45,28 @@ abbrev pub countOf : Shot → ℕ
 countOf s = countWith s 0 + countWith s 1 + countWith s 2 + countWith s 3
 
 -- the placements are exactly those that fit, each once and in order, as many as document 01 says
-pub record InOrder (s : Shot) : Type 0 where
-  pub sound : (k : ℕ) (p : GridAlignment) → nth (placements s) k ≡ some p → Fits s p
-  pub complete : (p : GridAlignment) → Fits s p → (k : ℕ) × (nth (placements s) k ≡ some p)
-  pub rising : (i j : ℕ) (p q : GridAlignment) → i < j → nth (placements s) i ≡ some p → nth (placements s) j ≡ some q → Before p q
+pub record PlacementsInOrder (s : Shot) : Type 0 where
+  pub sound : (k : ℕ) (p : GridAlignment) → getElem? (placements s) k ≡ some p → Fits s p
+  pub complete : (p : GridAlignment) → Fits s p → (k : ℕ) × (getElem? (placements s) k ≡ some p)
+  pub rising : (i j : ℕ) (p q : GridAlignment) → i < j → getElem? (placements s) i ≡ some p → getElem? (placements s) j ≡ some q → Precedes p q
   pub count : length (placements s) ≡ countOf s
 
 abbrev pub PlacementsRule : Type 0
-PlacementsRule = (s : Shot) → 0 < cellTotal s → InOrder s
+PlacementsRule = (s : Shot) → 0 < cellTotal s → PlacementsInOrder s
+
+-- a contributing cell: a marker is expected in it, and its weight is above 0
+pub record Contributes (s : Shot) (p : GridAlignment) (k : ℕ) : Type 0 where
+  pub inside : k < cellTotal s
+  pub id : ℕ
+  pub marker : expected s p k ≡ numbered.Id id
+  pub weight : lt nought (weightOf s k) ≡ true
+
+-- evidence, reported and exact, is none exactly if no cell contributes
+pub record NoneExactly (s : Shot) (p : GridAlignment) : Type 0 where
+  pub reported-if : ((k : ℕ) → Contributes s p k → ⊥) → reported s p ≡ evidence.Absent
+  pub reported-only-if : reported s p ≡ evidence.Absent → (k : ℕ) → Contributes s p k → ⊥
+  pub exact-if : ((k : ℕ) → Contributes s p k → ⊥) → exact s p ≡ none
+  pub exact-only-if : exact s p ≡ none → (k : ℕ) → Contributes s p k → ⊥
+
+abbrev pub NoneRule : Type 0
+NoneRule = (s : Shot) (p : GridAlignment) → NoneExactly s p

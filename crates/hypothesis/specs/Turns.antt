@@ -17,7 +17,7 @@ use Rattle.ranking.specs.Ranking.{rankedTo}
 use Rattle.hypothesis.specs.declared.Frame.{Frame}
 use Rattle.hypothesis.specs.declared.Selection.{Selection}
 use Rattle.hypothesis.specs.declared.turns.Seen.{Seen}
-use Rattle.hypothesis.specs.Placements.{across, down, shifted}
+use Rattle.hypothesis.specs.Placements.{movesAcross, movesDown, shifted}
 use Rattle.hypothesis.specs.Evidence.{reported}
 
 -- Whether some cell contributes, of the placements that move the frame by n squares in all.
@@ -30,7 +30,7 @@ evidenceAt sums seen d a b = cond (seenAt seen (a + b)) (evidence.Number (getD s
 
 -- the sums and what was seen are those of all placements of turn r
 abbrev pub Summed : Shot → ℕ → List Float → Seen → Type 0
-Summed s r sums seen = (a b : ℕ) → a < across s r → b < down s r → evidenceAt sums seen (down s r) a b ≡ reported s (shifted s r a b)
+Summed s r sums seen = (a b : ℕ) → a < movesAcross s r → b < movesDown s r → evidenceAt sums seen (movesDown s r) a b ≡ reported s (shifted s r a b)
 
 -- the placement with its frame moved by (a, b), with its evidence
 abbrev pub movedTo : List Float → Seen → Frame → ℕ → ℕ → ℕ → ℕ → Hypothesis

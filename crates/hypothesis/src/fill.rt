@@ -1,19 +1,21 @@
 // The sums of all placements of one turn, over the cells of a record in order.
 ghost use mathlib.Core.Path.{_≡_};
-ghost use mathlib.Core.List.{List};
-ghost use Prim.Native.Nat.{_+_, _*_, _%_, _<_, _≤_};
+ghost use mathlib.Core.Bool.{true};
+ghost use mathlib.Core.Option.{some};
+ghost use Prim.Native.Nat.{_+_, _*_, _<_, _≤_};
 ghost use lib.ListN.{length};
 ghost use lib.IntN.{natAbs};
-ghost use lib.Ieee.{Float};
-ghost use Rattle.score_matrix.specs.Scores.{side, samples};
-ghost use Rattle.score_matrix.specs.Likelihoods.{Holds, Sources};
-ghost use Rattle.shot_record.specs.Shots.{shot};
+ghost use lib.Ieee.{lt};
+ghost use Rattle.floats.specs.Units.{nought};
+ghost use Rattle.score_matrix.specs.Likelihoods.{HoldsLikelihoods};
+ghost use Rattle.shot_record.specs.Shots.{shot, cellOf};
+ghost use Rattle.shot_record.specs.Answers.{cellRead};
 ghost use Rattle.hypothesis.specs.Placements.{cellTotal};
-ghost use Rattle.hypothesis.specs.Inputs.{Loaded};
-ghost use Rattle.hypothesis.specs.Sums.{Added, Stays, Small};
-ghost use Rattle.hypothesis.specs.Reads.{pointRead};
+ghost use Rattle.hypothesis.specs.Evidence.{tableOf, weightOf, samplesOf};
+ghost use Rattle.hypothesis.specs.Inputs.{Ready};
+ghost use Rattle.hypothesis.specs.Reads.{NearRead};
 ghost use Rattle.hypothesis.specs.Turns.{Summed};
-ghost use Rattle.hypothesis.specs.Filling.{turnOf, countedOf, noneSeen, SumsTo, seenWith};
+ghost use Rattle.hypothesis.specs.Filling.{Turning, countedOf, noneSeen, SumsTo, seenWith};
 use super::Inputs;
 use super::reads;
 use super::sums;
@@ -25,6 +27,7 @@ use shot_record::cells;
 
 // A turn: the least u and v of its frame, and in how many ways the frame moves on the board.
 pub struct Turn {
+    pub inputs: Inputs,
     pub turn: u8,
     pub u: i32,
     pub v: i32,
@@ -32,11 +35,19 @@ pub struct Turn {
     pub down: usize,
 }
 
-// A cell that lies i + j squares into the frame lands on a marker where i + j + a + b is odd.
-fn seen_with(seen: Seen, squares: usize) -> Seen
-    ensures { λ r. ⌜ r ≡ seenWith seen squares ⌝ }
+// The cells before k are added, and what was seen of them.
+pub struct Progress {
+    pub k: usize,
+    pub seen: Seen,
+}
+
+// A cell lands on markers in the placements that move the frame by an even number of squares if its square in the frame holds one. In the others
+// it does if the square beside that one does, so if that one does not.
+fn seen_with(seen: Seen, cell: Counted) -> Seen
+    ensures { λ r. ⌜ r ≡ seenWith seen cell ⌝ }
 {
-    if squares % 2 == 1 {
+    let board = cell.board;
+    if board.holds_marker(cell.i, cell.j) {
         return Seen {
             even: true,
             odd: seen.odd,
@@ -48,124 +59,106 @@ fn seen_with(seen: Seen, squares: usize) -> Seen
     }
 }
 
-// Adds a cell by what is sampled of it.
-fn add_sampled(
-    sums: &mut [f32; 1024],
-    cell: Counted,
-    across: usize,
-    down: usize,
-    border: u8,
-    threshold: u8,
-    grid: &[u8],
-    table: &[f32; 511],
-    codes: &[u64; 512],
-    sources: &[u8; 64],
-)
-    requires { ⌜ Stays cell across down × Small (cell .bits * cell .bits) (now sources) × (across * down ≤ 1024) × (length (now sums) ≡ 1024) ⌝ }
-    requires { do ⌜ (← ⟦grid.len()⟧) ≡ side (cell .bits) border * side (cell .bits) border ⌝ }
-    ensures size { λ _. ⌜ length (now (sums .exit)) ≡ 1024 ⌝ }
-    ensures added { λ _. ⌜ ((l : List Float) × Holds (now (table .entry)) (samples (cell .bits) border threshold (now (grid .entry))) (cell .bits * cell .bits) l
-        × Added cell l (now (sources .entry)) (now (codes .entry)) across down (now (sums .entry)) (now (sums .exit))) ⌝ }
+// What the cell is: its square in the frame and its weight.
+fn counted(t: Turn, read: ReadCell) -> Counted
+    requires { ⌜ NearRead read × (natAbs (t .u) ≤ 4096) × (natAbs (t .v) ≤ 4096) ⌝ }
+    ensures { λ r. ⌜ r ≡ countedOf t read ⌝ }
 {
-    let likelihoods = cell::bit_likelihoods(table, grid, threshold, cell.bits, border);
-    sums::add_cell(sums, cell, across, down, &likelihoods, sources, codes);
-}
-
-// The square of a cell in the frame, and what else its sums need.
-fn counted(inputs: Inputs, t: Turn, read: ReadCell, weight: f32) -> Counted
-    requires { ⌜ (natAbs (pointRead read .u) ≤ 4096) × (natAbs (pointRead read .v) ≤ 4096) × (natAbs (t .u) ≤ 4096) × (natAbs (t .v) ≤ 4096) ⌝ }
-    ensures { λ r. ⌜ r ≡ countedOf inputs t read weight ⌝ }
-{
-    let p = reads::turned(t.turn, read);
+    let inputs = t.inputs;
     let board = inputs.board;
+    let p = reads::turned(t.turn, read);
     Counted {
         i: integers::distance(p.u, t.u),
         j: integers::distance(p.v, t.v),
-        weight,
+        weight: reads::weight(inputs.config, read),
         null: score_matrix::null_score(board.bits),
-        bits: board.bits,
-        cols: board.cols as usize,
+        board,
     }
 }
 
-// Adds cell k of the record, if it counts.
-fn add_read(
-    sums: &mut [f32; 1024],
-    seen: Seen,
+// What its scores are made of: what each bit of a code adds for cell k, which weighs more than 0.
+fn likelihoods(
     bytes: &[u8],
     inputs: Inputs,
+    starts: &[u16; 256],
+    table: &[f32; 511],
+    k: usize,
+    read: ReadCell,
+) -> [f32; 128]
+    requires { ⌜ Ready (now bytes) inputs (now starts) × (now table ≡ tableOf (shot (now bytes))) × (k < cellTotal (shot (now bytes)))
+        × (read ≡ cellRead (some (cellOf (now bytes) k))) × (lt nought (weightOf (shot (now bytes)) k) ≡ true) ⌝ }
+    ensures { λ r. ⌜ HoldsLikelihoods (tableOf (shot (now (bytes .entry)))) (samplesOf (shot (now (bytes .entry))) k)
+        (inputs .board .bits * inputs .board .bits) r ⌝ }
+{
+    let board = inputs.board;
+    let fields = inputs.fields;
+    let grid = cells::grid_at(bytes, fields, starts, k);
+    cell::bit_likelihoods(
+        table,
+        grid,
+        reads::threshold(read),
+        board.bits,
+        board.border_bits,
+    )
+}
+
+// Adds the next cell of the record, if it counts.
+fn add_read(
+    sums: &mut [f32; 1024],
+    progress: Progress,
+    bytes: &[u8],
     starts: &[u16; 256],
     table: &[f32; 511],
     codes: &[u64; 512],
     sources: &[u8; 64],
     t: Turn,
-    k: usize,
-) -> Seen
-    requires { ⌜ Loaded (now bytes) inputs (now starts) (now table) (now codes) × (t ≡ turnOf (shot (now bytes)) (t .turn)) × (t .turn < 4)
-        × Sources (inputs .board .bits) (t .turn) (inputs .board .bits * inputs .board .bits) (now sources) × (k < cellTotal (shot (now bytes))) × (length (now sums) ≡ 1024)
-        × (0 < t .across) × (0 < t .down) × (natAbs (t .u) ≤ 4096) × (natAbs (t .v) ≤ 4096) ⌝ }
-    ensures { λ r. ⌜ (SumsTo (shot (now (bytes .entry))) (t .turn) k (now (sums .entry)) seen → SumsTo (shot (now (bytes .entry))) (t .turn) (k + 1) (now (sums .exit)) r) ⌝ }
+) -> Progress
+    requires { ⌜ Turning (now bytes) (now starts) (now table) (now codes) (now sources) t
+        × (progress .k < cellTotal (shot (now bytes))) × (length (now sums) ≡ 1024) ⌝ }
+    ensures next { λ r. ⌜ r .k ≡ progress .k + 1 ⌝ }
+    ensures sums { λ r. ⌜ (SumsTo (shot (now (bytes .entry))) (t .turn) (progress .k) (now (sums .entry)) (progress .seen)
+        → SumsTo (shot (now (bytes .entry))) (t .turn) (progress .k + 1) (now (sums .exit)) (r .seen)) ⌝ }
 {
+    let inputs = t.inputs;
     let fields = inputs.fields;
+    let seen = progress.seen;
+    let k = progress.k;
     let read = cells::cell_at(bytes, fields, starts, k);
-    let weight = reads::weight(inputs.config, read);
-    if 0.0 < weight {
-        let cell = counted(inputs, t, read, weight);
-        let board = inputs.board;
-        let grid = cells::grid_at(bytes, fields, starts, k);
-        add_sampled(
-            sums,
-            cell,
-            t.across,
-            t.down,
-            board.border_bits,
-            reads::threshold(read),
-            grid,
-            table,
-            codes,
-            sources,
-        );
-        return seen_with(seen, cell.i + cell.j);
+    let cell = counted(t, read);
+    if 0.0 < cell.weight {
+        let adds = likelihoods(bytes, inputs, starts, table, k, read);
+        sums::add_cell(sums, cell, t.across, t.down, &adds, sources, codes);
+        return Progress {
+            k: k + 1,
+            seen: seen_with(seen, cell),
+        };
     }
-    seen
+    Progress { k: k + 1, seen }
 }
 
 // The sums of a turn over all cells, in their order.
 pub fn fill(
     sums: &mut [f32; 1024],
     bytes: &[u8],
-    inputs: Inputs,
     starts: &[u16; 256],
     table: &[f32; 511],
     codes: &[u64; 512],
     sources: &[u8; 64],
     t: Turn,
 ) -> Seen
-    requires { ⌜ Loaded (now bytes) inputs (now starts) (now table) (now codes) × (t ≡ turnOf (shot (now bytes)) (t .turn)) × (t .turn < 4)
-        × Sources (inputs .board .bits) (t .turn) (inputs .board .bits * inputs .board .bits) (now sources) × SumsTo (shot (now bytes)) (t .turn) 0 (now sums) noneSeen
-        × (0 < t .across) × (0 < t .down) × (natAbs (t .u) ≤ 4096) × (natAbs (t .v) ≤ 4096) ⌝ }
+    requires { ⌜ Turning (now bytes) (now starts) (now table) (now codes) (now sources) t × SumsTo (shot (now bytes)) (t .turn) 0 (now sums) noneSeen ⌝ }
     ensures { λ r. ⌜ Summed (shot (now (bytes .entry))) (t .turn) (now (sums .exit)) r ⌝ }
 {
-    let count = inputs.fields.cell_count;
-    let mut seen = Seen {
-        even: false,
-        odd: false,
+    let count = t.inputs.fields.cell_count;
+    let mut progress = Progress {
+        k: 0,
+        seen: Seen {
+            even: false,
+            odd: false,
+        },
     };
-    let mut k = 0;
-    while k < count {
-        seen = add_read(
-            sums,
-            seen,
-            bytes,
-            inputs,
-            starts,
-            table,
-            codes,
-            sources,
-            t,
-            k,
-        );
-        k += 1;
+    while progress.k < count {
+        progress = add_read(sums, progress, bytes, starts, table, codes, sources, t);
     }
-    seen
+    progress.seen
 }

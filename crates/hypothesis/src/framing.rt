@@ -1,9 +1,9 @@
-// The frame of the cells after a turn: their least u and v, and how many squares they take. Leans on the reading of cells.
+// The frame of the cells after a turn: their least u and v, and how many squares they take. Uses the reading of cells.
 ghost use mathlib.Core.Path.{_≡_};
 ghost use Prim.Native.Nat.{_-_, _≤_, _<_};
 ghost use lib.IntN.{natAbs};
 ghost use Rattle.shot_record.specs.Shots.{shot};
-ghost use Rattle.hypothesis.specs.Placements.{cellTotal, turnedPoint, greatest, frame as frameOf};
+ghost use Rattle.hypothesis.specs.Placements.{cellTotal, turnedPoint, higher, frame as frameOf};
 ghost use Rattle.hypothesis.specs.Inputs.{Ready};
 ghost use Rattle.hypothesis.specs.Extremes.{sidesTo};
 use super::Frame;
@@ -21,7 +21,7 @@ pub struct Sides {
 }
 
 fn max(x: i32, y: i32) -> i32
-    ensures { λ r. ⌜ r ≡ greatest x y ⌝ }
+    ensures { λ r. ⌜ r ≡ higher x y ⌝ }
 {
     if x <= y {
         return y;

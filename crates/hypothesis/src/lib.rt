@@ -1,4 +1,4 @@
-// The search for the placement (hypothesis.rs). Leans on `integers`, `floats`, `matcher`, `grid_alignment`, `board`, `score_matrix`,
+// The search for the placement (hypothesis.rs). Uses `integers`, `floats`, `matcher`, `grid_alignment`, `board`, `score_matrix`,
 // `shot_record` and `ranking`.
 mod capacity;
 mod fill;

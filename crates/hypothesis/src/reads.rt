@@ -1,14 +1,14 @@
 // What the search takes from a cell that it reads: its grid point after a turn, and its weight.
 ghost use mathlib.Core.Path.{_≡_};
-ghost use Prim.Native.Nat.{_%_};
 ghost use Rattle.grid_alignment.specs.Alignment.{sends};
-ghost use Rattle.hypothesis.specs.Reads.{pointRead, weightRead, thresholdRead};
+ghost use Rattle.hypothesis.specs.Reads.{pointRead, borderRead, weightRead, thresholdRead};
 use grid_alignment::Coord;
 use score_matrix::BoardMatchConfig;
+use score_matrix::BorderSample;
 use shot_record::ReadCell;
 
 pub fn turned(turn: u8, read: ReadCell) -> Coord
-    ensures { λ r. ⌜ r ≡ sends (turn % 4) (pointRead read) ⌝ }
+    ensures { λ r. ⌜ r ≡ sends turn (pointRead read) ⌝ }
 {
     match read {
         ReadCell::Sampled {
@@ -23,8 +23,8 @@ pub fn turned(turn: u8, read: ReadCell) -> Coord
     }
 }
 
-pub fn weight(config: BoardMatchConfig, read: ReadCell) -> f32
-    ensures { λ r. ⌜ r ≡ weightRead config read ⌝ }
+fn border(read: ReadCell) -> BorderSample
+    ensures { λ r. ⌜ r ≡ borderRead read ⌝ }
 {
     match read {
         ReadCell::Sampled {
@@ -32,11 +32,17 @@ pub fn weight(config: BoardMatchConfig, read: ReadCell) -> f32
             v: _,
             fraction,
             threshold: _,
-        } => score_matrix::cell_weight(config, true, fraction),
-        ReadCell::Unsampled { u: _, v: _ } => 0.0,
-        ReadCell::Absent => 0.0,
-        ReadCell::Refused(_) => 0.0,
+        } => BorderSample::BlackFraction(fraction),
+        ReadCell::Unsampled { u: _, v: _ } => BorderSample::Unsampled,
+        ReadCell::Absent => BorderSample::Unsampled,
+        ReadCell::Refused(_) => BorderSample::Unsampled,
     }
+}
+
+pub fn weight(config: BoardMatchConfig, read: ReadCell) -> f32
+    ensures { λ r. ⌜ r ≡ weightRead config read ⌝ }
+{
+    score_matrix::cell_weight(config, border(read))
 }
 
 // 0 for an unsampled cell.

@@ -39,7 +39,8 @@ fn search_turn(
     codes: &[u64; 512],
     turn: u8,
 ) -> Ranking
-    requires { ⌜ Loaded (now bytes) inputs (now starts) (now table) (now codes) × (turn < 4) × (ranking ≡ rankingOf (map (hypothesis (shot (now bytes))) (withTurnsBelow (shot (now bytes)) turn))) ⌝ }
+    requires { ⌜ Loaded (now bytes) inputs (now starts) (now table) (now codes) × (turn < 4)
+        × (ranking ≡ rankingOf (map (hypothesis (shot (now bytes))) (withTurnsBelow (shot (now bytes)) turn))) ⌝ }
     ensures { λ r. ⌜ r ≡ rankingOf (map (hypothesis (shot (now (bytes .entry)))) (withTurnsBelow (shot (now (bytes .entry))) (turn + 1))) ⌝ }
 {
     let frame = framing::frame(bytes, inputs, starts, turn);
@@ -53,6 +54,7 @@ fn search_turn(
         return ranking;
     }
     let t = Turn {
+        inputs,
         turn,
         u: frame.u,
         v: frame.v,
@@ -61,7 +63,7 @@ fn search_turn(
     };
     let sources = turned::source_bits(board.bits, turn);
     let mut sums: [f32; 1024] = [0.0; 1024];
-    let seen = fill::fill(&mut sums, bytes, inputs, starts, table, codes, &sources, t);
+    let seen = fill::fill(&mut sums, bytes, starts, table, codes, &sources, t);
     turns::rank_turn(ranking, &sums, seen, frame, turn, across, down)
 }
 

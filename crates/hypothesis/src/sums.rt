@@ -1,31 +1,44 @@
 // The sums of all placements of one turn, cell by cell, so that what a cell's bits add is looked up once for all of them. For the placement
-// with its frame moved by (a, b), where there are d moves down, the sum stands at place a d + b.
+// with its frame moved by (a, b), where there are d moves down, the sum stands at place a d + b. Uses `board` for the marker on a square.
 ghost use mathlib.Core.Path.{_≡_};
-ghost use Prim.Native.Nat.{_+_, _*_, _/_, _%_, _<_, _≤_};
+ghost use mathlib.Core.Bool.{true};
 ghost use mathlib.Core.List.{List};
-ghost use lib.ListN.{length, getD};
+ghost use Prim.Native.Nat.{_+_, _*_, _<_, _≤_};
+ghost use lib.ListN.{length};
 ghost use lib.Ieee.{Float};
-ghost use Rattle.score_matrix.specs.Likelihoods.{pickedFrom, fourSums};
-ghost use Rattle.hypothesis.specs.Sums.{idAfter, withScore, fourAdded, Upto, Added, Stays, Small};
+ghost use Rattle.board.specs.Layout.{parityOf, holdsMarker};
+ghost use Rattle.hypothesis.specs.Sums.{codeScore, CodeOn, FourOn, withScore, fourAdded, AddedDown, Added, Stays, Small};
+use board::Board;
+use board::squares;
 use score_matrix::turned;
 use score_matrix::turned::Four;
 
-// A cell that counts: its square in the frame, its weight, and what is the same for all cells of a shot.
+// A cell that counts: its square in the frame and its weight, and what is the same for all cells of a shot.
 pub struct Counted {
     pub i: usize,
     pub j: usize,
     pub weight: f32,
     pub null: f32,
-    pub bits: u8,
-    pub cols: usize,
+    pub board: Board,
 }
 
 // The code of the marker on square (i, j).
-fn code_on(codes: &[u64; 512], cols: usize, i: usize, j: usize) -> u64
-    requires { ⌜ (cols ≤ 32) × (i < cols) × (j < 32) ⌝ }
-    ensures { λ r. ⌜ r ≡ getD (now (codes .entry)) ((j * cols + i) / 2) 0 ⌝ }
+fn code_on(codes: &[u64; 512], board: Board, i: usize, j: usize) -> u64
+    requires { ⌜ (board .cols ≤ 32) × (board .rows ≤ 32) × (i < board .cols) × (j < board .rows) ⌝ }
+    ensures { λ r. ⌜ CodeOn board (now (codes .entry)) i j r ⌝ }
 {
-    codes[(j * cols + i) / 2]
+    let id = squares::marker_on(board, i, j);
+    codes[id]
+}
+
+// The first row from row j on whose square in column i holds a marker.
+fn first_row(board: Board, i: usize, j: usize) -> usize
+    ensures { λ r. ⌜ (r < 2) × (holdsMarker (parityOf board) i (j + r) ≡ true) ⌝ }
+{
+    if board.holds_marker(i, j) {
+        return 0;
+    }
+    1
 }
 
 // Adds the cell to a sum, by the score of the marker that is expected.
@@ -45,21 +58,20 @@ fn four_scores(
     sources: &[u8; 64],
     codes: &[u64; 512],
 ) -> Four
-    requires { ⌜ Stays cell (a + 1) (b + 7) × Small (cell .bits * cell .bits) (now sources) ⌝ }
-    ensures { λ r. ⌜ r ≡ fourSums (pickedFrom (now (likelihoods .entry)) (now (sources .entry))) (cell .bits * cell .bits) (getD (now (codes .entry)) (idAfter cell a b) 0)
-        (getD (now (codes .entry)) (idAfter cell a (b + 2)) 0) (getD (now (codes .entry)) (idAfter cell a (b + 4)) 0) (getD (now (codes .entry)) (idAfter cell a (b + 6)) 0) ⌝ }
+    requires { ⌜ Stays cell (a + 1) (b + 7) × Small (cell .board .bits * cell .board .bits) (now sources) ⌝ }
+    ensures { λ r. ⌜ FourOn cell (codeScore (cell .board .bits) (now (likelihoods .entry)) (now (sources .entry)) (now (codes .entry))) a b r ⌝ }
 {
-    let cols = cell.cols;
+    let board = cell.board;
     let i = cell.i + a;
     let j = cell.j + b;
     turned::sum_four(
         likelihoods,
         sources,
-        cell.bits,
-        code_on(codes, cols, i, j),
-        code_on(codes, cols, i, j + 2),
-        code_on(codes, cols, i, j + 4),
-        code_on(codes, cols, i, j + 6),
+        board.bits,
+        code_on(codes, board, i, j),
+        code_on(codes, board, i, j + 2),
+        code_on(codes, board, i, j + 4),
+        code_on(codes, board, i, j + 6),
     )
 }
 
@@ -84,15 +96,15 @@ fn add_fours(
     sources: &[u8; 64],
     codes: &[u64; 512],
 ) -> usize
-    requires { ⌜ Stays cell (a + 1) down × Small (cell .bits * cell .bits) (now sources) × (a * down + down ≤ 1024) × (length (now sums) ≡ 1024) ⌝ }
-    ensures row { λ r. ⌜ (cell .i + a + (cell .j + r)) % 2 ≡ 1 ⌝ }
-    ensures sums { λ r. ⌜ Upto cell (now (likelihoods .entry)) (now (sources .entry)) (now (codes .entry)) a down r (now (sums .entry)) (now (sums .exit)) ⌝ }
+    requires { ⌜ Stays cell (a + 1) down × Small (cell .board .bits * cell .board .bits) (now sources)
+        × (a * down + down ≤ 1024) × (length (now sums) ≡ 1024) ⌝ }
+    ensures row { λ r. ⌜ holdsMarker (parityOf (cell .board)) (cell .i + a) (cell .j + r) ≡ true ⌝ }
+    ensures sums { λ r. ⌜ AddedDown cell (codeScore (cell .board .bits) (now (likelihoods .entry)) (now (sources .entry)) (now (codes .entry))) a down r
+        (now (sums .entry)) (now (sums .exit)) ⌝ }
     ensures small { λ r. ⌜ r ≤ 40 ⌝ }
 {
     let first = a * down;
-    let i = cell.i + a;
-    let j = cell.j;
-    let mut b = (i + j + 1) % 2;
+    let mut b = first_row(cell.board, cell.i + a, cell.j);
     while b + 6 < down {
         let scores = four_scores(cell, a, b, likelihoods, sources, codes);
         add_four(sums, first + b, cell.weight, cell.null, scores);
@@ -101,7 +113,7 @@ fn add_fours(
     b
 }
 
-// Adds a cell to column `a` from row `start` on.
+// Adds a cell to column `a` from row `start` on, which holds a marker.
 fn add_ones(
     sums: &mut [f32; 1024],
     cell: Counted,
@@ -112,18 +124,22 @@ fn add_ones(
     sources: &[u8; 64],
     codes: &[u64; 512],
 )
-    requires { ⌜ Stays cell (a + 1) down × Small (cell .bits * cell .bits) (now sources) × (a * down + down ≤ 1024) × ((cell .i + a + (cell .j + start)) % 2 ≡ 1) × (start ≤ 40) ⌝ }
-    ensures { λ _. ⌜ ((entry : List Float) → Upto cell (now (likelihoods .entry)) (now (sources .entry)) (now (codes .entry)) a down start entry (now (sums .entry))
-        → Upto cell (now (likelihoods .entry)) (now (sources .entry)) (now (codes .entry)) a down down entry (now (sums .exit))) ⌝ }
+    requires { ⌜ Stays cell (a + 1) down × Small (cell .board .bits * cell .board .bits) (now sources) × (a * down + down ≤ 1024)
+        × (holdsMarker (parityOf (cell .board)) (cell .i + a) (cell .j + start) ≡ true) × (start ≤ 40) ⌝ }
+    ensures { λ _. ⌜ ((entry : List Float)
+        → AddedDown cell (codeScore (cell .board .bits) (now (likelihoods .entry)) (now (sources .entry)) (now (codes .entry)))
+        a down start entry (now (sums .entry))
+        → AddedDown cell (codeScore (cell .board .bits) (now (likelihoods .entry)) (now (sources .entry)) (now (codes .entry)))
+        a down down entry (now (sums .exit))) ⌝ }
 {
-    let cols = cell.cols;
+    let board = cell.board;
     let i = cell.i + a;
     let j = cell.j;
     let first = a * down;
     let mut b = start;
     while b < down {
-        let code = code_on(codes, cols, i, j + b);
-        let score = turned::sum(likelihoods, sources, cell.bits, code);
+        let code = code_on(codes, board, i, j + b);
+        let score = turned::sum(likelihoods, sources, board.bits, code);
         add(sums, first + b, cell.weight, cell.null, score);
         b += 2;
     }
@@ -139,9 +155,10 @@ pub fn add_cell(
     sources: &[u8; 64],
     codes: &[u64; 512],
 )
-    requires { ⌜ Stays cell across down × Small (cell .bits * cell .bits) (now sources) × (across * down ≤ 1024) × (length (now sums) ≡ 1024) ⌝ }
+    requires { ⌜ Stays cell across down × Small (cell .board .bits * cell .board .bits) (now sources) × (across * down ≤ 1024) × (length (now sums) ≡ 1024) ⌝ }
     ensures size { λ _. ⌜ length (now (sums .exit)) ≡ 1024 ⌝ }
-    ensures added { λ _. ⌜ Added cell (now (likelihoods .entry)) (now (sources .entry)) (now (codes .entry)) across down (now (sums .entry)) (now (sums .exit)) ⌝ }
+    ensures added { λ _. ⌜ Added cell (codeScore (cell .board .bits) (now (likelihoods .entry)) (now (sources .entry)) (now (codes .entry))) across down
+        (now (sums .entry)) (now (sums .exit)) ⌝ }
 {
     let mut a = 0;
     while a < across {

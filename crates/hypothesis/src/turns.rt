@@ -1,5 +1,5 @@
 // The ranking of all placements of one turn, from their sums, and the answer that the last ranking makes. For the placement with its frame
-// moved by (a, b), where there are d moves down, the sum stands at place a d + b. Leans on `ranking`.
+// moved by (a, b), where there are d moves down, the sum stands at place a d + b. Uses `ranking`.
 ghost use mathlib.Core.Path.{_≡_};
 ghost use Prim.Native.Nat.{_<_, _≤_};
 ghost use lib.IntN.{pos, natAbs, _-ℤ_};
@@ -70,7 +70,7 @@ fn moved_to(
     }
 }
 
-// Ranks the placements of column `a`. Most change nothing but the count, which is put right at the end.
+// Ranks the placements of column `a`. Most change neither best nor runner-up, and are passed over by one test.
 fn rank_column(
     ranking: Ranking,
     sums: &[f32; 1024],
@@ -83,20 +83,24 @@ fn rank_column(
     requires { ⌜ (a < 32) × (down ≤ 32) × (natAbs (frame .u) ≤ 8192) × (natAbs (frame .v) ≤ 8192) × (ranking .total ≤ 4096) ⌝ }
     ensures { λ r. ⌜ r ≡ rankedColumn ranking (now (sums .entry)) seen frame turn down a ⌝ }
 {
-    let mut held = ranking;
-    let mut bars = ranking::bars_of(held);
+    let mut best = ranking.best;
+    let mut runner_up = ranking.runner_up;
     let mut b = 0;
     while b < down {
         let evidence = placement_sum(sums, seen, down, a, b);
-        if !ranking::stays_behind(bars, evidence) {
+        if !ranking::changes_nothing(best, runner_up, evidence) {
             let h = moved_to(sums, seen, frame, turn, down, a, b);
-            held = ranking::ranked(held, h);
-            bars = ranking::bars_of(held);
+            let passed = Ranking {
+                best,
+                runner_up,
+                total: ranking.total + b,
+            };
+            let held = ranking::ranked(passed, h);
+            best = held.best;
+            runner_up = held.runner_up;
         }
         b += 1;
     }
-    let best = held.best;
-    let runner_up = held.runner_up;
     Ranking {
         best,
         runner_up,

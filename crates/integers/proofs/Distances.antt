@@ -10,7 +10,7 @@ use lib.Signed.{ltZ, leZ}
 use lib.IntN.{ℤ, pos, negsuc, negℤ, natAbs, _+ℤ_, _-ℤ_, _*ℤ_, *ℤ-comm}
 use lib.Ieee.Fits.{and-l, and-r}
 use borrow.Author.Tests.{le-leb}
-use Rattle.integers.specs.Distance.{Within, within}
+use Rattle.integers.specs.Distance.{Within, isWithin}
 use Rattle.integers.proofs.Parts.{plus, minus, Is, add-is, sub-is-parts, mul-is, abs-is, abs-mul, parts-le, ext}
 
 -- ---- the order
@@ -110,12 +110,12 @@ lt-or-le a b = go (ltb a b) (ltb→lt a b) (nltb→le a b)
     go false l m = inr (m tt)
 
 -- ---- from −m to m
-pub within-abs : (m : ℕ) (z : ℤ) → within m z ≡ true → natAbs z ≤ m
+pub within-abs : (m : ℕ) (z : ℤ) → isWithin m z ≡ true → natAbs z ≤ m
 within-abs m (pos n) e = leb→le n m (and-r (leZ (negℤ (pos m)) (pos n)) (leb n m) (subst T (sym e) tt))
 within-abs zero (negsuc n) e = absurd (false≢true e)
 within-abs (suc m) (negsuc n) e = let h = leb→le n m (and-l (leb n m) true (subst T (sym e) tt)) in omega (arith, h)
 
-pub abs-within : (m : ℕ) (z : ℤ) → natAbs z ≤ m → within m z ≡ true
+pub abs-within : (m : ℕ) (z : ℤ) → natAbs z ≤ m → isWithin m z ≡ true
 abs-within zero (pos n) h = rw (le-leb n 0 h, le-leb 0 n zero-le)
 abs-within (suc m) (pos n) h = le-leb n (suc m) h
 abs-within zero (negsuc n) h = absurd (omega arith)

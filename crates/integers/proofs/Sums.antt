@@ -17,5 +17,6 @@ pub exact : {op : ℤ → ℤ → ℤ} {p q z : ℤ} → op (word p) (word q) �
 exact {z} e h = record { fits = subst (SFits w32) (sym e) (small-fits z h); reads = word-is z e h }
 
 -- for an operation whose result is no larger than its operands together
-pub exact-op : (op : ℤ → ℤ → ℤ) → ((a b : ℤ) → natAbs (op a b) ≤ natAbs a + natAbs b) → {p q : ℤ} (x y : ℤ) → word p ≡ x → word q ≡ y → natAbs x + natAbs y < 2 ^ 31 → Exact op p q (op x y)
+pub exact-op : (op : ℤ → ℤ → ℤ) → ((a b : ℤ) → natAbs (op a b) ≤ natAbs a + natAbs b) → {p q : ℤ} (x y : ℤ) → word p ≡ x → word q ≡ y
+    → natAbs x + natAbs y < 2 ^ 31 → Exact op p q (op x y)
 exact-op op size x y ex ey small = exact (ap₂ op ex ey) (omega (arith, size x y))

@@ -9,5 +9,5 @@ abbrev pub Within : ℤ → ℤ → ℕ → Type 0
 Within a b e = natAbs (a -ℤ b) ≤ e
 
 -- from −m to m
-abbrev pub within : ℕ → ℤ → Bool
-within m z = leZ (negℤ (pos m)) z && leZ z (pos m)
+abbrev pub isWithin : ℕ → ℤ → Bool
+isWithin m z = leZ (negℤ (pos m)) z && leZ z (pos m)

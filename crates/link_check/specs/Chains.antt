@@ -1,17 +1,18 @@
--- Links chained by a key below 4,096: the first link of each key, and after each link the next one of its key.
+-- Links chained by a key below 4,096. A chain is one list: at place b the first link with the key b, at 4,096 + k the next link after k
+-- with k's key.
 use Prim.Native.Nat.{ℕ, zero, suc, _+_, _*_, _%_, _≤_, _<_}
 use mathlib.Core.Path.{_≡_}
 use mathlib.Core.Bool.{Bool}
 use mathlib.Core.List.{List}
 use lib.ListN.{length, getD}
-use Rattle.link_check.specs.Links.{markerOf, cornerOf, names, reports}
+use Rattle.link_check.specs.Links.{linkMarker, linkCorner, names, reports}
 
 -- the key of a marker and a corner: with the weight 0 of the marker alone
 abbrev pub keyFor : ℕ → ℕ → ℕ → ℕ
 keyFor weight m c = (61 * m + weight * c) % 4096
 
 abbrev pub keyOf : ℕ → List ℕ → ℕ → ℕ
-keyOf weight links k = keyFor weight (markerOf links k) (cornerOf links k)
+keyOf weight links k = keyFor weight (linkMarker links k) (linkCorner links k)
 
 -- link j is of the marker and, unless the weight is 0, of the corner
 abbrev pub linksTo : ℕ → List ℕ → ℕ → ℕ → ℕ → Bool
@@ -26,12 +27,11 @@ pub record LeastFrom (κ : ℕ → ℕ) (n b i r : ℕ) : Type 0 where
   pub has : r < n → κ r ≡ b
 
 -- the links from k to n − 1 are chained
-pub record ChainedFrom (κ : ℕ → ℕ) (n k : ℕ) (first next : List ℕ) : Type 0 where
-  pub first-long : length first ≡ 4096
-  pub next-long : length next ≡ 4096
-  pub heads : (b : ℕ) → b < 4096 → LeastFrom κ n b k (getD first b 0)
-  pub tails : (i : ℕ) → k ≤ i → i < n → LeastFrom κ n (κ i) (i + 1) (getD next i 0)
+pub record ChainedFrom (κ : ℕ → ℕ) (n k : ℕ) (chain : List ℕ) : Type 0 where
+  pub long : length chain ≡ 8192
+  pub heads : (b : ℕ) → b < 4096 → LeastFrom κ n b k (getD chain b 0)
+  pub tails : (i : ℕ) → k ≤ i → i < n → LeastFrom κ n (κ i) (i + 1) (getD chain (4096 + i) 0)
 
 -- all n links are chained
-abbrev pub Chained : (ℕ → ℕ) → ℕ → List ℕ → List ℕ → Type 0
-Chained κ n first next = ChainedFrom κ n 0 first next
+abbrev pub Chained : (ℕ → ℕ) → ℕ → List ℕ → Type 0
+Chained κ n chain = ChainedFrom κ n 0 chain

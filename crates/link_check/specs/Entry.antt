@@ -4,52 +4,42 @@ use mathlib.Core.List.{List}
 use mathlib.Core.Option.{Option, none, some}
 use lib.Dec.{leb}
 use lib.ListN.{length}
-use Rattle.lent_list.specs.Front.{inFront}
+use Rattle.lent_list.specs.Front.{atExit}
 use Rattle.refusal.specs.declared.Refusal.{Refusal}
 use Rattle.refusal.specs.declared.Refusal.the-variants as refusal
 use Rattle.refusal.specs.Questions.{ask}
 use Rattle.board.specs.declared.CharucoBoardSpec.{CharucoBoardSpec}
 use Rattle.board.specs.declared.Board.{Board}
-use Rattle.board.specs.declared.NewBoard.{NewBoard}
-use Rattle.board.specs.declared.NewBoard.the-variants as new
-use Rattle.board.specs.Layout.{odd}
-use Rattle.board.specs.Questions.{newBoard}
+use Rattle.board.specs.Questions.{boardOf, askedOfBoard}
 use Rattle.link_check.specs.declared.LinkCheckMode.{LinkCheckMode}
 use Rattle.link_check.specs.declared.CheckedLinks.{CheckedLinks}
 use Rattle.link_check.specs.declared.CheckedLinks.the-variants as checked
 use Rattle.link_check.specs.Links.{linkCount}
-use Rattle.link_check.specs.Violations.{Violation, expectation, violations, wordsOf}
+use Rattle.link_check.specs.Violations.{Violation, expectation, violations, wordsOfViolations}
 
 -- the violations of the links on a board
 abbrev pub violationsOn : Board → LinkCheckMode → List ℕ → List Violation
-violationsOn b mode links = violations links (linkCount links) mode (expectation odd (b .rows) (b .cols))
+violationsOn b mode links = violations links (linkCount links) mode (expectation b)
 
--- the question after the board's that is answered with no, if one is; twelve words a place
-unfoldable pub refusedBy : List ℕ → List ℕ → Option Refusal
-refusedBy links lent =
+-- The questions after the board's: the one that is answered with no, if one is; twelve words a place
+unfoldable pub askedFrom19 : List ℕ → ℕ → Option Refusal
+askedFrom19 links words =
     ask (leb (linkCount links) 4096) refusal.TooManyLinks
-    (ask (leb (36 * linkCount links) (length lent)) refusal.ListTooShort
+    (ask (leb (36 * linkCount links) words) refusal.ListTooShort
     none)
 
--- the answer, and the list that was lent: the violations in front, the rest untouched; all of it on a refusal
-abbrev pub answer : Option Refusal → List Violation → CheckedLinks
-answer (some r) vs = checked.Refused r
-answer none vs = checked.Checked (length vs)
+-- the same of all questions
+abbrev pub linksRefusedBy : CharucoBoardSpec → List ℕ → List ℕ → ℕ → Option Refusal
+linksRefusedBy spec codes links words = askedOfBoard spec codes (askedFrom19 links words)
 
-abbrev pub written : Option Refusal → List Violation → List ℕ → List ℕ
-written (some r) vs lent = lent
-written none vs lent = inFront (wordsOf vs) lent
-
-abbrev pub answerOn : NewBoard → LinkCheckMode → List ℕ → List ℕ → CheckedLinks
-answerOn (new.Refused r) mode links lent = checked.Refused r
-answerOn (new.Made b) mode links lent = answer (refusedBy links lent) (violationsOn b mode links)
-
-abbrev pub writtenOn : NewBoard → LinkCheckMode → List ℕ → List ℕ → List ℕ
-writtenOn (new.Refused r) mode links lent = lent
-writtenOn (new.Made b) mode links lent = written (refusedBy links lent) (violationsOn b mode links) lent
+-- The answer, and the list at exit.
+abbrev pub checkedBy : Option Refusal → List Violation → CheckedLinks
+checkedBy (some r) vs = checked.Refused r
+checkedBy none vs = checked.Checked (length vs)
 
 abbrev pub checkLinks : CharucoBoardSpec → List ℕ → LinkCheckMode → List ℕ → List ℕ → CheckedLinks
-checkLinks s codes mode links lent = answerOn (newBoard s codes) mode links lent
+checkLinks spec codes mode links lent = checkedBy (linksRefusedBy spec codes links (length lent)) (violationsOn (boardOf spec) mode links)
 
 abbrev pub checkLinksList : CharucoBoardSpec → List ℕ → LinkCheckMode → List ℕ → List ℕ → List ℕ
-checkLinksList s codes mode links lent = writtenOn (newBoard s codes) mode links lent
+checkLinksList spec codes mode links lent =
+    atExit (linksRefusedBy spec codes links (length lent)) (wordsOfViolations (violationsOn (boardOf spec) mode links)) lent

@@ -9,11 +9,11 @@ use lib.ListN.{length, getD}
 abbrev pub linkCount : List ℕ → ℕ
 linkCount links = length links / 2
 
-abbrev pub markerOf : List ℕ → ℕ → ℕ
-markerOf links k = getD links (2 * k) 0
+abbrev pub linkMarker : List ℕ → ℕ → ℕ
+linkMarker links k = getD links (2 * k) 0
 
-abbrev pub cornerOf : List ℕ → ℕ → ℕ
-cornerOf links k = getD links (2 * k + 1) 0
+abbrev pub linkCorner : List ℕ → ℕ → ℕ
+linkCorner links k = getD links (2 * k + 1) 0
 
 -- does some j below n pass the test?
 unfoldable pub anyBelow : (ℕ → Bool) → ℕ → Bool
@@ -22,19 +22,19 @@ anyBelow t (suc n) = anyBelow t n || t n
 
 -- link j names the marker, and the corner
 abbrev pub names : List ℕ → ℕ → ℕ → Bool
-names links m j = eqb (markerOf links j) m
+names links m j = eqb (linkMarker links j) m
 
 abbrev pub reports : List ℕ → ℕ → ℕ → ℕ → Bool
-reports links m c j = names links m j && eqb (cornerOf links j) c
+reports links m c j = names links m j && eqb (linkCorner links j) c
 
 -- link k repeats an earlier one
 abbrev pub repeated : List ℕ → ℕ → Bool
-repeated links k = anyBelow (reports links (markerOf links k) (cornerOf links k)) k
+repeated links k = anyBelow (reports links (linkMarker links k) (linkCorner links k)) k
 
 -- link k is the first of its marker
 abbrev pub first : List ℕ → ℕ → Bool
-first links k = not (anyBelow (names links (markerOf links k)) k)
+first links k = not (anyBelow (names links (linkMarker links k)) k)
 
 -- the first n links report the marker's corner
-abbrev pub reported : List ℕ → ℕ → ℕ → ℕ → Bool
-reported links n m c = anyBelow (reports links m c) n
+abbrev pub isReported : List ℕ → ℕ → ℕ → ℕ → Bool
+isReported links n m c = anyBelow (reports links m c) n

@@ -1,26 +1,27 @@
 -- Document 01, Links: the violations, in order, and the 12 words by which each is told.
 use Prim.Native.Nat.{ℕ}
-use mathlib.Core.Bool.{Bool, true, false, _&&_, _||_}
-use mathlib.Core.List.{List, [], _∷_, _++_}
+use mathlib.Core.Bool.{Bool, false, _&&_, _||_, cond}
+use mathlib.Core.List.{List, [], _∷_, _++_, flatMap}
 use mathlib.Core.Option.{Option, none, some}
 use lib.Dec.{eqb}
 use lib.ListN.{length, getD}
 use Rattle.lent_list.specs.Front.{upTo}
+use Rattle.board.specs.declared.Board.{Board}
 use Rattle.board.specs.declared.Located.{Located}
 use Rattle.board.specs.declared.Located.the-variants as located
 use Rattle.board.specs.declared.Surrounding.{Surrounding}
 use Rattle.board.specs.declared.Surrounding.the-variants as surrounding
-use Rattle.board.specs.Layout.{squareOf, fourCorners}
+use Rattle.board.specs.Layout.{markerSquare, surroundingCorners}
 use Rattle.link_check.specs.declared.LinkCheckMode.{LinkCheckMode}
 use Rattle.link_check.specs.declared.LinkCheckMode.the-variants as mode
 use Rattle.link_check.specs.declared.LinkViolationKind.{LinkViolationKind}
-use Rattle.link_check.specs.declared.LinkViolationKind.the-variants.{UnknownMarker, MarkerHasNoFourCorners, CornerNotInNeighborhood, DuplicateCorner, MissingCorners}
+use Rattle.link_check.specs.declared.LinkViolationKind.the-variants.{UnknownMarker, MarkerHasNoFourCorners, CornerNotInNeighborhood, DuplicateCorner}
+use Rattle.link_check.specs.declared.LinkViolationKind.the-variants.{MissingCorners}
 use Rattle.link_check.specs.declared.expected.MarkerExpectation.{MarkerExpectation}
 use Rattle.link_check.specs.declared.expected.MarkerExpectation.the-variants.{Unknown, NoFourCorners, Expected}
-use Rattle.link_check.specs.Links.{markerOf, cornerOf, names, repeated, first, reported}
+use Rattle.link_check.specs.Links.{linkMarker, linkCorner, names, repeated, first, isReported}
 
--- What the board expects of a marker: nothing of an unknown one or one on the rim, else its four corners. The squares with markers have
--- the parity p.
+-- What the board expects of a marker: nothing of an unknown one or one on the rim, else its four corners.
 abbrev pub ofCorners : Surrounding → MarkerExpectation
 ofCorners (surrounding.Corners a b c d) = Expected a b c d
 ofCorners surrounding.Absent = NoFourCorners
@@ -29,8 +30,8 @@ abbrev pub onSquare : Located → Surrounding → MarkerExpectation
 onSquare located.Absent four = Unknown
 onSquare (located.At i j) four = ofCorners four
 
-unfoldable pub expectation : ℕ → ℕ → ℕ → ℕ → MarkerExpectation
-expectation p rows cols m = onSquare (squareOf p rows cols m) (fourCorners p rows cols m)
+unfoldable pub expectation : Board → ℕ → MarkerExpectation
+expectation b m = onSquare (markerSquare b m) (surroundingCorners b m)
 
 -- An entry: marker, kind, reported corner if any, the expected four if any, and the missing ones.
 pub record Violation : Type 0 where
@@ -50,8 +51,7 @@ has [] c = false
 has (x ∷ xs) c = eqb x c || has xs c
 
 abbrev pub unless : {A : Type 0} → Bool → A → List A
-unless true x = []
-unless false x = x ∷ []
+unless b x = cond b [] (x ∷ [])
 
 abbrev pub against : MarkerExpectation → ℕ → ℕ → List Violation
 against Unknown m c = ofLink UnknownMarker m c [] ∷ []
@@ -59,12 +59,8 @@ against NoFourCorners m c = ofLink MarkerHasNoFourCorners m c [] ∷ []
 against (Expected a b d e) m c = unless (has (a ∷ b ∷ d ∷ e ∷ []) c) (ofLink CornerNotInNeighborhood m c (a ∷ b ∷ d ∷ e ∷ []))
 
 -- Then per expected marker: each repeated corner after its first, in link order,
-abbrev pub onlyIf : {A : Type 0} → Bool → List A → List A
-onlyIf true xs = xs
-onlyIf false xs = []
-
 abbrev pub repeatAt : List ℕ → ℕ → List ℕ → ℕ → List Violation
-repeatAt links m four k = onlyIf (names links m k && repeated links k) (ofLink DuplicateCorner m (cornerOf links k) four ∷ [])
+repeatAt links m four k = cond (names links m k && repeated links k) (ofLink DuplicateCorner m (linkCorner links k) four ∷ []) []
 
 -- and under `MustMatchAll4` one entry of missing corners, if any is missing, in the order of the four.
 unfoldable pub without : (ℕ → Bool) → List ℕ → List ℕ
@@ -82,13 +78,15 @@ inMode mode.MustMatchAll4 vs = vs
 
 -- link k's own entry, by what is expected of each marker
 abbrev pub own : List ℕ → (ℕ → MarkerExpectation) → ℕ → List Violation
-own links expected k = against (expected (markerOf links k)) (markerOf links k) (cornerOf links k)
+own links expected k = against (expected (linkMarker links k)) (linkMarker links k) (linkCorner links k)
 
 -- The links, how many they are, and the mode.
 module _ (links : List ℕ) (n : ℕ) (mode : LinkCheckMode) where
+  abbrev pub missingOf : ℕ → List ℕ → List Violation
+  missingOf m four = inMode mode (missingEntry m four (without (isReported links n m) four))
+
   abbrev pub ofFour : ℕ → List ℕ → List Violation
-  ofFour m four =
-      upTo (repeatAt links m four) n ++ inMode mode (missingEntry m four (without (reported links n m) four))
+  ofFour m four = upTo (repeatAt links m four) n ++ missingOf m four
 
   abbrev pub ofMarker : ℕ → MarkerExpectation → List Violation
   ofMarker m Unknown = []
@@ -97,7 +95,7 @@ module _ (links : List ℕ) (n : ℕ) (mode : LinkCheckMode) where
 
   -- the entries of link k's marker, if the link is the first that names it
   abbrev pub ofFirst : (ℕ → MarkerExpectation) → ℕ → List Violation
-  ofFirst expected k = onlyIf (first links k) (ofMarker (markerOf links k) (expected (markerOf links k)))
+  ofFirst expected k = cond (first links k) (ofMarker (linkMarker links k) (expected (linkMarker links k))) []
 
   abbrev pub violations : (ℕ → MarkerExpectation) → List Violation
   violations expected = upTo (own links expected) n ++ upTo (ofFirst expected) n
@@ -116,11 +114,11 @@ orNought (some c) = c
 
 abbrev pub told : ℕ → ℕ → ℕ → List ℕ → ℕ → List ℕ → List ℕ
 told m kind c four count missing =
-    m ∷ kind ∷ c ∷ getD four 0 0 ∷ getD four 1 0 ∷ getD four 2 0 ∷ getD four 3 0 ∷ count ∷ getD missing 0 0 ∷ getD missing 1 0 ∷ getD missing 2 0 ∷ getD missing 3 0 ∷ []
+    m ∷ kind ∷ c ∷ getD four 0 0 ∷ getD four 1 0 ∷ getD four 2 0 ∷ getD four 3 0 ∷ count ∷ getD missing 0 0 ∷ getD missing 1 0 ∷ getD missing 2 0
+    ∷ getD missing 3 0 ∷ []
 
-abbrev pub words : Violation → List ℕ
-words v = told (v .marker) (kindNumber (v .kind)) (orNought (v .reported)) (v .expected) (length (v .missing)) (v .missing)
+abbrev pub violationWords : Violation → List ℕ
+violationWords v = told (v .marker) (kindNumber (v .kind)) (orNought (v .reported)) (v .expected) (length (v .missing)) (v .missing)
 
-unfoldable pub wordsOf : List Violation → List ℕ
-wordsOf [] = []
-wordsOf (v ∷ vs) = words v ++ wordsOf vs
+abbrev pub wordsOfViolations : List Violation → List ℕ
+wordsOfViolations vs = flatMap violationWords vs

@@ -3,7 +3,7 @@
 ghost use mathlib.Core.Path.{_≡_};
 ghost use Prim.Native.Nat.{ℕ, _+_, _*_, _≤_, _<_};
 ghost use lib.ListN.{length, getD};
-ghost use Rattle.link_check.specs.Links.{markerOf, cornerOf, anyBelow, repeated, first as firstOf, reported};
+ghost use Rattle.link_check.specs.Links.{linkMarker, linkCorner, anyBelow, repeated, first as firstOf, isReported};
 ghost use Rattle.link_check.specs.Chains.{keyFor, keyOf, linksTo, Chained};
 
 // The word at a place; 0 past the list.
@@ -18,14 +18,14 @@ fn word(links: &[u32], at: usize) -> u32
 
 pub fn marker_of(links: &[u32], k: usize) -> u32
     requires { ⌜ k ≤ 4096 ⌝ }
-    ensures { λ r. ⌜ r ≡ markerOf (now (links .entry)) k ⌝ }
+    ensures { λ r. ⌜ r ≡ linkMarker (now (links .entry)) k ⌝ }
 {
     word(links, 2 * k)
 }
 
 pub fn corner_of(links: &[u32], k: usize) -> u32
     requires { ⌜ k ≤ 4096 ⌝ }
-    ensures { λ r. ⌜ r ≡ cornerOf (now (links .entry)) k ⌝ }
+    ensures { λ r. ⌜ r ≡ linkCorner (now (links .entry)) k ⌝ }
 {
     word(links, 2 * k + 1)
 }
@@ -62,30 +62,30 @@ fn links_to(links: &[u32], weight: u64, marker: u32, corner: u32, j: usize) -> b
 }
 
 // No key has a link yet.
-fn clear(first: &mut [u16; 4096], n: usize)
-    requires { ⌜ (n ≤ 4096) × (length (now first) ≡ 4096) ⌝ }
-    ensures { λ _. ⌜ (length (now (first .exit)) ≡ 4096) × ((b : ℕ) → b < 4096 → getD (now (first .exit)) b 0 ≡ n) ⌝ }
+fn clear(chain: &mut [u16; 8192], n: usize)
+    requires { ⌜ (n ≤ 4096) × (length (now chain) ≡ 8192) ⌝ }
+    ensures { λ _. ⌜ (length (now (chain .exit)) ≡ 8192) × ((b : ℕ) → b < 4096 → getD (now (chain .exit)) b 0 ≡ n) ⌝ }
 {
     let mut b = 0;
     while b < 4096 {
-        first[b] = n as u16;
+        chain[b] = n as u16;
         b += 1;
     }
 }
 
-// first[b] is the first link with the key b, next[k] the first one after k with k's key, each `n` if there is none. Filled from the
-// last link to the first.
-pub fn chain(links: &[u32], n: usize, weight: u64, first: &mut [u16; 4096], next: &mut [u16; 4096])
-    requires { ⌜ (n ≤ 4096) × (weight ≤ 1) × (length (now first) ≡ 4096) × (length (now next) ≡ 4096) ⌝ }
-    ensures { λ _. ⌜ Chained (keyOf weight (now (links .entry))) n (now (first .exit)) (now (next .exit)) ⌝ }
+// chain[b] is the first link with the key b, chain[4096 + k] the first one after k with k's key, each `n` if there is none. Filled
+// from the last link to the first.
+pub fn fill_chain(links: &[u32], n: usize, weight: u64, chain: &mut [u16; 8192])
+    requires { ⌜ (n ≤ 4096) × (weight ≤ 1) × (length (now chain) ≡ 8192) ⌝ }
+    ensures { λ _. ⌜ Chained (keyOf weight (now (links .entry))) n (now (chain .exit)) ⌝ }
 {
-    clear(first, n);
+    clear(chain, n);
     let mut k = n;
     while 0 < k {
         k -= 1;
         let b = key(links, k, weight);
-        next[k] = first[b];
-        first[b] = k as u16;
+        chain[4096 + k] = chain[b];
+        chain[b] = k as u16;
     }
 }
 
@@ -94,67 +94,52 @@ fn found_before(
     links: &[u32],
     n: usize,
     weight: u64,
-    first: &[u16; 4096],
-    next: &[u16; 4096],
+    chain: &[u16; 8192],
     marker: u32,
     corner: u32,
     end: usize,
 ) -> bool
-    requires { ⌜ (n ≤ 4096) × (weight ≤ 1) × (end ≤ n) × Chained (keyOf weight (now links)) n (now first) (now next) ⌝ }
+    requires { ⌜ (n ≤ 4096) × (weight ≤ 1) × (end ≤ n) × Chained (keyOf weight (now links)) n (now chain) ⌝ }
     ensures { λ r. ⌜ r ≡ anyBelow (linksTo weight (now (links .entry)) marker corner) end ⌝ }
 {
-    let mut j = first[key_for(marker, corner, weight)] as usize;
+    let mut j = chain[key_for(marker, corner, weight)] as usize;
     while j < end {
         if links_to(links, weight, marker, corner, j) {
             return true;
         }
-        j = next[j] as usize;
+        j = chain[4096 + j] as usize;
     }
     false
 }
 
-// Does link k repeat an earlier one? By the chains of weight 1.
-pub fn is_repeated(
-    links: &[u32],
-    n: usize,
-    first: &[u16; 4096],
-    next: &[u16; 4096],
-    k: usize,
-) -> bool
-    requires { ⌜ (n ≤ 4096) × (k < n) × Chained (keyOf 1 (now links)) n (now first) (now next) ⌝ }
+// Does link k repeat an earlier one? By the chain of weight 1.
+pub fn is_repeated(links: &[u32], n: usize, chain: &[u16; 8192], k: usize) -> bool
+    requires { ⌜ (n ≤ 4096) × (k < n) × Chained (keyOf 1 (now links)) n (now chain) ⌝ }
     ensures { λ r. ⌜ r ≡ repeated (now (links .entry)) k ⌝ }
 {
     found_before(
         links,
         n,
         1,
-        first,
-        next,
+        chain,
         marker_of(links, k),
         corner_of(links, k),
         k,
     )
 }
 
-// Does a link report the marker's corner? By the chains of weight 1.
-pub fn is_reported(
-    links: &[u32],
-    n: usize,
-    first: &[u16; 4096],
-    next: &[u16; 4096],
-    marker: u32,
-    corner: u32,
-) -> bool
-    requires { ⌜ (n ≤ 4096) × Chained (keyOf 1 (now links)) n (now first) (now next) ⌝ }
-    ensures { λ r. ⌜ r ≡ reported (now (links .entry)) n marker corner ⌝ }
+// Does a link report the marker's corner? By the chain of weight 1.
+pub fn is_reported(links: &[u32], n: usize, chain: &[u16; 8192], marker: u32, corner: u32) -> bool
+    requires { ⌜ (n ≤ 4096) × Chained (keyOf 1 (now links)) n (now chain) ⌝ }
+    ensures { λ r. ⌜ r ≡ isReported (now (links .entry)) n marker corner ⌝ }
 {
-    found_before(links, n, 1, first, next, marker, corner, n)
+    found_before(links, n, 1, chain, marker, corner, n)
 }
 
-// Is link k the first of its marker? By the chains of weight 0.
-pub fn is_first(links: &[u32], n: usize, first: &[u16; 4096], next: &[u16; 4096], k: usize) -> bool
-    requires { ⌜ (n ≤ 4096) × (k < n) × Chained (keyOf 0 (now links)) n (now first) (now next) ⌝ }
+// Is link k the first of its marker? By the chain of weight 0.
+pub fn is_first(links: &[u32], n: usize, chain: &[u16; 8192], k: usize) -> bool
+    requires { ⌜ (n ≤ 4096) × (k < n) × Chained (keyOf 0 (now links)) n (now chain) ⌝ }
     ensures { λ r. ⌜ r ≡ firstOf (now (links .entry)) k ⌝ }
 {
-    !found_before(links, n, 0, first, next, marker_of(links, k), 0, k)
+    !found_before(links, n, 0, chain, marker_of(links, k), 0, k)
 }

@@ -1,7 +1,6 @@
 // What the board expects of a marker.
 ghost use mathlib.Core.Path.{_≡_};
 ghost use mathlib.Core.List.{[], _∷_};
-ghost use Rattle.board.specs.Layout.{odd};
 ghost use Rattle.link_check.specs.Violations.{expectation, ofCorners, has};
 use board::Board;
 use board::Located;
@@ -16,6 +15,15 @@ pub enum MarkerExpectation {
         bottom_right: u32,
         bottom_left: u32,
     },
+}
+
+// A marker and its four corners.
+pub struct MarkerCorners {
+    pub marker: u32,
+    pub top_left: u32,
+    pub top_right: u32,
+    pub bottom_right: u32,
+    pub bottom_left: u32,
 }
 
 fn of_corners(around: Surrounding) -> MarkerExpectation
@@ -38,7 +46,7 @@ fn of_corners(around: Surrounding) -> MarkerExpectation
 }
 
 pub fn expectation(board: Board, marker: u32) -> MarkerExpectation
-    ensures { λ r. ⌜ r ≡ expectation odd (board .rows) (board .cols) marker ⌝ }
+    ensures { λ r. ⌜ r ≡ expectation board marker ⌝ }
 {
     let square = board.marker_position(marker);
     let around = board.marker_surrounding_charuco_corners(marker);

@@ -1,11 +1,11 @@
-// The link entry (link_check.rs): do reported links of markers and corners agree with the board? Leans on `refusal`, `lent_list` and
+// The link entry (link_check.rs): do reported links of markers and corners agree with the board? Uses `refusal`, `lent_list` and
 // `board`.
 ghost use mathlib.Core.Path.{_≡_};
 ghost use Prim.Native.Nat.{_*_, _≤_};
 ghost use lib.ListN.{length};
 ghost use Rattle.lent_list.specs.Front.{Put};
 ghost use Rattle.link_check.specs.Links.{linkCount};
-ghost use Rattle.link_check.specs.Violations.{kindNumber, wordsOf};
+ghost use Rattle.link_check.specs.Violations.{kindNumber, wordsOfViolations};
 ghost use Rattle.link_check.specs.Entry.{violationsOn, checkLinks, checkLinksList};
 
 mod chains;
@@ -19,6 +19,7 @@ mod words;
 use board::Board;
 use board::CharucoBoardSpec;
 use board::NewBoard;
+use passes::Standard;
 use refusal::Refusal;
 
 // How strictly links are checked.
@@ -66,24 +67,19 @@ fn check(
     violations: &mut [u32],
 ) -> usize
     requires { ⌜ (n ≡ linkCount (now links)) × (n ≤ 4096) × (36 * n ≤ length (now violations)) ⌝ }
-    ensures { λ r. ⌜ Put (now (violations .entry)) (now (violations .exit)) 0 r (wordsOf (violationsOn board mode (now (links .entry)))) ⌝ }
+    ensures { λ r. ⌜ Put (now (violations .entry)) (now (violations .exit)) 0 r (wordsOfViolations (violationsOn board mode (now (links .entry)))) ⌝ }
 {
-    let mut markers_first: [u16; 4096] = [0; 4096];
-    let mut markers_next: [u16; 4096] = [0; 4096];
-    let mut first: [u16; 4096] = [0; 4096];
-    let mut next: [u16; 4096] = [0; 4096];
-    chains::chain(links, n, 0, &mut markers_first, &mut markers_next);
-    chains::chain(links, n, 1, &mut first, &mut next);
+    let mut marker_chain: [u16; 8192] = [0; 8192];
+    let mut chain: [u16; 8192] = [0; 8192];
+    chains::fill_chain(links, n, 0, &mut marker_chain);
+    chains::fill_chain(links, n, 1, &mut chain);
     let end = passes::put_own_entries(board, links, n, violations);
     passes::put_marker_entries(
-        board,
+        Standard { board, mode },
         links,
         n,
-        mode,
-        &markers_first,
-        &markers_next,
-        &first,
-        &next,
+        &marker_chain,
+        &chain,
         violations,
         end,
     )

@@ -2,8 +2,7 @@
 ghost use Prim.Native.Nat.{_+_, _≤_};
 ghost use lib.ListN.{length};
 ghost use Rattle.lent_list.specs.Front.{Put};
-ghost use Rattle.board.specs.Layout.{odd};
-ghost use Rattle.link_check.specs.Violations.{expectation, ofLink, against, words, wordsOf};
+ghost use Rattle.link_check.specs.Violations.{expectation, ofLink, against, violationWords, wordsOfViolations};
 use super::LinkViolationKind;
 use super::expected;
 use super::expected::MarkerExpectation;
@@ -23,7 +22,7 @@ pub fn put_of_link(
     at: usize,
 ) -> usize
     requires { ⌜ at + 12 ≤ length (now violations) ⌝ }
-    ensures { λ r. ⌜ Put (now (violations .entry)) (now (violations .exit)) at r (words (ofLink kind marker corner expected)) ⌝ }
+    ensures { λ r. ⌜ Put (now (violations .entry)) (now (violations .exit)) at r (violationWords (ofLink kind marker corner expected)) ⌝ }
 {
     let missing = Missing {
         count: 0,
@@ -34,7 +33,7 @@ pub fn put_of_link(
 
 pub fn put_own(board: Board, marker: u32, corner: u32, violations: &mut [u32], at: usize) -> usize
     requires { ⌜ at + 12 ≤ length (now violations) ⌝ }
-    ensures { λ r. ⌜ Put (now (violations .entry)) (now (violations .exit)) at r (wordsOf (against (expectation odd (board .rows) (board .cols) marker) marker corner)) ⌝ }
+    ensures { λ r. ⌜ Put (now (violations .entry)) (now (violations .exit)) at r (wordsOfViolations (against (expectation board marker) marker corner)) ⌝ }
 {
     let expected = expected::expectation(board, marker);
     match expected {

@@ -22,7 +22,8 @@ pub fn put_violation(
     at: usize,
 ) -> usize
     requires { ⌜ at + 12 ≤ length (now violations) ⌝ }
-    ensures { λ r. ⌜ Put (now (violations .entry)) (now (violations .exit)) at r (told marker (kindNumber kind) corner expected (missing .count) (missing .corners)) ⌝ }
+    ensures { λ r. ⌜ Put (now (violations .entry)) (now (violations .exit)) at r
+        (told marker (kindNumber kind) corner expected (missing .count) (missing .corners)) ⌝ }
 {
     let past = missing.corners;
     let words = [
@@ -39,6 +40,5 @@ pub fn put_violation(
         past[2],
         past[3],
     ];
-    lent_list::put(violations, at, &words);
-    at + 12
+    lent_list::put(violations, at, &words)
 }

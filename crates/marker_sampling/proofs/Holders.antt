@@ -18,7 +18,8 @@ module _ (c : Corners) (p : Coord) where
       ap₂ (λ (o : Option ℕ) (b : Bool). later o b k) (nobody ks (λ i l. h (suc i) (suc-le-suc l))) (h zero (suc-le-suc zero-le))
 
   -- none of the inliers after i stands there
-  holder-from : (inliers : List ℕ) (i : ℕ) → i < length inliers → holder c (drop (suc i) inliers) p ≡ none → stands c (getD inliers i 0) p ≡ true → holder c (drop i inliers) p ≡ some (getD inliers i 0)
+  holder-from : (inliers : List ℕ) (i : ℕ) → i < length inliers → holder c (drop (suc i) inliers) p ≡ none → stands c (getD inliers i 0) p ≡ true
+      → holder c (drop i inliers) p ≡ some (getD inliers i 0)
   unfolding holder
   holder-from inliers i l e f =
       ap (λ (ks : List ℕ). holder c ks p) (drop-cons inliers i 0 l) ∙ ap₂ (λ (o : Option ℕ) (t : Bool). later o t (getD inliers i 0)) e f
@@ -31,7 +32,8 @@ module _ (c : Corners) (p : Coord) where
   wins (suc i) (x ∷ xs) k e = ap (λ (o : Option ℕ). later o (stands c x p) x) (wins i xs k e)
 
   -- the inlier at i stands there, and none after it
-  pub last-holds : (inliers : List ℕ) (i : ℕ) → i < length inliers → stands c (getD inliers i 0) p ≡ true → ((j : ℕ) → i < j → j < length inliers → stands c (getD inliers j 0) p ≡ false) → holder c inliers p ≡ some (getD inliers i 0)
+  pub last-holds : (inliers : List ℕ) (i : ℕ) → i < length inliers → stands c (getD inliers i 0) p ≡ true
+      → ((j : ℕ) → i < j → j < length inliers → stands c (getD inliers j 0) p ≡ false) → holder c inliers p ≡ some (getD inliers i 0)
   last-holds inliers i l t h =
       wins i inliers (getD inliers i 0)
       (holder-from inliers i l

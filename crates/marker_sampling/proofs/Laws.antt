@@ -1,7 +1,7 @@
 -- The whole cells of the definition are in order, complete and without repeats, and its places are those of all points in range.
 -- Assumes nothing.
 use mathlib.Core.Path.{_≡_, refl, sym, ap, ap₂, subst, _∙_}
-use mathlib.Core.Bool.{Bool, true, false, false≢true}
+use mathlib.Core.Bool.{Bool, true, false, cond, false≢true}
 use mathlib.Core.List.{List, [], _∷_, _++_, map, append-nil}
 use mathlib.Core.Logic.{_⊎_, inl, inr}
 use Prim.Native.Nat.{ℕ, zero, suc, _+_, _*_, _/_, _%_, _<_}
@@ -11,11 +11,12 @@ use lib.Arith.{digits-lt, digits-div, digits-mod}
 use lib.IntN.{pos, _-ℤ_}
 use lib.ListN.{length, getD, length-append, List·getD-append}
 use lib.Seq.{getD-at}
+use Rattle.lent_list.specs.Front.{upTo}
 use Rattle.grid_alignment.specs.declared.Coord.{Coord}
 use Rattle.grid_alignment.specs.Alignment.{point}
-use Rattle.marker_sampling.specs.Cells.{whole, pointAt, kept, cellsBefore}
-use Rattle.marker_sampling.specs.Keys.{side}
-use Rattle.marker_sampling.specs.Rules.{InOrder, CellsInOrder, EveryPoint}
+use Rattle.marker_sampling.specs.Cells.{wholeCell, pointAt}
+use Rattle.marker_sampling.specs.Keys.{keySide}
+use Rattle.marker_sampling.specs.Rules.{PassingInOrder, CellsInOrder, EveryPoint}
 use Rattle.marker_sampling.proofs.Tests.{offset-of, offset-small, offset-back, offset-only}
 
 module _ {A : Type 0} where
@@ -24,9 +25,12 @@ module _ {A : Type 0} where
   map-snoc f (y ∷ ys) x = ap (λ (l : List A). f y ∷ l) (map-snoc f ys x)
 
 -- ---- a list to which each place adds its element, if the place passes a test
-module _ {A : Type 0} (test : ℕ → Bool) (element : ℕ → A) (before : ℕ → List A) where
-  module _ (n : ℕ) (h : InOrder test element n (before n)) where
-    skip : test n ≡ false → InOrder test element (suc n) (before n)
+module _ {A : Type 0} (test : ℕ → Bool) (element : ℕ → A) where
+  abbrev before : ℕ → List A
+  before = upTo (λ k. cond (test k) (element k ∷ []) [])
+
+  module _ (n : ℕ) (h : PassingInOrder test element n (before n)) where
+    skip : test n ≡ false → PassingInOrder test element (suc n) (before n)
     skip e = record {
       places = h .places;
       are = h .are;
@@ -62,7 +66,7 @@ module _ {A : Type 0} (test : ℕ → Bool) (element : ℕ → A) (before : ℕ 
     rising-more i j l (inl q) = let k : i < length (h .places) = omega arith in rw (new j q, old i k) (h .sound i k .0)
     rising-more i j l (inr k) = let k' : i < length (h .places) = omega arith in rw (old i k', old j k) (h .rising i j l k)
 
-    add : test n ≡ true → InOrder test element (suc n) (before n ++ element n ∷ [])
+    add : test n ≡ true → PassingInOrder test element (suc n) (before n ++ element n ∷ [])
     add e = record {
       places = more;
       are = ap (λ (l : List A). l ++ element n ∷ []) (h .are) ∙ sym (map-snoc element (h .places) n);
@@ -75,18 +79,24 @@ module _ {A : Type 0} (test : ℕ → Bool) (element : ℕ → A) (before : ℕ 
         sound-more i (inl q) = rw (new i q) (omega arith, e)
         sound-more i (inr l) = let s = h .sound i l in rw (old i l) (omega arith, s .1)
 
-    next : (b : Bool) → test n ≡ b → InOrder test element (suc n) (before n ++ kept b (element n))
+    next : (b : Bool) → test n ≡ b → PassingInOrder test element (suc n) (before n ++ cond b (element n ∷ []) [])
     next true e = add e
-    next false e = subst (InOrder test element (suc n)) (sym (append-nil (before n))) (skip e)
+    next false e = subst (PassingInOrder test element (suc n)) (sym (append-nil (before n))) (skip e)
 
-  pub in-order : before 0 ≡ [] → ((n : ℕ) → before (suc n) ≡ before n ++ kept (test n) (element n)) → (n : ℕ) → InOrder test element n (before n)
-  in-order e f zero = record { places = []; are = e; sound = λ i l. absurd (omega arith); complete = λ r l t. absurd (omega arith); rising = λ i j l k. absurd (omega arith) }
-  in-order e f (suc n) = subst (InOrder test element (suc n)) (sym (f n)) (next n (in-order e f n) (test n) refl)
+  pub in-order : (n : ℕ) → PassingInOrder test element n (upTo (λ k. cond (test k) (element k ∷ []) []) n)
+  unfolding upTo
+  in-order zero =
+      record {
+        places = [];
+        are = refl;
+        sound = λ i l. absurd (omega arith);
+        complete = λ r l t. absurd (omega arith);
+        rising = λ i j l k. absurd (omega arith);
+      }
+  in-order (suc n) = next n (in-order n) (test n) refl
 
 pub cells-in-order : CellsInOrder
-unfolding cellsBefore
-cells-in-order m c inliers =
-    in-order (λ r. whole c inliers (pointAt m r)) (pointAt m) (cellsBefore m c inliers) refl (λ n. refl) (side m * side m)
+cells-in-order m c inliers = in-order (λ r. wholeCell c inliers (pointAt m r)) (pointAt m) (keySide m * keySide m)
 
 pub every-point : EveryPoint
 every-point m p hu hv =
@@ -95,13 +105,13 @@ every-point m p hu hv =
     let su = offset-small m (p .u) hu in
     let sv = offset-small m (p .v) hv in
     record {
-      place = v * side m + u;
+      place = v * keySide m + u;
       inside = digits-lt sv su;
       there =
           ap₂ (λ (a b : ℕ). point (pos a -ℤ pos m) (pos b -ℤ pos m)) (digits-mod v su) (digits-div v su)
           ∙ ap₂ point (sym (offset-back m (p .u) hu)) (sym (offset-back m (p .v) hv));
       only = λ r l e.
-          sym (div-add-mod' r (side m))
-          ∙ ap₂ (λ (a b : ℕ). b * side m + a) (offset-only m (r % side m) u (ap (λ (q : Coord). q .u) e ∙ offset-back m (p .u) hu))
-          (offset-only m (r / side m) v (ap (λ (q : Coord). q .v) e ∙ offset-back m (p .v) hv));
+          sym (div-add-mod' r (keySide m))
+          ∙ ap₂ (λ (a b : ℕ). b * keySide m + a) (offset-only m (r % keySide m) u (ap (λ (q : Coord). q .u) e ∙ offset-back m (p .u) hu))
+          (offset-only m (r / keySide m) v (ap (λ (q : Coord). q .v) e ∙ offset-back m (p .v) hv));
     }

@@ -1,36 +1,29 @@
 -- The whole cells among the first places: places without a key add none, and a place with one adds its words. Assumes nothing.
 use mathlib.Core.Path.{_≡_, refl, sym, ap, ap₂, _∙_}
 use mathlib.Core.Bool.{Bool, true, false, cond, false≢true}
-use mathlib.Core.List.{List, [], _∷_, _++_, append-nil, append-assoc}
+use mathlib.Core.List.{List, [], _∷_, _++_, flatMap}
 use mathlib.Core.Option.{Option, none, some}
-use Prim.Native.Nat.{ℕ, zero, suc, _+_, _-_, _*_, _/_, _%_, _≤_, _<_}
-use native.Mathlib.Nat.{add-zero, add-suc, div-add-mod'}
+use Prim.Native.Nat.{ℕ, _+_, _-_, _*_, _/_, _%_, _≤_, _<_}
+use native.Mathlib.Nat.{div-add-mod'}
 use native.Mathlib.Numerals.{add-one}
 use native.Mathlib.Omega.{arith}
-use lib.Dec.{eqb, leb·zero}
-use lib.ListN.{length, getD, take, length-append}
+use lib.Dec.{eqb, leb, leb·zero}
+use lib.ListN.{length, getD, length-append}
 use lib.IntN.{ℤ, pos}
 use lib.Signed.{leZ}
-use borrow.Author.Tests.{ne-eqb}
+use borrow.Author.Tests.{ne-eqb, leb-true, leb-false}
+use Rattle.lent_list.specs.Front.{inFront, upTo}
+use Rattle.lent_list.proofs.Front.{front-is, put-in-front, front-full, up-to-same, flatMap-append, flatMap-length}
 use Rattle.grid_alignment.specs.declared.Coord.{Coord}
 use Rattle.grid_alignment.specs.Alignment.{corner}
-use Rattle.marker_sampling.specs.Cells.{Corners, holder, held, index, hasCorner, whole, pointAt, kept, cellsBefore, cellWords, words}
-use Rattle.marker_sampling.specs.Keys.{side, MapOf, Next, indexOrMinusOne, foundWords, wholeWords, Put, Collected}
+use Rattle.marker_sampling.specs.Cells.{Corners, holder, held, index, hasCorner, wholeCell, pointAt, wholeAt, cellWords, wordsOfCells}
+use Rattle.marker_sampling.specs.Keys.{keySide, MapOf, Next, indexOrMinusOne, foundWords, wholeWords, CellAdded, Collected}
 use Rattle.refusal.proofs.Questions.{both}
 use Rattle.marker_sampling.proofs.Keyed.{column, row}
 use Rattle.marker_sampling.proofs.Holders.{nobody}
 
--- ---- words
-words-append : (c : Corners) (inliers : List ℕ) (ps qs : List Coord) → words c inliers (ps ++ qs) ≡ words c inliers ps ++ words c inliers qs
-unfolding words
-words-append c inliers [] qs = refl
-words-append c inliers (p ∷ ps) qs =
-    ap (λ (l : List ℤ). cellWords c inliers p ++ l) (words-append c inliers ps qs) ∙ sym (append-assoc (cellWords c inliers p) (words c inliers ps) (words c inliers qs))
-
-pub words-length : (c : Corners) (inliers : List ℕ) (ps : List Coord) → length (words c inliers ps) ≡ 6 * length ps
-unfolding words
-words-length c inliers [] = refl
-words-length c inliers (p ∷ ps) = omega (arith, length-append (cellWords c inliers p) (words c inliers ps), words-length c inliers ps)
+pub words-length : (c : Corners) (inliers : List ℕ) (ps : List Coord) → length (wordsOfCells c inliers ps) ≡ 6 * length ps
+words-length c inliers ps = flatMap-length (cellWords c inliers) 6 (λ p. refl) ps
 
 -- ---- a corner's index, or −1
 present-held : (o : Option ℕ) → leZ (pos 0) (indexOrMinusOne o) ≡ held o
@@ -45,91 +38,114 @@ module _ (c : Corners) (inliers : List ℕ) (p : Coord) where
   abbrev at : ℕ → Option ℕ
   at k = holder c inliers (corner k p)
 
-  whole-is : wholeWords (foundWords c inliers p) ≡ whole c inliers p
+  whole-is : wholeWords (foundWords c inliers p) ≡ wholeCell c inliers p
   whole-is = rw (present-held (at 0), present-held (at 1), present-held (at 2), present-held (at 3))
 
-  words-are : whole c inliers p ≡ true → foundWords c inliers p ≡ cellWords c inliers p
+  words-are : wholeCell c inliers p ≡ true → foundWords c inliers p ≡ cellWords c inliers p
   words-are e =
       let h = both (hasCorner c inliers p 0) _ e in
       let i = both (hasCorner c inliers p 1) _ (h .1) in
       let j = both (hasCorner c inliers p 2) _ (i .1) in
       rw (found-index (at 0) (h .0), found-index (at 1) (i .0), found-index (at 2) (j .0), found-index (at 3) (j .1))
 
-  not-whole : holder c inliers p ≡ none → whole c inliers p ≡ false
+  not-whole : holder c inliers p ≡ none → wholeCell c inliers p ≡ false
   unfolding corner
   not-whole e = rw e
 
 -- ---- the walk
+-- a cell that is whole counts
+one-if : {A : Type 0} (b : Bool) (n : ℕ) (x : A) → cond b (n + 1) n ≡ n + length (cond b (x ∷ []) [])
+one-if true n x = refl
+one-if false n x = omega arith
+
+-- a cell adds at most one
+pub added-most : {n r : ℕ} {cell before after : List ℤ} → CellAdded n cell before after r → r ≤ n + 1
+added-most {n} {r} {cell} p = go (wholeWords cell) (p .count)
+  where
+    go : (b : Bool) → r ≡ cond b (n + 1) n → r ≤ n + 1
+    go true e = omega arith
+    go false e = omega arith
+
 module _ (m : ℕ) (c : Corners) (inliers : List ℕ) where
-  gap : (from n : ℕ) → ((j : ℕ) → from ≤ j → j < from + n → whole c inliers (pointAt m j) ≡ false) → cellsBefore m c inliers (from + n) ≡ cellsBefore m c inliers from
-  unfolding cellsBefore
-  gap from zero h = ap (cellsBefore m c inliers) (add-zero from)
-  gap from (suc n) h =
-      ap (cellsBefore m c inliers) (add-suc from n)
-      ∙ ap₂ (λ (l : List Coord) (b : Bool). l ++ kept b (pointAt m (from + n))) (gap from n (λ j a b. h j a (omega arith))) (h (from + n) (omega arith) (omega arith))
-      ∙ append-nil _
+  abbrev at-place : ℕ → List Coord
+  at-place = wholeAt m c inliers
 
   module _ (map : List ℕ) (k : MapOf m c inliers (length inliers) map) where
     -- a place that is no inlier's key
-    empty : (r : ℕ) → r < side m * side m → ((j : ℕ) → j < length inliers → getD map j 0 / 1024 ≡ r → ⊥) → whole c inliers (pointAt m r) ≡ false
+    empty : (r : ℕ) → r < keySide m * keySide m → ((j : ℕ) → j < length inliers → getD map j 0 / 1024 ≡ r → ⊥) → at-place r ≡ []
     empty r h none-there =
-        not-whole c inliers (pointAt m r)
+        ap (λ (b : Bool). cond b (pointAt m r ∷ []) [])
+        (not-whole c inliers (pointAt m r)
         (nobody c (pointAt m r) inliers
         (λ i l.
         let w = k .has i l in
-        w .2 .key .at (r % side m) (r / side m) (column m h) (row m h)
-        ∙ ap (eqb (getD map (w .0) 0 / 1024)) (div-add-mod' r (side m))
-        ∙ ne-eqb (getD map (w .0) 0 / 1024) r (none-there (w .0) (w .1))))
+        w .2 .key .at (r % keySide m) (r / keySide m) (column m h) (row m h)
+        ∙ ap (eqb (getD map (w .0) 0 / 1024)) (div-add-mod' r (keySide m))
+        ∙ ne-eqb (getD map (w .0) 0 / 1024) r (none-there (w .0) (w .1)))))
 
-    pub passes : (from r : ℕ) → Next map (length inliers) (side m * side m) from r → cellsBefore m c inliers r ≡ cellsBefore m c inliers from
+    pub passes : (from r : ℕ) → Next map (length inliers) (keySide m * keySide m) from r → upTo at-place r ≡ upTo at-place from
     passes from r n =
         let e : r ≡ from + (r - from) = omega (arith, n .least) in
-        ap (cellsBefore m c inliers) e
-        ∙ gap from (r - from)
+        ap (upTo at-place) e
+        ∙ up-to-same at-place from (r - from)
         (λ j a b. empty j (omega (arith, n .most, n .least)) (λ i l q. omega (arith, n .passed i l (omega (arith, n .least)))))
 
-  abbrev before : ℕ → List Coord
-  before = cellsBefore m c inliers
+  -- the words of the cell at a point are those that were found, if it is whole
+  cell-words : (q : Coord) → wordsOfCells c inliers (cond (wholeCell c inliers q) (q ∷ []) [])
+      ≡ cond (wholeWords (foundWords c inliers q)) (foundWords c inliers q) []
+  unfolding flatMap
+  cell-words q = go (wholeCell c inliers q) refl ∙ sym (ap (λ (b : Bool). cond b (foundWords c inliers q) []) (whole-is c inliers q))
+    where
+      go : (b : Bool) → wholeCell c inliers q ≡ b → wordsOfCells c inliers (cond b (q ∷ []) []) ≡ cond b (foundWords c inliers q) []
+      go true e = sym (words-are c inliers q e)
+      go false e = refl
 
-  one-more : (key : ℕ) → before (key + 1) ≡ before key ++ kept (whole c inliers (pointAt m key)) (pointAt m key)
-  unfolding cellsBefore
-  one-more key = ap (cellsBefore m c inliers) (add-one key)
+  pub collect-first : (lent : List ℤ) → Collected m c inliers 0 lent lent 0
+  unfolding upTo flatMap
+  collect-first lent = record { count = refl; list = sym (front-is [] lent (omega arith)) }
 
-  one-cell : (q : Coord) → words c inliers (q ∷ []) ≡ cellWords c inliers q
-  unfolding words
-  one-cell q = refl
-
-  pub collect-first : (results : List ℤ) → Collected m c inliers 0 results 0
-  unfolding cellsBefore words
-  collect-first results = record { count = refl; words = λ l. refl }
-
-  pub collect-on : {from r n : ℕ} {results : List ℤ} → before r ≡ before from → Collected m c inliers from results n → Collected m c inliers r results n
-  collect-on e h = record { count = h .count ∙ ap length (sym e); words = λ l. h .words l ∙ ap (words c inliers) (sym e) }
-
-  collected : (key n r : ℕ) (results after : List ℤ) (b : Bool) → whole c inliers (pointAt m key) ≡ b → Collected m c inliers key results n → Put n b (foundWords c inliers (pointAt m key)) results after r → Collected m c inliers (key + 1) after r
-  collected key n r results after true e h p =
-      let q = pointAt m key in
-      let more : before (key + 1) ≡ before key ++ q ∷ [] = one-more key ∙ ap (λ (b : Bool). before key ++ kept b q) e in record {
-        count = p .count ∙ omega (arith, h .count, ap length more, length-append (before key) (q ∷ []));
-        words = λ l.
-            let small : n < 256 = omega (arith, p .count) in
-            let six : 6 * r ≡ 6 * n + 6 = omega (arith, p .count) in
-            ap (λ (t : ℕ). take t after) six ∙ p .added refl small ∙ ap₂ _++_ (h .words (omega arith)) (words-are c inliers q e) ∙ sym (ap (words c inliers) more ∙ words-append c inliers (before key) (q ∷ []) ∙ ap (λ (l : List ℤ). words c inliers (before key) ++ l) (one-cell q));
+  pub collect-on : {from r n : ℕ} {lent after : List ℤ} → upTo at-place r ≡ upTo at-place from → Collected m c inliers from lent after n
+      → Collected m c inliers r lent after n
+  collect-on {lent = lent} e h =
+      record {
+        count = h .count ∙ ap length (sym e);
+        list = h .list ∙ ap (λ (ps : List Coord). inFront (wordsOfCells c inliers ps) lent) (sym e);
       }
-  collected key n r results after false e h p =
-      let q = pointAt m key in
-      let more : before (key + 1) ≡ before key = one-more key ∙ ap (λ (b : Bool). before key ++ kept b q) e ∙ append-nil (before key) in
-      rw (p .left refl, p .count) (collect-on more h)
 
-  pub collect-next : (key n r : ℕ) (cell results after : List ℤ) → cell ≡ foundWords c inliers (pointAt m key) → Collected m c inliers key results n → Put n (wholeWords cell) cell results after r → Collected m c inliers (key + 1) after r
-  collect-next key n r cell results after e h p =
-      let q = pointAt m key in
-      collected key n r results after (whole c inliers q) refl h (rw (e, whole-is c inliers q) at p)
+  pub collect-next : (key : ℕ) {n r : ℕ} {cell lent mid after : List ℤ} → length lent ≡ 1536 → cell ≡ foundWords c inliers (pointAt m key)
+      → Collected m c inliers key lent mid n → CellAdded n cell mid after r → Collected m c inliers (key + 1) lent after r
+  unfolding upTo
+  collect-next key {n} {r} {cell} {lent} {mid} {after} long e h p =
+      record { count = counted; list = go (leb 256 n) (leb-true 256 n) (leb-false 256 n) ∙ ap (λ (l : List ℤ). inFront l lent) (sym told) }
+    where
+      q : Coord
+      q = pointAt m key
 
--- a cell adds at most one
-pub put-most : {n r : ℕ} {b : Bool} {cell before after : List ℤ} → Put n b cell before after r → r ≤ n + 1
-put-most {n} {r} {b} p = go b (p .count)
-  where
-    go : (d : Bool) → r ≡ cond d (n + 1) n → r ≤ n + 1
-    go true e = omega arith
-    go false e = omega arith
+      ps : List Coord
+      ps = upTo at-place key
+
+      ws : List ℤ
+      ws = cond (wholeWords cell) cell []
+
+      more : upTo at-place (key + 1) ≡ ps ++ at-place key
+      more = ap (upTo at-place) (add-one key)
+
+      told : wordsOfCells c inliers (upTo at-place (key + 1)) ≡ wordsOfCells c inliers ps ++ ws
+      told =
+          ap (wordsOfCells c inliers) more ∙ flatMap-append (cellWords c inliers) ps (at-place key)
+          ∙ ap (λ (l : List ℤ). wordsOfCells c inliers ps ++ l) (cell-words q ∙ ap (λ (w : List ℤ). cond (wholeWords w) w []) (sym e))
+
+      counted : r ≡ length (upTo at-place (key + 1))
+      counted =
+          p .count
+          ∙ ap (λ (b : Bool). cond b (n + 1) n) (ap wholeWords e ∙ whole-is c inliers q)
+          ∙ one-if (wholeCell c inliers q) n q
+          ∙ ap (λ (k : ℕ). k + length (at-place key)) (h .count)
+          ∙ sym (ap length more ∙ length-append ps (at-place key))
+
+      six : 6 * n ≡ length (wordsOfCells c inliers ps)
+      six = ap (λ (k : ℕ). 6 * k) (h .count) ∙ sym (words-length c inliers ps)
+
+      go : (b : Bool) → (b ≡ true → 256 ≤ n) → (b ≡ false → n < 256) → after ≡ inFront (wordsOfCells c inliers ps ++ ws) lent
+      go true f _ = p .full (f refl) ∙ h .list ∙ front-full (wordsOfCells c inliers ps) ws lent (omega (arith, f refl, six, long))
+      go false _ f = put-in-front (wordsOfCells c inliers ps) lent (h .list) six (omega (arith, f refl, added-most p, long)) (p .fits (f refl))

@@ -7,7 +7,7 @@ use native.Mathlib.Nat.{eq-or-lt-of-le, le-of-suc-le-suc}
 use native.Mathlib.Numerals.{add-one}
 use native.Mathlib.Omega.{arith}
 use Rattle.marker_sampling.specs.Cells.{Corners, word, labelled}
-use Rattle.integers.specs.Distance.{within}
+use Rattle.integers.specs.Distance.{isWithin}
 use Rattle.marker_sampling.specs.Entry.{placed, allPlaced}
 use Rattle.refusal.proofs.Questions.{both}
 
@@ -24,9 +24,9 @@ module _ (m : ℕ) (c : Corners) where
   one-more-in k a b = ap (allPlaced m c) (add-one k) ∙ ap₂ _&&_ a b
 
   -- a corner with a grid point, among those in range
-  pub both-within : (n k : ℕ) → k < n → allPlaced m c n ≡ true → labelled c k ≡ true → (within m (word c k 1) ≡ true) × (within m (word c k 2) ≡ true)
-  both-within n k l a e = both (within m (word c k 1)) (within m (word c k 2)) (go (placed m c k) refl)
+  pub both-within : (n k : ℕ) → k < n → allPlaced m c n ≡ true → labelled c k ≡ true → (isWithin m (word c k 1) ≡ true) × (isWithin m (word c k 2) ≡ true)
+  both-within n k l a e = both (isWithin m (word c k 1)) (isWithin m (word c k 2)) (go (placed m c k) refl)
     where
-      go : (b : Bool) → placed m c k ≡ b → (within m (word c k 1) && within m (word c k 2)) ≡ true
-      go true p = sym (ap (λ (d : Bool). not d || (within m (word c k 1) && within m (word c k 2))) e) ∙ p
+      go : (b : Bool) → placed m c k ≡ b → (isWithin m (word c k 1) && isWithin m (word c k 2)) ≡ true
+      go true p = sym (ap (λ (d : Bool). not d || (isWithin m (word c k 1) && isWithin m (word c k 2))) e) ∙ p
       go false p = absurd (false≢true (sym (one-out n k l p) ∙ a))

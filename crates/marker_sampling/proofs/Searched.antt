@@ -8,21 +8,21 @@ use native.Mathlib.Omega.{arith}
 use lib.ListN.{length, getD}
 use borrow.Author.Tests.{eq-eqb, ne-eqb}
 use Rattle.marker_sampling.specs.Cells.{Corners, holder, stands}
-use Rattle.marker_sampling.specs.Keys.{side, gridPoint, Rising, MapOf, LowerBound, Below, Bounded, Searchable, Next}
+use Rattle.marker_sampling.specs.Keys.{keySide, rangePoint, Rising, MapOf, LowerBound, FirstBelow, Bounded, Searchable, Next}
 use Rattle.integers.proofs.Distances.{lt-or-le}
 use Rattle.marker_sampling.proofs.Holders.{nobody, last-holds}
 
 -- ---- where a search can start
 -- one for a greater word
-pub still-below : {map : List ℕ} {n x y p : ℕ} → x ≤ y → Below map n x p → Below map n y p
+pub still-below : {map : List ℕ} {n x y p : ℕ} → x ≤ y → FirstBelow map n x p → FirstBelow map n y p
 still-below l b = record { inside = b .inside; below = λ k h. omega (arith, l, b .below k h) }
 
 -- one after another search
-pub searched-below : {map : List ℕ} {n x y p : ℕ} → x ≤ y → LowerBound map n x p → Below map n y p
+pub searched-below : {map : List ℕ} {n x y p : ℕ} → x ≤ y → LowerBound map n x p → FirstBelow map n y p
 searched-below l b = still-below l (record { inside = b .inside; below = b .below })
 
 -- the first place will always do
-pub none-before : (map : List ℕ) (n x : ℕ) → Below map n x 0
+pub none-before : (map : List ℕ) (n x : ℕ) → FirstBelow map n x 0
 none-before map n x = record { inside = omega arith; below = λ k h. absurd (omega arith) }
 
 pub at-start : (map : List ℕ) (n : ℕ) → LowerBound map n 0 0
@@ -45,14 +45,14 @@ module _ {map : List ℕ} {n end from p : ℕ} (low : from ≤ end) (r : Rising 
   no-key l = record { least = low; most = omega arith; passed = λ j g less. omega (arith, b .below j (omega arith)) }
 
 -- ---- the last inlier at a key
-module _ (m : ℕ) (c : Corners) (inliers map : List ℕ) (h : MapOf m c inliers (length inliers) map) (u v : ℕ) (hu : u < side m) (hv : v < side m) where
+module _ (m : ℕ) (c : Corners) (inliers map : List ℕ) (h : MapOf m c inliers (length inliers) map) (u v : ℕ) (hu : u < keySide m) (hv : v < keySide m) where
   abbrev key : ℕ
-  key = v * side m + u
+  key = v * keySide m + u
 
   -- no word has the key
-  unkeyed : ((j : ℕ) → j < length inliers → getD map j 0 / 1024 ≡ key → ⊥) → holder c inliers (gridPoint m u v) ≡ none
+  unkeyed : ((j : ℕ) → j < length inliers → getD map j 0 / 1024 ≡ key → ⊥) → holder c inliers (rangePoint m u v) ≡ none
   unkeyed absent =
-      nobody c (gridPoint m u v) inliers
+      nobody c (rangePoint m u v) inliers
       (λ i l. let f = h .has i l in f .2 .key .at u v hu hv ∙ ne-eqb (getD map (f .0) 0 / 1024) key (absent (f .0) (f .1)))
 
   -- the words with the key stand from `first` to `end` − 1
@@ -68,7 +68,7 @@ module _ (m : ℕ) (c : Corners) (inliers map : List ℕ) (h : MapOf m c inliers
         before-end (inl d) = d
         before-end (inr d) = absurd (omega (arith, e, b .above j d l))
 
-    pub none-there : end ≤ first → holder c inliers (gridPoint m u v) ≡ none
+    pub none-there : end ≤ first → holder c inliers (rangePoint m u v) ≡ none
     none-there e = unkeyed (λ j l q. omega (arith, e, inside j l q))
 
     module _ (some-there : first < end) where
@@ -79,17 +79,18 @@ module _ (m : ℕ) (c : Corners) (inliers map : List ℕ) (h : MapOf m c inliers
       under : (j : ℕ) → j < length inliers → getD map j 0 / 1024 ≡ key → getD map j 0 ≤ getD map (end - 1) 0
       under j l e = h .rising j (end - 1) (omega (arith, inside j l e)) (omega (arith, b .inside))
 
-      pub last-there : holder c inliers (gridPoint m u v) ≡ some (getD inliers (getD map (end - 1) 0 % 1024) 0)
+      pub last-there : holder c inliers (rangePoint m u v) ≡ some (getD inliers (getD map (end - 1) 0 % 1024) 0)
       last-there =
           let w = getD map (end - 1) 0 in
           let s = h .from (end - 1) (omega (arith, b .inside)) in
-          last-holds c (gridPoint m u v) inliers (w % 1024) (omega (arith, s .1, s .2 .place))
-          (ap (λ (i : ℕ). stands c (getD inliers i 0) (gridPoint m u v)) (s .2 .place) ∙ s .2 .key .at u v hu hv ∙ eq-eqb (w / 1024) key last-key)
+          last-holds c (rangePoint m u v) inliers (w % 1024) (omega (arith, s .1, s .2 .place))
+          (ap (λ (i : ℕ). stands c (getD inliers i 0) (rangePoint m u v)) (s .2 .place) ∙ s .2 .key .at u v hu hv ∙ eq-eqb (w / 1024) key last-key)
           (λ i l g.
           let d = h .has i g in
           d .2 .key .at u v hu hv ∙ ne-eqb (getD map (d .0) 0 / 1024) key (λ q. omega (arith, last-key, l, d .2 .place, under (d .0) (d .1) q)))
 
-pub searchable : {m : ℕ} {c : Corners} {inliers map : List ℕ} → length inliers ≤ 1024 → c .count ≤ 1024 → MapOf m c inliers (length inliers) map → Searchable m inliers map
+pub searchable : {m : ℕ} {c : Corners} {inliers map : List ℕ} → length inliers ≤ 1024 → c .count ≤ 1024 → MapOf m c inliers (length inliers) map
+    → Searchable m inliers map
 searchable {m} {c} {inliers} {map} short few h = record {
   short = short;
   rising = h .rising;

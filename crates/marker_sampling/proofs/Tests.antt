@@ -14,7 +14,7 @@ use Rattle.refusal.proofs.Questions.{both}
 use Rattle.integers.proofs.Parts.{plus, minus, plus-neg, minus-neg, add-is, sub-is-parts, abs-is, ext}
 use Rattle.integers.proofs.Words.{word}
 use Rattle.marker_sampling.specs.Cells.{same}
-use Rattle.integers.specs.Distance.{within}
+use Rattle.integers.specs.Distance.{isWithin}
 
 -- two tests that hold together
 pub agree : (a b : Bool) → (a ≡ true → b ≡ true) → (b ≡ true → a ≡ true) → a ≡ b
@@ -62,7 +62,7 @@ pub offset-of : ℕ → ℤ → ℕ
 offset-of m z = natAbs (z +ℤ pos m)
 
 module _ (m : ℕ) where
-  parts-within : (z : ℤ) → within m z ≡ true → (minus z ≤ plus z + m) × (plus z ≤ minus z + m)
+  parts-within : (z : ℤ) → isWithin m z ≡ true → (minus z ≤ plus z + m) × (plus z ≤ minus z + m)
   unfolding plus minus
   parts-within z e =
       let h = both (leZ (negℤ (pos m)) z) _ e in
@@ -70,7 +70,7 @@ module _ (m : ℕ) where
       let b = le-parts z (pos m) (h .1) in
       (omega (arith, plus-neg (pos m), minus-neg (pos m)), omega arith)
 
-  shifted : (z : ℤ) → within m z ≡ true → (minus (z +ℤ pos m) ≡ 0) × (plus (z +ℤ pos m) + minus z ≡ plus z + m)
+  shifted : (z : ℤ) → isWithin m z ≡ true → (minus (z +ℤ pos m) ≡ 0) × (plus (z +ℤ pos m) + minus z ≡ plus z + m)
   unfolding plus minus
   shifted z e =
       let a = parts-within z e in
@@ -78,15 +78,15 @@ module _ (m : ℕ) where
       let n = no-minus (z +ℤ pos m) (omega arith) in
       (n, omega arith)
 
-  pub offset-small : (z : ℤ) → within m z ≡ true → offset-of m z < 2 * m + 1
+  pub offset-small : (z : ℤ) → isWithin m z ≡ true → offset-of m z < 2 * m + 1
   unfolding offset-of
   offset-small z e = omega (arith, parts-within z e, shifted z e, abs-is (z +ℤ pos m))
 
-  pub offset-is : (z : ℤ) → within m z ≡ true → z +ℤ pos m ≡ pos (offset-of m z)
+  pub offset-is : (z : ℤ) → isWithin m z ≡ true → z +ℤ pos m ≡ pos (offset-of m z)
   unfolding offset-of plus minus
   offset-is z e = ext (z +ℤ pos m) (pos (natAbs (z +ℤ pos m))) (omega (arith, shifted z e, abs-is (z +ℤ pos m)))
 
-  pub offset-back : (z : ℤ) → within m z ≡ true → z ≡ pos (offset-of m z) -ℤ pos m
+  pub offset-back : (z : ℤ) → isWithin m z ≡ true → z ≡ pos (offset-of m z) -ℤ pos m
   offset-back z e = sym (ap (λ (y : ℤ). y -ℤ pos m) (sym (offset-is z e)) ∙ +ℤ-negℤ-cancel z (pos m))
 
   pub offset-only : (a b : ℕ) → pos a -ℤ pos m ≡ pos b -ℤ pos m → a ≡ b

@@ -1,12 +1,13 @@
 -- Document 01, Cells: `build_corner_map`, then `build_marker_cells`, with the corners' indices for their positions.
-use Prim.Native.Nat.{ℕ, zero, suc, _+_, _*_, _/_, _%_}
-use mathlib.Core.Bool.{Bool, true, false, not, _&&_}
-use mathlib.Core.List.{List, [], _∷_, _++_}
+use Prim.Native.Nat.{ℕ, _+_, _*_, _/_, _%_}
+use mathlib.Core.Bool.{Bool, true, false, not, _&&_, cond}
+use mathlib.Core.List.{List, [], _∷_, flatMap}
 use mathlib.Core.Option.{Option, none, some}
 use lib.Dec.{ltb}
 use lib.ListN.{getD}
 use lib.IntN.{ℤ, pos, _-ℤ_}
 use lib.Signed.{leZ}
+use Rattle.lent_list.specs.Front.{upTo}
 use Rattle.grid_alignment.specs.declared.Coord.{Coord}
 use Rattle.grid_alignment.specs.Alignment.{point, corner}
 
@@ -15,6 +16,9 @@ use Rattle.grid_alignment.specs.Alignment.{point, corner}
 pub record Corners : Type 0 where
   pub count : ℕ
   pub grid : List ℤ
+
+abbrev pub cornersOf : ℕ → List ℤ → Corners
+cornersOf count grid = record { count = count; grid = grid }
 
 abbrev pub same : ℤ → ℤ → Bool
 same a b = leZ a b && leZ b a
@@ -51,25 +55,20 @@ index (some k) = k
 abbrev pub hasCorner : Corners → List ℕ → Coord → ℕ → Bool
 hasCorner c inliers p k = held (holder c inliers (corner k p))
 
-abbrev pub whole : Corners → List ℕ → Coord → Bool
-whole c inliers p = hasCorner c inliers p 0 && (hasCorner c inliers p 1 && (hasCorner c inliers p 2 && hasCorner c inliers p 3))
+abbrev pub wholeCell : Corners → List ℕ → Coord → Bool
+wholeCell c inliers p = hasCorner c inliers p 0 && (hasCorner c inliers p 1 && (hasCorner c inliers p 2 && hasCorner c inliers p 3))
 
 -- the points with u and v from −m to m have the places 0 to (2m + 1)² − 1, row by row: v, then u
 abbrev pub pointAt : ℕ → ℕ → Coord
 pointAt m r = point (pos (r % (2 * m + 1)) -ℤ pos m) (pos (r / (2 * m + 1)) -ℤ pos m)
 
--- the whole cells among the first places
-abbrev pub kept : {A : Type 0} → Bool → A → List A
-kept true p = p ∷ []
-kept false p = []
-
-unfoldable pub cellsBefore : ℕ → Corners → List ℕ → ℕ → List Coord
-cellsBefore m c inliers zero = []
-cellsBefore m c inliers (suc r) = cellsBefore m c inliers r ++ kept (whole c inliers (pointAt m r)) (pointAt m r)
+-- the cell at a place, if it is whole
+abbrev pub wholeAt : ℕ → Corners → List ℕ → ℕ → List Coord
+wholeAt m c inliers r = cond (wholeCell c inliers (pointAt m r)) (pointAt m r ∷ []) []
 
 -- the whole cells, row by row
 abbrev pub cells : ℕ → Corners → List ℕ → List Coord
-cells m c inliers = cellsBefore m c inliers ((2 * m + 1) * (2 * m + 1))
+cells m c inliers = upTo (wholeAt m c inliers) ((2 * m + 1) * (2 * m + 1))
 
 -- The six words of a cell: its point, then the indices of its four corners.
 abbrev pub cornerIndex : Corners → List ℕ → Coord → ℕ → ℤ
@@ -79,6 +78,5 @@ abbrev pub cellWords : Corners → List ℕ → Coord → List ℤ
 cellWords c inliers p =
     p .u ∷ p .v ∷ cornerIndex c inliers p 0 ∷ cornerIndex c inliers p 1 ∷ cornerIndex c inliers p 2 ∷ cornerIndex c inliers p 3 ∷ []
 
-unfoldable pub words : Corners → List ℕ → List Coord → List ℤ
-words c inliers [] = []
-words c inliers (p ∷ ps) = cellWords c inliers p ++ words c inliers ps
+abbrev pub wordsOfCells : Corners → List ℕ → List Coord → List ℤ
+wordsOfCells c inliers ps = flatMap (cellWords c inliers) ps

@@ -2,38 +2,36 @@
 use Prim.Native.Nat.{ℕ, _+_, _*_, _/_, _%_, _≤_, _<_}
 use mathlib.Core.Path.{_≡_}
 use mathlib.Core.Bool.{Bool, true, false, cond, _&&_}
-use mathlib.Core.List.{List, [], _∷_, _++_}
+use mathlib.Core.List.{List, [], _∷_}
 use mathlib.Core.Option.{Option, none, some}
 use lib.Dec.{eqb}
-use lib.ListN.{length, getD, take}
+use lib.ListN.{length, getD}
 use lib.IntN.{ℤ, pos, negsuc, _-ℤ_}
 use lib.Signed.{leZ}
+use Rattle.lent_list.specs.Front.{inFront, upTo, Put}
 use Rattle.grid_alignment.specs.declared.Coord.{Coord}
 use Rattle.grid_alignment.specs.Alignment.{point, corner}
-use Rattle.marker_sampling.specs.Cells.{Corners, stands, holder, cellsBefore, words}
-
-abbrev pub cornersOf : ℕ → List ℤ → Corners
-cornersOf count grid = record { count = count; grid = grid }
+use Rattle.marker_sampling.specs.Cells.{Corners, stands, holder, wholeAt, wordsOfCells}
 
 -- how many columns, and rows, there are from −m to m
-abbrev pub side : ℕ → ℕ
-side m = 2 * m + 1
+abbrev pub keySide : ℕ → ℕ
+keySide m = 2 * m + 1
 
 -- the point u columns and v rows from (−m, −m)
-abbrev pub gridPoint : ℕ → ℕ → ℕ → Coord
-gridPoint m u v = point (pos u -ℤ pos m) (pos v -ℤ pos m)
+abbrev pub rangePoint : ℕ → ℕ → ℕ → Coord
+rangePoint m u v = point (pos u -ℤ pos m) (pos v -ℤ pos m)
 
 -- index k stands at the point of its key, and at no point past the range
-pub record KeyOf (m : ℕ) (c : Corners) (k key : ℕ) : Type 0 where
-  pub at : (u v : ℕ) → u < side m → v < side m → stands c k (gridPoint m u v) ≡ eqb key (v * side m + u)
-  pub right : (u v : ℕ) → side m ≤ u → stands c k (gridPoint m u v) ≡ false
-  pub under : (u v : ℕ) → side m ≤ v → stands c k (gridPoint m u v) ≡ false
-  pub most : key ≤ side m * side m
-  pub small : key < side m * side m → k < c .count
+pub record HasKey (m : ℕ) (c : Corners) (k key : ℕ) : Type 0 where
+  pub at : (u v : ℕ) → u < keySide m → v < keySide m → stands c k (rangePoint m u v) ≡ eqb key (v * keySide m + u)
+  pub right : (u v : ℕ) → keySide m ≤ u → stands c k (rangePoint m u v) ≡ false
+  pub under : (u v : ℕ) → keySide m ≤ v → stands c k (rangePoint m u v) ≡ false
+  pub most : key ≤ keySide m * keySide m
+  pub small : key < keySide m * keySide m → k < c .count
 
 -- a word of the map is inlier i's: its key, and its place in the list
-pub record WordOf (m : ℕ) (c : Corners) (inliers : List ℕ) (i word : ℕ) : Type 0 where
-  pub key : KeyOf m c (getD inliers i 0) (word / 1024)
+pub record HasWord (m : ℕ) (c : Corners) (inliers : List ℕ) (i word : ℕ) : Type 0 where
+  pub key : HasKey m c (getD inliers i 0) (word / 1024)
   pub place : word % 1024 ≡ i
 
 abbrev pub Rising : List ℕ → ℕ → Type 0
@@ -42,8 +40,8 @@ Rising map n = (p q : ℕ) → p ≤ q → q < n → getD map p 0 ≤ getD map q
 -- the map of the first n inliers: their words, in rising order
 pub record MapOf (m : ℕ) (c : Corners) (inliers : List ℕ) (n : ℕ) (map : List ℕ) : Type 0 where
   pub rising : Rising map n
-  pub has : (i : ℕ) → i < n → (j : ℕ) × (j < n) × WordOf m c inliers i (getD map j 0)
-  pub from : (j : ℕ) → j < n → (i : ℕ) × (i < n) × WordOf m c inliers i (getD map j 0)
+  pub has : (i : ℕ) → i < n → (j : ℕ) × (j < n) × HasWord m c inliers i (getD map j 0)
+  pub from : (j : ℕ) → j < n → (i : ℕ) × (i < n) × HasWord m c inliers i (getD map j 0)
 
 -- the first r of n words are below x, and no other is
 pub record LowerBound (map : List ℕ) (n x r : ℕ) : Type 0 where
@@ -52,7 +50,7 @@ pub record LowerBound (map : List ℕ) (n x r : ℕ) : Type 0 where
   pub above : (k : ℕ) → r ≤ k → k < n → x ≤ getD map k 0
 
 -- the first p of n words are below x
-pub record Below (map : List ℕ) (n x p : ℕ) : Type 0 where
+pub record FirstBelow (map : List ℕ) (n x p : ℕ) : Type 0 where
   pub inside : p ≤ n
   pub below : (k : ℕ) → k < p → getD map k 0 < x
 
@@ -81,7 +79,7 @@ pub record Sorted (n : ℕ) (before after : List ℕ) : Type 0 where
 
 -- the first n words are those of the first n inliers, in the order of the list
 abbrev pub Filled : ℕ → Corners → List ℕ → ℕ → List ℕ → Type 0
-Filled m c inliers n map = (i : ℕ) → i < n → WordOf m c inliers i (getD map i 0)
+Filled m c inliers n map = (i : ℕ) → i < n → HasWord m c inliers i (getD map i 0)
 
 -- no key is past `end`
 abbrev pub Bounded : ℕ → List ℕ → ℕ → Type 0
@@ -92,9 +90,9 @@ Bounded end map n = (j : ℕ) → j < n → getD map j 0 / 1024 ≤ end
 pub record Searchable (m : ℕ) (inliers map : List ℕ) : Type 0 where
   pub short : length inliers ≤ 1024
   pub rising : Rising map (length inliers)
-  pub bounded : Bounded (side m * side m) map (length inliers)
+  pub bounded : Bounded (keySide m * keySide m) map (length inliers)
   pub place : (j : ℕ) → j < length inliers → getD map j 0 % 1024 < length inliers
-  pub small : (j : ℕ) → j < length inliers → getD map j 0 / 1024 < side m * side m → getD inliers (getD map j 0 % 1024) 0 < 1024
+  pub small : (j : ℕ) → j < length inliers → getD map j 0 / 1024 < keySide m * keySide m → getD inliers (getD map j 0 % 1024) 0 < 1024
 
 -- r is from `from` to `end`, and no key of the first n words is from `from` to r − 1
 pub record Next (map : List ℕ) (n end from r : ℕ) : Type 0 where
@@ -110,7 +108,8 @@ indexOrMinusOne (some k) = pos k
 -- the words of a cell, with −1 for a corner that is missing
 abbrev pub foundWords : Corners → List ℕ → Coord → List ℤ
 foundWords c inliers p =
-    p .u ∷ p .v ∷ indexOrMinusOne (holder c inliers (corner 0 p)) ∷ indexOrMinusOne (holder c inliers (corner 1 p)) ∷ indexOrMinusOne (holder c inliers (corner 2 p)) ∷ indexOrMinusOne (holder c inliers (corner 3 p)) ∷ []
+    p .u ∷ p .v ∷ indexOrMinusOne (holder c inliers (corner 0 p)) ∷ indexOrMinusOne (holder c inliers (corner 1 p))
+    ∷ indexOrMinusOne (holder c inliers (corner 2 p)) ∷ indexOrMinusOne (holder c inliers (corner 3 p)) ∷ []
 
 abbrev pub present : List ℤ → ℕ → Bool
 present cell w = leZ (pos 0) (getD cell w (pos 0))
@@ -118,13 +117,13 @@ present cell w = leZ (pos 0) (getD cell w (pos 0))
 abbrev pub wholeWords : List ℤ → Bool
 wholeWords cell = present cell 2 && (present cell 3 && (present cell 4 && present cell 5))
 
--- a cell was put behind n cells, if it is whole
-pub record Put (n : ℕ) (whole : Bool) (cell before after : List ℤ) (r : ℕ) : Type 0 where
-  pub count : r ≡ cond whole (n + 1) n
-  pub left : whole ≡ false → after ≡ before
-  pub added : whole ≡ true → n < 256 → take (6 * n + 6) after ≡ take (6 * n) before ++ cell
+-- the words of a cell, if it is whole, were put behind those of n cells, if there is room for them; r is how many cells there are then
+pub record CellAdded (n : ℕ) (cell before after : List ℤ) (r : ℕ) : Type 0 where
+  pub count : r ≡ cond (wholeWords cell) (n + 1) n
+  pub fits : n < 256 → Put before after (6 * n) (6 * r) (cond (wholeWords cell) cell [])
+  pub full : 256 ≤ n → after ≡ before
 
--- how many cells there are among the first places, and, if they are at most 256, their words
-pub record Collected (m : ℕ) (c : Corners) (inliers : List ℕ) (places : ℕ) (results : List ℤ) (n : ℕ) : Type 0 where
-  pub count : n ≡ length (cellsBefore m c inliers places)
-  pub words : n ≤ 256 → take (6 * n) results ≡ words c inliers (cellsBefore m c inliers places)
+-- how many whole cells there are among the first places, and their words in front of the list, as many as there is room for
+pub record Collected (m : ℕ) (c : Corners) (inliers : List ℕ) (places : ℕ) (before after : List ℤ) (n : ℕ) : Type 0 where
+  pub count : n ≡ length (upTo (wholeAt m c inliers) places)
+  pub list : after ≡ inFront (wordsOfCells c inliers (upTo (wholeAt m c inliers) places)) before

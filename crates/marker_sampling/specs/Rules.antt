@@ -5,13 +5,13 @@ use mathlib.Core.List.{List, map}
 use Prim.Native.Nat.{ℕ, _*_, _<_}
 use lib.ListN.{length, getD}
 use Rattle.grid_alignment.specs.declared.Coord.{Coord}
-use Rattle.marker_sampling.specs.Cells.{Corners, whole, pointAt, cells}
-use Rattle.integers.specs.Distance.{within}
-use Rattle.marker_sampling.specs.Keys.{side}
+use Rattle.marker_sampling.specs.Cells.{Corners, wholeCell, pointAt, cells}
+use Rattle.integers.specs.Distance.{isWithin}
+use Rattle.marker_sampling.specs.Keys.{keySide}
 
 -- Of a list: its elements are those of some places below n, each of these passes a test, all places that pass are among them, and they rise, so
 -- that none comes twice.
-pub record InOrder {A : Type 0} (test : ℕ → Bool) (element : ℕ → A) (n : ℕ) (l : List A) : Type 0 where
+pub record PassingInOrder {A : Type 0} (test : ℕ → Bool) (element : ℕ → A) (n : ℕ) (l : List A) : Type 0 where
   pub places : List ℕ
   pub are : l ≡ map element places
   pub sound : (i : ℕ) → i < length places → (getD places i 0 < n) × (test (getD places i 0) ≡ true)
@@ -20,14 +20,15 @@ pub record InOrder {A : Type 0} (test : ℕ → Bool) (element : ℕ → A) (n :
 
 -- so are the whole cells, of all places: `cells` has those below (2m + 1)²
 abbrev pub CellsInOrder : Type 0
-CellsInOrder = (m : ℕ) (c : Corners) (inliers : List ℕ) → InOrder (λ r. whole c inliers (pointAt m r)) (pointAt m) (side m * side m) (cells m c inliers)
+CellsInOrder = (m : ℕ) (c : Corners) (inliers : List ℕ)
+    → PassingInOrder (λ r. wholeCell c inliers (pointAt m r)) (pointAt m) (keySide m * keySide m) (cells m c inliers)
 
 -- a point with u and v from −m to m has exactly one place
 pub record OnePlace (m : ℕ) (p : Coord) : Type 0 where
   pub place : ℕ
-  pub inside : place < side m * side m
+  pub inside : place < keySide m * keySide m
   pub there : pointAt m place ≡ p
-  pub only : (r : ℕ) → r < side m * side m → pointAt m r ≡ p → r ≡ place
+  pub only : (r : ℕ) → r < keySide m * keySide m → pointAt m r ≡ p → r ≡ place
 
 abbrev pub EveryPoint : Type 0
-EveryPoint = (m : ℕ) (p : Coord) → within m (p .u) ≡ true → within m (p .v) ≡ true → OnePlace m p
+EveryPoint = (m : ℕ) (p : Coord) → isWithin m (p .u) ≡ true → isWithin m (p .v) ≡ true → OnePlace m p

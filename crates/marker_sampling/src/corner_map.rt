@@ -6,10 +6,11 @@ ghost use mathlib.Core.Bool.{true};
 ghost use Prim.Native.Nat.{ℕ, _+_, _*_, _≤_, _<_};
 ghost use lib.ListN.{length};
 ghost use lib.IntN.{pos, _-ℤ_};
-ghost use Rattle.marker_sampling.specs.Cells.{Corners, holder};
-ghost use Rattle.integers.specs.Distance.{within};
+ghost use Rattle.marker_sampling.specs.Cells.{Corners, holder, cornersOf};
+ghost use Rattle.integers.specs.Distance.{isWithin};
 ghost use Rattle.marker_sampling.specs.Entry.{allPlaced};
-ghost use Rattle.marker_sampling.specs.Keys.{cornersOf, KeyOf, MapOf, Rising, Bounded, LowerBound, Below, Filled, Searchable, Next, gridPoint, indexOrMinusOne};
+ghost use Rattle.marker_sampling.specs.Keys.{HasKey, MapOf, Rising, Bounded, LowerBound, FirstBelow, Filled, Searchable, Next, rangePoint};
+ghost use Rattle.marker_sampling.specs.Keys.{indexOrMinusOne};
 use super::questions;
 use super::sort;
 
@@ -18,7 +19,7 @@ pub const PAST: u64 = 67_125_249;
 
 // How far a coordinate is from −4,096.
 fn offset(z: i32) -> u64
-    requires { ⌜ within 4096 z ≡ true ⌝ }
+    requires { ⌜ isWithin 4096 z ≡ true ⌝ }
     ensures { λ r. ⌜ (z ≡ pos r -ℤ pos 4096) × (r < 8193) ⌝ }
 {
     (z + 4096) as u64
@@ -28,7 +29,7 @@ fn offset(z: i32) -> u64
 fn key_of(count: usize, grid: &[i32], k: usize) -> u64
     requires { ⌜ count ≤ 1024 ⌝ }
     requires { ⌜ allPlaced 4096 (cornersOf count (now grid)) count ≡ true ⌝ }
-    ensures { λ r. ⌜ KeyOf 4096 (cornersOf count (now (grid .entry))) k r ⌝ }
+    ensures { λ r. ⌜ HasKey 4096 (cornersOf count (now (grid .entry))) k r ⌝ }
 {
     if count <= k {
         return PAST;
@@ -72,7 +73,7 @@ pub fn build_corner_map(count: usize, grid: &[i32], inliers: &[usize]) -> [u64; 
 // below `x`: keys rise in the walk, so each of its searches starts where one before it ended.
 fn seek(map: &[u64; 1024], n: usize, from: usize, x: u64) -> usize
     requires { ⌜ (n ≤ 1024) × Rising (now map) n ⌝ }
-    requires { ⌜ Below (now map) n x from ⌝ }
+    requires { ⌜ FirstBelow (now map) n x from ⌝ }
     ensures { λ r. ⌜ LowerBound (now (map .entry)) n x r ⌝ }
 {
     let mut p = from;
@@ -95,8 +96,9 @@ pub struct Found {
 pub fn last(map: &[u64; 1024], inliers: &[usize], from: usize, u: u64, v: u64) -> Found
     requires { ⌜ Searchable 4096 (now inliers) (now map) ⌝ }
     requires { ⌜ (u < 8193) × (v < 8193) ⌝ }
-    requires { ⌜ Below (now map) (length (now inliers)) ((v * 8193 + u) * 1024) from ⌝ }
-    ensures { λ r. ⌜ ((c : Corners) → MapOf 4096 c (now (inliers .entry)) (length (now (inliers .entry))) (now (map .entry)) → r .index ≡ indexOrMinusOne (holder c (now (inliers .entry)) (gridPoint 4096 u v))) ⌝ }
+    requires { ⌜ FirstBelow (now map) (length (now inliers)) ((v * 8193 + u) * 1024) from ⌝ }
+    ensures { λ r. ⌜ ((c : Corners) → MapOf 4096 c (now (inliers .entry)) (length (now (inliers .entry))) (now (map .entry))
+        → r .index ≡ indexOrMinusOne (holder c (now (inliers .entry)) (rangePoint 4096 u v))) ⌝ }
     ensures { λ r. ⌜ LowerBound (now (map .entry)) (length (now (inliers .entry))) ((v * 8193 + u + 1) * 1024) (r .end) ⌝ }
 {
     let key = v * 8193 + u;
@@ -113,9 +115,10 @@ pub fn last(map: &[u64; 1024], inliers: &[usize], from: usize, u: u64, v: u64) -
 // The same for a point that may lie past the range, where no inlier is.
 pub fn find(map: &[u64; 1024], inliers: &[usize], from: usize, u: u64, v: u64) -> Found
     requires { ⌜ Searchable 4096 (now inliers) (now map) ⌝ }
-    requires { ⌜ Below (now map) (length (now inliers)) ((v * 8193 + u) * 1024) from ⌝ }
-    ensures { λ r. ⌜ ((c : Corners) → MapOf 4096 c (now (inliers .entry)) (length (now (inliers .entry))) (now (map .entry)) → r .index ≡ indexOrMinusOne (holder c (now (inliers .entry)) (gridPoint 4096 u v))) ⌝ }
-    ensures { λ r. ⌜ Below (now (map .entry)) (length (now (inliers .entry))) ((v * 8193 + u + 1) * 1024) (r .end) ⌝ }
+    requires { ⌜ FirstBelow (now map) (length (now inliers)) ((v * 8193 + u) * 1024) from ⌝ }
+    ensures { λ r. ⌜ ((c : Corners) → MapOf 4096 c (now (inliers .entry)) (length (now (inliers .entry))) (now (map .entry))
+        → r .index ≡ indexOrMinusOne (holder c (now (inliers .entry)) (rangePoint 4096 u v))) ⌝ }
+    ensures { λ r. ⌜ FirstBelow (now (map .entry)) (length (now (inliers .entry))) ((v * 8193 + u + 1) * 1024) (r .end) ⌝ }
 {
     if 8192 < u {
         return Found {

@@ -1,5 +1,5 @@
-// The cells entry (marker_sampling.rs, corner_map.rs): which cells are whole, from labelled corners. Leans on `refusal`, `floats`,
-// `grid_alignment` and, for the laws of whole numbers, `integers`.
+// The cells entry (marker_sampling.rs, corner_map.rs): which cells are whole, from labelled corners. Uses `refusal`, `floats`,
+// `grid_alignment`, `lent_list` and, for the laws of whole numbers, `integers`.
 ghost use mathlib.Core.Path.{_≡_};
 ghost use Rattle.marker_sampling.specs.Entry.{cornersAnswer, markerCells, markerCellsList};
 
@@ -54,6 +54,7 @@ pub fn build_marker_cells(
     if 256 < count {
         return MarkerCells::Refused(Refusal::TooManyCells);
     }
-    walk::copy(&results, 6 * count, cells, 0);
+    let end = 6 * count;
+    lent_list::put_signed(cells, 0, &results[..end]);
     MarkerCells::Found(count)
 }

@@ -3,10 +3,9 @@ ghost use mathlib.Core.Path.{_≡_};
 ghost use Prim.Native.Nat.{_≤_};
 ghost use lib.ListN.{getD};
 ghost use lib.IntN.{pos};
-ghost use Rattle.marker_sampling.specs.Cells.{labelled};
-ghost use Rattle.integers.specs.Distance.{within};
-ghost use Rattle.marker_sampling.specs.Entry.{placed, allPlaced, allFinite};
-ghost use Rattle.marker_sampling.specs.Keys.{cornersOf};
+ghost use Rattle.marker_sampling.specs.Cells.{labelled, cornersOf};
+ghost use Rattle.integers.specs.Distance.{isWithin};
+ghost use Rattle.marker_sampling.specs.Entry.{placed, allPlaced, finiteScores};
 
 // The word at a place; 0 past the list.
 pub fn word(grid: &[i32], at: usize) -> i32
@@ -20,7 +19,7 @@ pub fn word(grid: &[i32], at: usize) -> i32
 
 // Does a number lie from −limit to limit?
 pub fn within(limit: u16, z: i32) -> bool
-    ensures { λ r. ⌜ r ≡ within limit z ⌝ }
+    ensures { λ r. ⌜ r ≡ isWithin limit z ⌝ }
 {
     let most = limit as i32;
     -most <= z && z <= most
@@ -63,7 +62,7 @@ pub fn all_placed(count: usize, grid: &[i32]) -> bool
 }
 
 pub fn all_finite(scores: &[f32]) -> bool
-    ensures { λ r. ⌜ r ≡ allFinite (now (scores .entry)) ⌝ }
+    ensures { λ r. ⌜ r ≡ finiteScores (now (scores .entry)) ⌝ }
 {
     let mut k = 0;
     while k < scores.len() {

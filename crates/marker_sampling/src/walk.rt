@@ -1,11 +1,10 @@
-// The walk over the keys in order: the six words of each whole cell, and their copy to the list that is lent.
+// The walk over the keys in order: the six words of each whole cell.
 ghost use mathlib.Core.Path.{_≡_};
 ghost use Prim.Native.Nat.{_+_, _*_, _≤_, _<_};
 ghost use lib.ListN.{length};
-ghost use lib.Seq.{paste};
 ghost use lib.IntN.{pos, _-ℤ_};
 ghost use Rattle.marker_sampling.specs.Cells.{Corners, pointAt};
-ghost use Rattle.marker_sampling.specs.Keys.{MapOf, LowerBound, Below, Searchable, Collected, foundWords, wholeWords, Put};
+ghost use Rattle.marker_sampling.specs.Keys.{MapOf, LowerBound, FirstBelow, Searchable, Collected, foundWords, wholeWords, CellAdded};
 use super::corner_map;
 
 // The coordinate at an offset from −4,096.
@@ -28,11 +27,12 @@ struct Cell {
 fn cell_at(map: &[u64; 1024], inliers: &[usize], key: u64, here: usize, under: usize) -> Cell
     requires { ⌜ Searchable 4096 (now inliers) (now map) ⌝ }
     requires { ⌜ key < 67125249 ⌝ }
-    requires { ⌜ Below (now map) (length (now inliers)) (key * 1024) here ⌝ }
-    requires { ⌜ Below (now map) (length (now inliers)) ((key + 8193) * 1024) under ⌝ }
-    ensures { λ r. ⌜ ((c : Corners) → MapOf 4096 c (now (inliers .entry)) (length (now (inliers .entry))) (now (map .entry)) → r .words ≡ foundWords c (now (inliers .entry)) (pointAt 4096 key)) ⌝ }
+    requires { ⌜ FirstBelow (now map) (length (now inliers)) (key * 1024) here ⌝ }
+    requires { ⌜ FirstBelow (now map) (length (now inliers)) ((key + 8193) * 1024) under ⌝ }
+    ensures { λ r. ⌜ ((c : Corners) → MapOf 4096 c (now (inliers .entry)) (length (now (inliers .entry))) (now (map .entry))
+        → r .words ≡ foundWords c (now (inliers .entry)) (pointAt 4096 key)) ⌝ }
     ensures { λ r. ⌜ LowerBound (now (map .entry)) (length (now (inliers .entry))) ((key + 1) * 1024) (r .here) ⌝ }
-    ensures { λ r. ⌜ Below (now (map .entry)) (length (now (inliers .entry))) ((key + 8194) * 1024) (r .under) ⌝ }
+    ensures { λ r. ⌜ FirstBelow (now (map .entry)) (length (now (inliers .entry))) ((key + 8194) * 1024) (r .under) ⌝ }
 {
     let u = key % 8193;
     let v = key / 8193;
@@ -70,23 +70,10 @@ fn whole(cell: &[i32; 6]) -> bool
     0 <= cell[5]
 }
 
-// The first `n` words of `from` are copied to `to`, from the place `at` on.
-pub fn copy(from: &[i32], n: usize, to: &mut [i32], at: usize)
-    requires { ⌜ n ≤ length (now from) ⌝ }
-    requires { ⌜ at + n ≤ length (now to) ⌝ }
-    ensures { λ _. ⌜ now (to .exit) ≡ paste (now (to .entry)) at (now (from .entry)) n ⌝ }
-{
-    let mut i = 0;
-    while i < n {
-        to[at + i] = from[i];
-        i += 1;
-    }
-}
-
 // The cell is put behind the `n` cells before it, if it is whole; past 256 it is only counted.
 fn put(results: &mut [i32], n: usize, cell: &[i32; 6]) -> usize
     requires { ⌜ (n < 67125249) × (length (now results) ≡ 1536) ⌝ }
-    ensures { λ r. ⌜ Put n (wholeWords (now (cell .entry))) (now (cell .entry)) (now (results .entry)) (now (results .exit)) r ⌝ }
+    ensures { λ r. ⌜ CellAdded n (now (cell .entry)) (now (results .entry)) (now (results .exit)) r ⌝ }
 {
     if !whole(cell) {
         return n;
@@ -94,14 +81,15 @@ fn put(results: &mut [i32], n: usize, cell: &[i32; 6]) -> usize
     if 256 <= n {
         return n + 1;
     }
-    copy(cell, 6, results, 6 * n);
+    lent_list::put_signed(results, 6 * n, cell);
     n + 1
 }
 
 // The words of the whole cells, row by row, and how many cells there are: past 256 they are only counted.
 pub fn collect(map: &[u64; 1024], inliers: &[usize], results: &mut [i32]) -> usize
     requires { ⌜ Searchable 4096 (now inliers) (now map) × (length (now results) ≡ 1536) ⌝ }
-    ensures { λ r. ⌜ ((c : Corners) → MapOf 4096 c (now (inliers .entry)) (length (now (inliers .entry))) (now (map .entry)) → Collected 4096 c (now (inliers .entry)) 67125249 (now (results .exit)) r) ⌝ }
+    ensures { λ r. ⌜ ((c : Corners) → MapOf 4096 c (now (inliers .entry)) (length (now (inliers .entry))) (now (map .entry))
+        → Collected 4096 c (now (inliers .entry)) 67125249 (now (results .entry)) (now (results .exit)) r) ⌝ }
 {
     let mut n = 0;
     let mut here = 0;

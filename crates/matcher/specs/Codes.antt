@@ -1,6 +1,6 @@
 -- Document 01, Codes. A code of side n is a number whose bit y × n + x stands in column x and row y.
 use Prim.Native.Nat.{ℕ, zero, suc, _+_, _-_, _*_, _/_, _%_, _^_}
-use mathlib.Core.Bool.{Bool, true, false}
+use mathlib.Core.Bool.{cond}
 use lib.Dec.{leb}
 use lib.Bits.{differ}
 use Rattle.matcher.specs.declared.Place.{Place}
@@ -15,37 +15,41 @@ fromBits f zero = 0
 fromBits f (suc k) = fromBits f k + f k * 2 ^ k
 
 -- bit k of a code of side n stands at this place, and the bit at a place has this number: row by row
-abbrev pub placeOf : ℕ → ℕ → Place
-placeOf n k = record { x = k % n; y = k / n }
+abbrev pub bitPlace : ℕ → ℕ → Place
+bitPlace n k = record { x = k % n; y = k / n }
 
 abbrev pub indexOf : ℕ → Place → ℕ
 indexOf n p = p .y * n + p .x
 
--- The place that the bit at a place of the turned code is read from, for the turns 0 to 3: document 01's (sx, sy).
+-- one of four by a number of quarter turns, where four turns are none
+abbrev pub fromFour : {A : Type 0} → ℕ → A → A → A → A → A
+fromFour zero a b c d = a
+fromFour (suc zero) a b c d = b
+fromFour (suc (suc zero)) a b c d = c
+fromFour (suc (suc (suc r))) a b c d = d
+
+abbrev pub byTurn : {A : Type 0} → ℕ → A → A → A → A → A
+byTurn turns a b c d = fromFour (turns % 4) a b c d
+
+-- The place that the bit at a place of the turned code is read from: document 01's (sx, sy).
 unfoldable pub source : ℕ → ℕ → Place → Place
-source n zero p = p
-source n (suc zero) p = record { x = p .y; y = n - 1 - p .x }
-source n (suc (suc zero)) p = record { x = n - 1 - p .x; y = n - 1 - p .y }
-source n (suc (suc (suc r))) p = record { x = n - 1 - p .y; y = p .x }
+source n turns p =
+    byTurn turns p (record { x = p .y; y = n - 1 - p .x }) (record { x = n - 1 - p .x; y = n - 1 - p .y }) (record { x = n - 1 - p .y; y = p .x })
 
 -- the same by the bits' numbers
 abbrev pub sourceBit : ℕ → ℕ → ℕ → ℕ
-sourceBit n r k = indexOf n (source n r (placeOf n k))
+sourceBit n turns k = indexOf n (source n turns (bitPlace n k))
 
 -- bit k of a code of side n after some quarter turns, and the turned code
 abbrev pub turnedBit : ℕ → ℕ → ℕ → ℕ → ℕ
-turnedBit n turns code k = bit code (sourceBit n (turns % 4) k)
+turnedBit n turns code k = bit code (sourceBit n turns k)
 
 abbrev pub turned : ℕ → ℕ → ℕ → ℕ
 turned n turns code = fromBits (turnedBit n turns code) (n * n)
 
 -- the same in a word of 64 bits, which has no room for sides above 8
-abbrev pub pick : Bool → ℕ → ℕ → ℕ
-pick true a b = a
-pick false a b = b
-
 abbrev pub turnedWord : ℕ → ℕ → ℕ → ℕ
-turnedWord n turns code = pick (leb n 8) (turned n turns code) 0
+turnedWord n turns code = cond (leb n 8) (turned n turns code) 0
 
 -- in how many of the bits 0 to n − 1 two codes differ
 unfoldable pub differing : ℕ → ℕ → ℕ → ℕ

@@ -1,7 +1,7 @@
 // Marker codes (matcher.rs): a code after quarter turns, and in how many bits two codes differ.
-// Leans on nothing.
+// Uses no other crate.
 ghost use mathlib.Core.Path.{_≡_};
-ghost use Prim.Native.Nat.{_+_, _*_, _%_, _<_, _≤_};
+ghost use Prim.Native.Nat.{_+_, _*_, _<_, _≤_};
 ghost use Rattle.matcher.specs.Codes.{fromBits, source, turnedBit, turnedWord, differing};
 
 // A place in a code: a column and a row, counted from 0.
@@ -13,7 +13,7 @@ pub struct Place {
 // The place that the bit at `p` of a turned code is read from.
 pub fn source_place(n: u64, turn: u8, p: Place) -> Place
     requires { ⌜ (p .x < n) × (p .y < n) ⌝ }
-    ensures { λ r. ⌜ r ≡ source n (turn % 4) p ⌝ }
+    ensures { λ r. ⌜ r ≡ source n turn p ⌝ }
 {
     let last = n - 1;
     let rot = turn % 4;

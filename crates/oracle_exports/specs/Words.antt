@@ -6,11 +6,13 @@ use mathlib.Core.Bool.{Bool, true, false, _&&_}
 use lib.Dec.{leb, eqb}
 use lib.ListN.{getD, length}
 use lib.IntN.{ℤ}
-use lib.Ieee.{Float, nan}
+use lib.Ieee.{Float, nan, binary32, ofBits}
+use Rattle.floats.specs.Units.{nought}
 use Rattle.grid_alignment.specs.declared.Coord.{Coord}
 use Rattle.grid_alignment.specs.Alignment.{point, cornerAlignment, rectCorners}
 use Rattle.refusal.specs.Numbers.{numberOf, valuesOf}
 use Rattle.board.specs.declared.CharucoBoardSpec.{CharucoBoardSpec}
+use Rattle.board.specs.declared.Board.{Board}
 use Rattle.board.specs.declared.NewBoard.{NewBoard}
 use Rattle.board.specs.declared.NewBoard.the-variants as new
 use Rattle.board.specs.declared.Numbered.{Numbered}
@@ -21,6 +23,9 @@ use Rattle.board.specs.declared.ObjectPoint.{ObjectPoint}
 use Rattle.board.specs.declared.ObjectPoint.the-variants as object
 use Rattle.board.specs.declared.Surrounding.{Surrounding}
 use Rattle.board.specs.declared.Surrounding.the-variants as surrounding
+use Rattle.score_matrix.specs.declared.BoardMatchConfig.{BoardMatchConfig}
+use Rattle.score_matrix.specs.declared.BorderSample.{BorderSample}
+use Rattle.score_matrix.specs.declared.BorderSample.the-variants as border
 use Rattle.score_matrix.specs.Scores.{side}
 
 -- 2^64 − 1
@@ -45,6 +50,14 @@ rectCorner u v px k axis = getD (getD (rectCorners u v px) k []) axis nan
 abbrev pub asked : ℕ → ℕ → ℕ → ℕ → Float → Float → CharucoBoardSpec
 asked rows cols bits border size marker =
     record { rows = rows; cols = cols; bits = bits; «border_bits» = border; «cell_size» = size; «marker_size_rel» = marker }
+
+-- a board of which only the layout is asked
+abbrev pub unitSize : Float
+unitSize = ofBits binary32 0x3F800000
+
+abbrev pub boardWith : ℕ → ℕ → Float → Board
+boardWith rows cols size =
+    record { rows = rows; cols = cols; bits = 1; «border_bits» = 1; «cell_size» = size; «marker_size_rel» = unitSize }
 
 -- 0 for a board that is made, else the number of its refusal
 abbrev pub answerNumber : NewBoard → ℕ
@@ -71,12 +84,12 @@ axisOfPoint (object.At x y) (suc k) = y
 axisOfPoint object.Absent axis = nan
 
 -- corners 0 to 3 are top left, top right, bottom right, bottom left
-abbrev pub cornerWord : Surrounding → ℕ → ℕ
-cornerWord (surrounding.Corners a b c d) zero = a
-cornerWord (surrounding.Corners a b c d) (suc zero) = b
-cornerWord (surrounding.Corners a b c d) (suc (suc zero)) = c
-cornerWord (surrounding.Corners a b c d) (suc (suc (suc k))) = d
-cornerWord surrounding.Absent k = absent
+abbrev pub fourWord : Surrounding → ℕ → ℕ
+fourWord (surrounding.Corners a b c d) zero = a
+fourWord (surrounding.Corners a b c d) (suc zero) = b
+fourWord (surrounding.Corners a b c d) (suc (suc zero)) = c
+fourWord (surrounding.Corners a b c d) (suc (suc (suc k))) = d
+fourWord surrounding.Absent k = absent
 
 abbrev pub yesNo : Bool → ℕ
 yesNo true = 1
@@ -90,7 +103,14 @@ abbrev pub either : {A : Type 0} → Bool → A → A → A
 either true a b = a
 either false a b = b
 
+-- the border of a cell, and settings of which the border threshold alone is given
+abbrev pub borderSample : Bool → Float → BorderSample
+borderSample sampled fraction = either sampled (border.BlackFraction fraction) border.Unsampled
+
+abbrev pub thresholdAlone : Float → BoardMatchConfig
+thresholdAlone threshold = record { «px_per_square» = nought; «alignment_min_margin» = nought; «cell_weight_border_threshold» = threshold }
+
 -- a list after f of each code was written to the code's place in it
-pub record Written (f : ℕ → Float) (codes : List ℕ) (before after : List Float) : Type 0 where
+pub record ScoresWritten (f : ℕ → Float) (codes : List ℕ) (before after : List Float) : Type 0 where
   pub long : length after ≡ length before
   pub holds : (i : ℕ) → i < length codes → i < length before → getD after i nan ≡ f (getD codes i 0)

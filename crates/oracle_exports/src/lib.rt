@@ -1,13 +1,14 @@
 // The C functions by which the Rust oracle asks for what no entry tells by itself: one number each, or all scores of a cell. The entries it asks
-// through `charuco`. For tests only. Every function accepts every number and list. Leans on `refusal`, `matcher`, `grid_alignment`, `board`,
-// `score_matrix` and `shot_record`, and for proofs on `integers` and `floats`.
+// through `charuco`. For tests only. Every function accepts every number and list. Uses `refusal`, `matcher`, `grid_alignment`, `board`,
+// `score_matrix` and `shot_record`, and for proofs `integers` and `floats`.
 ghost use mathlib.Core.Path.{_≡_};
 ghost use Prim.Native.Nat.{_%_};
 ghost use Rattle.matcher.specs.Codes.{turnedWord, differing};
 ghost use Rattle.grid_alignment.specs.Alignment.{point, sends, corner};
-ghost use Rattle.board.specs.Layout.{odd, markerCount, markerAt, squareOf, cornerAt, cornerOf, objectPoint, fourCorners};
+ghost use Rattle.board.specs.Layout.{markerTotal, markerOn, markerSquare, cornerAt, cornerPlace, objectPoint, surroundingCorners};
 ghost use Rattle.board.specs.Questions.{newBoard};
-ghost use Rattle.oracle_exports.specs.Words.{axisOf, cornerTranslation, rectCorner, asked, answerNumber, answerValue, idWord, placeWord, axisOfPoint, cornerWord};
+ghost use Rattle.oracle_exports.specs.Words.{axisOf, cornerTranslation, rectCorner, asked, answerNumber, answerValue};
+ghost use Rattle.oracle_exports.specs.Words.{unitSize, boardWith, idWord, placeWord, axisOfPoint, fourWord};
 use board::Board;
 use board::CharucoBoardSpec;
 use board::Located;
@@ -17,6 +18,7 @@ use board::ObjectPoint;
 use board::Surrounding;
 use grid_alignment::Coord;
 use grid_alignment::GridAlignment;
+use grid_alignment::alignments;
 
 mod records;
 mod scores;
@@ -50,14 +52,14 @@ fn along(p: Coord, axis: u8) -> i32
 
 #[no_mangle]
 pub extern "C" fn oracle_turned(turn: u8, u: i16, v: i16, axis: u8) -> i32
-    ensures { λ r. ⌜ r ≡ axisOf (sends (turn % 4) (point u v)) axis ⌝ }
+    ensures { λ r. ⌜ r ≡ axisOf (sends turn (point u v)) axis ⌝ }
 {
     along(grid_alignment::turned(turn, u, v), axis)
 }
 
 #[no_mangle]
 pub extern "C" fn oracle_rotate_gc_top_left(turn: u8, u: i16, v: i16, axis: u8) -> i32
-    ensures { λ r. ⌜ r ≡ axisOf (corner (turn % 4) (point u v)) axis ⌝ }
+    ensures { λ r. ⌜ r ≡ axisOf (corner turn (point u v)) axis ⌝ }
 {
     along(grid_alignment::rotate_gc_top_left(u, v, turn), axis)
 }
@@ -71,7 +73,7 @@ pub extern "C" fn oracle_corner_translation(turn: u8, tx: i16, ty: i16, axis: u8
         tx: tx as i32,
         ty: ty as i32,
     };
-    let corners = cells.cell_to_corner_alignment();
+    let corners = alignments::cell_to_corner_alignment(cells);
     along(
         Coord {
             u: corners.tx,
@@ -211,7 +213,7 @@ pub extern "C" fn oracle_board_available(
 
 // A board by its size. The layout depends on nothing else but the cells' size.
 fn board_of(rows: u8, cols: u8, cell_size: f32) -> Board
-    ensures { λ r. ⌜ (r .rows ≡ rows) × (r .cols ≡ cols) × (r .«cell_size» ≡ «cell_size») ⌝ }
+    ensures { λ r. ⌜ r ≡ boardWith rows cols «cell_size» ⌝ }
 {
     Board {
         rows,
@@ -244,21 +246,21 @@ fn place_word(place: Located) -> u64
 
 #[no_mangle]
 pub extern "C" fn oracle_marker_count(rows: u8, cols: u8) -> u64
-    ensures { λ r. ⌜ r ≡ markerCount odd rows cols ⌝ }
+    ensures { λ r. ⌜ r ≡ markerTotal (boardWith rows cols unitSize) ⌝ }
 {
     board_of(rows, cols, 1.0).marker_count() as u64
 }
 
 #[no_mangle]
 pub extern "C" fn oracle_marker_id_at(rows: u8, cols: u8, i: i32, j: i32) -> u64
-    ensures { λ r. ⌜ r ≡ idWord (markerAt odd rows cols i j) ⌝ }
+    ensures { λ r. ⌜ r ≡ idWord (markerOn (boardWith rows cols unitSize) i j) ⌝ }
 {
     id_word(board_of(rows, cols, 1.0).marker_id_at(i, j))
 }
 
 #[no_mangle]
 pub extern "C" fn oracle_marker_position(rows: u8, cols: u8, id: u32) -> u64
-    ensures { λ r. ⌜ r ≡ placeWord (squareOf odd rows cols id) ⌝ }
+    ensures { λ r. ⌜ r ≡ placeWord (markerSquare (boardWith rows cols unitSize) id) ⌝ }
 {
     place_word(board_of(rows, cols, 1.0).marker_position(id))
 }
@@ -272,7 +274,7 @@ pub extern "C" fn oracle_corner_id(rows: u8, cols: u8, i: i32, j: i32) -> u64
 
 #[no_mangle]
 pub extern "C" fn oracle_corner_position(rows: u8, cols: u8, id: u32) -> u64
-    ensures { λ r. ⌜ r ≡ placeWord (cornerOf rows cols id) ⌝ }
+    ensures { λ r. ⌜ r ≡ placeWord (cornerPlace rows cols id) ⌝ }
 {
     place_word(board_of(rows, cols, 1.0).board_corner(id))
 }
@@ -292,7 +294,7 @@ pub extern "C" fn oracle_object_xy(rows: u8, cols: u8, cell_size: f32, id: u32, 
 // Corners 0 to 3 are top left, top right, bottom right, bottom left.
 #[no_mangle]
 pub extern "C" fn oracle_surrounding_corner(rows: u8, cols: u8, marker: u32, corner: u8) -> u64
-    ensures { λ r. ⌜ r ≡ cornerWord (fourCorners odd rows cols marker) (corner % 4) ⌝ }
+    ensures { λ r. ⌜ r ≡ fourWord (surroundingCorners (boardWith rows cols unitSize) marker) (corner % 4) ⌝ }
 {
     let around = board_of(rows, cols, 1.0).marker_surrounding_charuco_corners(marker);
     match around {

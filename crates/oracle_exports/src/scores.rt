@@ -10,8 +10,9 @@ ghost use Rattle.score_matrix.specs.Table.{isTable, builtIn};
 ghost use Rattle.score_matrix.specs.Scores.{samples, score, nullScore, readCode};
 ghost use Rattle.score_matrix.specs.Likelihoods.{picked};
 ghost use Rattle.score_matrix.specs.Weights.{weight};
-ghost use Rattle.oracle_exports.specs.Words.{yesNo, wholeGrid, either, Written};
+ghost use Rattle.oracle_exports.specs.Words.{yesNo, wholeGrid, either, ScoresWritten, borderSample, thresholdAlone};
 use score_matrix::BoardMatchConfig;
+use score_matrix::BorderSample;
 use score_matrix::cell;
 use score_matrix::table;
 
@@ -37,16 +38,25 @@ pub extern "C" fn oracle_is_table(table: &[f32]) -> u8
     0
 }
 
+fn border_of(sampled: bool, fraction: f32) -> BorderSample
+    ensures { λ r. ⌜ r ≡ borderSample sampled fraction ⌝ }
+{
+    if sampled {
+        return BorderSample::BlackFraction(fraction);
+    }
+    BorderSample::Unsampled
+}
+
 #[no_mangle]
 pub extern "C" fn oracle_cell_weight(border_threshold: f32, sampled: bool, fraction: f32) -> f32
-    ensures { λ r. ⌜ r ≡ weight «border_threshold» sampled fraction ⌝ }
+    ensures { λ r. ⌜ r ≡ weight (thresholdAlone «border_threshold») (borderSample sampled fraction) ⌝ }
 {
     let config = BoardMatchConfig {
         px_per_square: 0.0,
         alignment_min_margin: 0.0,
         cell_weight_border_threshold: border_threshold,
     };
-    score_matrix::cell_weight(config, sampled, fraction)
+    score_matrix::cell_weight(config, border_of(sampled, fraction))
 }
 
 #[no_mangle]
@@ -79,7 +89,8 @@ pub extern "C" fn oracle_score(
     border: u8,
     code: u64,
 ) -> f32
-    ensures { λ r. ⌜ r ≡ either (wholeGrid (length (now (grid .entry))) bits border) (score (now (table .entry)) (samples bits border threshold (now (grid .entry))) code) nought ⌝ }
+    ensures { λ r. ⌜ r ≡ either (wholeGrid (length (now (grid .entry))) bits border)
+        (score (now (table .entry)) (samples bits border threshold (now (grid .entry))) code) nought ⌝ }
 {
     if is_whole(grid.len(), bits, border) {
         return cell::score(table, grid, threshold, bits, border, code);
@@ -100,7 +111,8 @@ pub extern "C" fn oracle_read_code(grid: &[u8], threshold: u8, bits: u8, border:
 // A score for each code, of as many as both lists have places for.
 fn fill_scores(likelihoods: &[f32; 128], bits: u8, codes: &[u64], out: &mut [f32])
     requires { ⌜ bits ≤ 8 ⌝ }
-    ensures { λ _. ⌜ Written (λ code. sumTo (picked (now (likelihoods .entry)) code) (bits * bits)) (now (codes .entry)) (now (out .entry)) (now (out .exit)) ⌝ }
+    ensures { λ _. ⌜ ScoresWritten (λ code. sumTo (picked (now (likelihoods .entry)) code) (bits * bits)) (now (codes .entry)) (now (out .entry))
+        (now (out .exit)) ⌝ }
 {
     let mut i = 0;
     while i < codes.len() {
@@ -122,7 +134,9 @@ pub extern "C" fn oracle_cell_scores(
     codes: &[u64],
     out: &mut [f32],
 )
-    ensures { λ _. ⌜ (T (wholeGrid (length (now (grid .entry))) bits border) → Written (score (now (table .entry)) (samples bits border threshold (now (grid .entry)))) (now (codes .entry)) (now (out .entry)) (now (out .exit))) ⌝ }
+    ensures { λ _. ⌜ (T (wholeGrid (length (now (grid .entry))) bits border)
+        → ScoresWritten (score (now (table .entry)) (samples bits border threshold (now (grid .entry)))) (now (codes .entry)) (now (out .entry))
+        (now (out .exit))) ⌝ }
 {
     if is_whole(grid.len(), bits, border) {
         let likelihoods = cell::bit_likelihoods(table, grid, threshold, bits, border);

@@ -8,10 +8,9 @@ use native.Mathlib.Omega.{arith}
 use lib.Dec.{eqb, ltb, lit<}
 use lib.ListN.{length, getD, length-append}
 use lib.Ieee.{binary32, toBits}
-use lib.IntN.{ℤ, pos, negsuc}
-use mir.Syntax.{w32}
-use mir.Val.{SFits}
+use lib.IntN.{ℤ, pos, negsuc, natAbs}
 use borrow.Author.Tests.{ltb-true, ltb-false}
+use Rattle.lent_list.proofs.Front.{up-to-most}
 use Rattle.refusal.specs.declared.Refusal.{Refusal}
 use Rattle.refusal.specs.declared.Refusal.the-variants as refusal
 use Rattle.refusal.specs.Numbers.{numberOf, valuesOf}
@@ -22,10 +21,15 @@ use Rattle.ranking.specs.declared.Choice.{Choice}
 use Rattle.ranking.specs.declared.Choice.the-variants as choice
 use Rattle.grid_alignment.specs.declared.GridAlignment.{GridAlignment}
 use Rattle.board_match.specs.declared.Match.{Match}
+use Rattle.board_match.specs.declared.Matched.{Matched}
 use Rattle.board_match.specs.declared.Matched.the-variants as matched
-use Rattle.place_text.specs.Numerals.{digit, hex2, hex4, hex8, decimal, signed, signedWord}
-use Rattle.place_text.specs.Text.{line, andWords, float, the-placed, the-best, the-next, the-margin, the-placements, the-refused, evidenceWord, hypothesisLine, nextLine, cornersLine, wordOf, reading, markerLine, markerLines, matchLines, refusalLine}
-use Rattle.place_text.specs.Room.{Sized, SizedChoice, SizedMatch, Room}
+use Rattle.board_match.specs.Match.{matchAnswer, matchList}
+use Rattle.board_match.specs.Sizes.{SmallAlignment, SmallRunnerUp, SmallMatch, SmallAnswer}
+use Rattle.board_match.proofs.Sizes.{small-answer}
+use Rattle.place_text.specs.Numerals.{digit, hex2, hex4, hex8, decimal, signedDecimal, signedWord}
+use Rattle.place_text.specs.Text.{line, andWords, floatWord, the-placed, the-best, the-next, the-margin, the-placements, the-refused, evidenceWord}
+use Rattle.place_text.specs.Text.{hypothesisLine, nextLine, cornersLine, wordOf, reading, markerLine, markerLines, matchLines, refusalLine, textOf}
+use Rattle.place_text.specs.Room.{Room}
 use Rattle.place_text.proofs.Numerals.{decimal-short, decimal-long}
 
 decimal-room : (k n : ℕ) → n < 10 ^ suc k → length (decimal n) ≤ suc k
@@ -42,9 +46,13 @@ hex8-room : (n : ℕ) → length (hex8 n) ≡ 8
 unfolding hex8 hex4 hex2
 hex8-room n = refl
 
-signed-room : (z : ℤ) → SFits w32 z → length (signed z) ≤ 11
-signed-room (pos n) f = omega (arith, decimal-room 9 n (omega (arith, f .sfits)))
-signed-room (negsuc n) f = omega (arith, decimal-room 9 (suc n) (omega (arith, f .sfits)))
+signed-room : (z : ℤ) → natAbs z ≤ 4128 → length (signedDecimal z) ≤ 5
+signed-room (pos n) h = omega (arith, decimal-room 3 n (omega arith))
+signed-room (negsuc n) h = omega (arith, decimal-room 3 (suc n) (omega arith))
+
+-- a turn and a translation
+turn-room : (n : ℕ) → n < 4 → length (decimal n) ≤ 1
+turn-room n h = decimal-room 0 n (omega arith)
 
 signedWord-room : (n : ℕ) → n < 2 ^ 32 → length (signedWord n) ≤ 11
 signedWord-room n h = go (ltb n 2147483648)
@@ -57,20 +65,20 @@ evidence-room : (e : Evidence) → length (evidenceWord e) ≤ 8
 evidence-room (evidence.Number x) = omega (arith, hex8-room (toBits binary32 x))
 evidence-room evidence.Absent = omega arith
 
-hypothesis-room : (first : List ℕ) (h : Hypothesis) → Sized (h .alignment) → length (hypothesisLine first h) ≤ length first + 38
+hypothesis-room : (first : List ℕ) (h : Hypothesis) → SmallAlignment 4127 (h .alignment) → length (hypothesisLine first h) ≤ length first + 38
 hypothesis-room first h s =
     let a = h .alignment in
-    let t = decimal-room 2 (a .turn) (omega (arith, s .turn)) in
-    simp length-append (omega (arith, t, signed-room (a .tx) (s .tx), signed-room (a .ty) (s .ty), evidence-room (h .evidence)))
+    let t = signed-room (a .tx) (omega (arith, s .tx)) in
+    let v = signed-room (a .ty) (omega (arith, s .ty)) in
+    simp length-append (omega (arith, turn-room (a .turn) (s .turn), t, v, evidence-room (h .evidence)))
 
-next-room : (r : Choice) → SizedChoice r → length (nextLine r) ≤ 42
+next-room : (r : Choice) → SmallRunnerUp r → length (nextLine r) ≤ 42
 next-room (choice.Placement h) s = hypothesis-room the-next h s
 next-room choice.Absent s = omega arith
 
-corners-room : (a : GridAlignment) → Sized a → length (cornersLine a) ≤ 36
+corners-room : (a : GridAlignment) → SmallAlignment 4128 a → length (cornersLine a) ≤ 36
 corners-room a s =
-    let t = decimal-room 2 (a .turn) (omega (arith, s .turn)) in
-    simp length-append (omega (arith, t, signed-room (a .tx) (s .tx), signed-room (a .ty) (s .ty)))
+    simp length-append (omega (arith, turn-room (a .turn) (s .turn), signed-room (a .tx) (s .tx), signed-room (a .ty) (s .ty)))
 
 -- the lines of a match, one after the other
 seven : (a b c d e f g : List ℕ) → length a ≤ 7 → length b ≤ 42 → length c ≤ 42 → length d ≤ 16 → length e ≤ 32 → length f ≤ 36
@@ -97,16 +105,14 @@ module _ (words : List ℕ) (sizes : (k : ℕ) → getD words k 0 < 2 ^ 32) wher
       (omega (arith, unsigned-room k 0, unsigned-room k 1, coordinate-room k 2, coordinate-room k 3, unsigned-room k 4, reading-room k))
 
   markers-room : (k : ℕ) → length (markerLines words k) ≤ 101 * k
-  unfolding markerLines
-  markers-room zero = omega arith
-  markers-room (suc k) = simp length-append (omega (arith, markers-room k, marker-room k))
+  markers-room k = up-to-most (markerLine words) 101 k (λ j h. marker-room j)
 
-  match-room : (m : Match) → SizedMatch m → length (matchLines m words) ≤ 32768
+  match-room : (cells : ℕ) (m : Match) → SmallMatch cells m → length (matchLines m words) ≤ 32768
   unfolding matchLines
-  match-room m s =
+  match-room cells m s =
       let p = decimal-room 19 (m .placements) (omega (arith, s .placements)) in
       let x = hex8-room (toBits binary32 (m .margin)) in
-      seven (line the-placed []) (hypothesisLine the-best (m .best)) (nextLine (m .«runner_up»)) (line the-margin (float (m .margin) ∷ []))
+      seven (line the-placed []) (hypothesisLine the-best (m .best)) (nextLine (m .«runner_up»)) (line the-margin (floatWord (m .margin) ∷ []))
       (line the-placements (decimal (m .placements) ∷ []))
       (cornersLine (m .corners))
       (markerLines words (m .markers))
@@ -116,7 +122,7 @@ module _ (words : List ℕ) (sizes : (k : ℕ) → getD words k 0 < 2 ^ 32) wher
       (simp length-append (omega (arith, x)))
       (simp length-append (omega (arith, p)))
       (corners-room (m .corners) (s .corners))
-      (omega (arith, markers-room (m .markers), s .markers))
+      (omega (arith, markers-room (m .markers), s .markers, s .few-cells))
 
 -- a refusal's number has two digits
 number-small : (r : Refusal) → numberOf r < 10 ^ 2
@@ -152,5 +158,8 @@ refusal-room r = go (eqb (numberOf r) 16)
     go false = simp length-append (omega (arith, decimal-room 1 (numberOf r) (number-small r)))
 
 pub room : Room
-room (matched.Placed m) words s sizes = match-room words sizes m s
-room (matched.Refused r) words s sizes = refusal-room r
+room bytes lent small sizes = go (matchAnswer bytes lent) (small-answer bytes lent small)
+  where
+    go : (a : Matched) → SmallAnswer bytes a → length (textOf a (matchList bytes lent)) ≤ 32768
+    go (matched.Placed m) s = match-room (matchList bytes lent) sizes _ m s
+    go (matched.Refused r) s = refusal-room r

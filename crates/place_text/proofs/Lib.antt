@@ -1,4 +1,4 @@
-pub mod Puts
+pub mod Printing
 pub mod Numerals
 pub mod Translations
 pub mod Lengths

@@ -10,40 +10,40 @@ use lib.IntN.{ℤ, pos, negsuc}
 use mir.Syntax.{w32}
 use mir.Val.{SFits, ofZ}
 use borrow.Author.Tests.{lt-ltb, le-ltb, ltb-true, ltb-false}
-use Rattle.place_text.specs.Numerals.{digit, hex2, hex4, hex8, decimal, signed, signedWord}
-use Rattle.place_text.specs.ReadBack.{value, numberAfter, number}
+use Rattle.place_text.specs.Numerals.{digit, hex2, hex4, hex8, decimal, signedDecimal, signedWord}
+use Rattle.place_text.specs.ReadBack.{digitsValue, numberAfter, readNumber}
 use Rattle.place_text.proofs.Numerals.{decimal-short, decimal-long}
 
-digit-value : (d : ℕ) → d < 16 → value (digit d) ≡ d
+digit-value : (d : ℕ) → d < 16 → digitsValue (digit d) ≡ d
 digit-value d h = go (ltb d 10) (ltb-true d 10) (ltb-false d 10)
   where
-    go : (b : Bool) → (b ≡ true → d < 10) → (b ≡ false → 10 ≤ d) → value (cond b (48 + d) (55 + d)) ≡ d
+    go : (b : Bool) → (b ≡ true → d < 10) → (b ≡ false → 10 ≤ d) → digitsValue (cond b (48 + d) (55 + d)) ≡ d
     go true s _ = let l = s refl in rw (lt-ltb (48 + d) 58 (omega (arith, l))) (omega arith)
     go false _ s = let l = s refl in rw (le-ltb (55 + d) 58 (omega (arith, l))) (omega arith)
 
 -- one digit more
-one-more : (b n : ℕ) (cs : List ℕ) (c : ℕ) → numberAfter b n (cs ++ (c ∷ [])) ≡ b * numberAfter b n cs + value c
+one-more : (b n : ℕ) (cs : List ℕ) (c : ℕ) → numberAfter b n (cs ++ (c ∷ [])) ≡ b * numberAfter b n cs + digitsValue c
 unfolding numberAfter
 one-more b n [] c = refl
-one-more b n (d ∷ cs) c = one-more b (b * n + value d) cs c
+one-more b n (d ∷ cs) c = one-more b (b * n + digitsValue d) cs c
 
-short-back : (n : ℕ) → n < 10 → number 10 (decimal n) ≡ n
+short-back : (n : ℕ) → n < 10 → readNumber 10 (decimal n) ≡ n
 unfolding numberAfter
-short-back n h = ap (number 10) (decimal-short n h) ∙ omega (arith, digit-value n (omega arith))
+short-back n h = ap (readNumber 10) (decimal-short n h) ∙ omega (arith, digit-value n (omega arith))
 
-long-back : (n : ℕ) → 10 ≤ n → number 10 (decimal (n / 10)) ≡ n / 10 → number 10 (decimal n) ≡ n
+long-back : (n : ℕ) → 10 ≤ n → readNumber 10 (decimal (n / 10)) ≡ n / 10 → readNumber 10 (decimal n) ≡ n
 long-back n h e =
-    ap (number 10) (decimal-long n h) ∙ one-more 10 0 (decimal (n / 10)) (digit (n % 10)) ∙ omega (arith, e, digit-value (n % 10) (omega arith))
+    ap (readNumber 10) (decimal-long n h) ∙ one-more 10 0 (decimal (n / 10)) (digit (n % 10)) ∙ omega (arith, e, digit-value (n % 10) (omega arith))
 
-back-within : (k n : ℕ) → n ≤ k → number 10 (decimal n) ≡ n
+back-within : (k n : ℕ) → n ≤ k → readNumber 10 (decimal n) ≡ n
 back-within zero n h = short-back n (omega arith)
 back-within (suc k) n h = go (ltb n 10) (ltb-true n 10) (ltb-false n 10) (back-within k (n / 10))
   where
-    go : (b : Bool) → (b ≡ true → n < 10) → (b ≡ false → 10 ≤ n) → (n / 10 ≤ k → number 10 (decimal (n / 10)) ≡ n / 10) → number 10 (decimal n) ≡ n
+    go : (b : Bool) → (b ≡ true → n < 10) → (b ≡ false → 10 ≤ n) → (n / 10 ≤ k → readNumber 10 (decimal (n / 10)) ≡ n / 10) → readNumber 10 (decimal n) ≡ n
     go true s _ _ = short-back n (s refl)
     go false _ l tenth = let m = l refl in long-back n m (tenth (omega (arith, m)))
 
-pub decimal-back : (n : ℕ) → number 10 (decimal n) ≡ n
+pub decimal-back : (n : ℕ) → readNumber 10 (decimal n) ≡ n
 decimal-back n = back-within n n (omega arith)
 
 -- hexadecimal digits after those that stand for m, and before others
@@ -68,12 +68,12 @@ hex8-after m n cs h =
     ∙ hex4-after (65536 * m + n / 65536) (n % 65536) cs (omega arith)
     ∙ ap (λ (x : ℕ). numberAfter 16 x cs) (omega arith)
 
-pub hex8-back : (n : ℕ) → n < 2 ^ 32 → number 16 (hex8 n) ≡ n
+pub hex8-back : (n : ℕ) → n < 2 ^ 32 → readNumber 16 (hex8 n) ≡ n
 unfolding numberAfter
-hex8-back n h = ap (number 16) (sym (append-nil (hex8 n))) ∙ hex8-after 0 n [] h ∙ omega arith
+hex8-back n h = ap (readNumber 16) (sym (append-nil (hex8 n))) ∙ hex8-after 0 n [] h ∙ omega arith
 
 -- a code of two words
-pub hex16-back : (high low : ℕ) → high < 2 ^ 32 → low < 2 ^ 32 → number 16 (hex8 high ++ hex8 low) ≡ 4294967296 * high + low
+pub hex16-back : (high low : ℕ) → high < 2 ^ 32 → low < 2 ^ 32 → readNumber 16 (hex8 high ++ hex8 low) ≡ 4294967296 * high + low
 unfolding numberAfter
 hex16-back high low h l =
     hex8-after 0 high (hex8 low) h
@@ -82,7 +82,7 @@ hex16-back high low h l =
     ∙ omega arith
 
 -- the word that holds a whole number has its text
-pub word-text : (z : ℤ) → SFits w32 z → signedWord (ofZ w32 z) ≡ signed z
+pub word-text : (z : ℤ) → SFits w32 z → signedWord (ofZ w32 z) ≡ signedDecimal z
 word-text (pos n) f = rw (lt-ltb n 2147483648 (f .sfits))
 word-text (negsuc k) f =
     let e : 4294967296 - (4294967296 - suc k) ≡ suc k = omega (arith, f .sfits) in

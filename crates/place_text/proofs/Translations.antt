@@ -6,11 +6,11 @@ use lib.IntN.{ℤ}
 use mir.Syntax.{w32}
 use mir.Val.{SFits, toZ, ofZ}
 use mir.ValLaws.{toZ-ofZ}
-use Rattle.place_text.specs.Numerals.{decimal, signed}
+use Rattle.place_text.specs.Numerals.{decimal, signedDecimal}
 use Rattle.place_text.specs.Text.{line}
 
 abbrev moved : List ℕ → ℕ → List (List ℕ) → ℤ → ℤ → List ℕ
-moved first turn others x y = line first (decimal turn ∷ signed x ∷ signed y ∷ others)
+moved first turn others x y = line first (decimal turn ∷ signedDecimal x ∷ signedDecimal y ∷ others)
 
 pub read-back : (first : List ℕ) (turn : ℕ) (others : List (List ℕ)) (x y : ℤ) → SFits w32 x → SFits w32 y
     → moved first turn others (toZ w32 (ofZ w32 x)) (toZ w32 (ofZ w32 y)) ≡ moved first turn others x y

@@ -1,4 +1,5 @@
 pub mod Numerals
+pub mod Place
 pub mod ReadBack
 pub mod Room
 pub mod Text

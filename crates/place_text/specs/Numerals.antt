@@ -28,9 +28,9 @@ abbrev pub decimal : ℕ → List ℕ
 decimal n = decimalIn n n
 
 -- a whole number, with a minus sign if it is negative
-abbrev pub signed : ℤ → List ℕ
-signed (pos n) = decimal n
-signed (negsuc n) = 45 ∷ decimal (suc n)
+abbrev pub signedDecimal : ℤ → List ℕ
+signedDecimal (pos n) = decimal n
+signedDecimal (negsuc n) = 45 ∷ decimal (suc n)
 
 -- a word of 32 bits that holds a whole number: from 2³¹ on it stands for the word less 2³²
 abbrev pub signedWord : ℕ → List ℕ

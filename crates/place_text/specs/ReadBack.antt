@@ -6,13 +6,13 @@ use mathlib.Core.List.{List, [], _∷_}
 use lib.Dec.{ltb}
 
 -- `0` to `9`, and from `A` on
-abbrev pub value : ℕ → ℕ
-value c = cond (ltb c 58) (c - 48) (c - 55)
+abbrev pub digitsValue : ℕ → ℕ
+digitsValue c = cond (ltb c 58) (c - 48) (c - 55)
 
 -- digits in base b after those that stand for n
 unfoldable pub numberAfter : ℕ → ℕ → List ℕ → ℕ
 numberAfter b n [] = n
-numberAfter b n (c ∷ cs) = numberAfter b (b * n + value c) cs
+numberAfter b n (c ∷ cs) = numberAfter b (b * n + digitsValue c) cs
 
-abbrev pub number : ℕ → List ℕ → ℕ
-number b cs = numberAfter b 0 cs
+abbrev pub readNumber : ℕ → List ℕ → ℕ
+readNumber b cs = numberAfter b 0 cs

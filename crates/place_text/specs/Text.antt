@@ -1,10 +1,11 @@
 -- Document 01, "The program `place`": the text of an answer, as its bytes. A line is words with one space between and a line feed.
-use Prim.Native.Nat.{ℕ, zero, suc, _+_, _*_}
+use Prim.Native.Nat.{ℕ, _+_, _*_}
 use mathlib.Core.Bool.{cond}
 use mathlib.Core.List.{List, [], _∷_, _++_}
 use lib.Dec.{eqb}
 use lib.ListN.{getD}
 use lib.Ieee.{Float, binary32, toBits}
+use Rattle.lent_list.specs.Front.{upTo}
 use Rattle.refusal.specs.declared.Refusal.{Refusal}
 use Rattle.refusal.specs.Numbers.{numberOf, valuesOf}
 use Rattle.grid_alignment.specs.declared.GridAlignment.{GridAlignment}
@@ -16,7 +17,7 @@ use Rattle.ranking.specs.declared.Choice.the-variants as choice
 use Rattle.board_match.specs.declared.Match.{Match}
 use Rattle.board_match.specs.declared.Matched.{Matched}
 use Rattle.board_match.specs.declared.Matched.the-variants as matched
-use Rattle.place_text.specs.Numerals.{hex8, decimal, signed, signedWord}
+use Rattle.place_text.specs.Numerals.{hex8, decimal, signedDecimal, signedWord}
 
 -- `placed`
 abbrev pub the-placed : List ℕ
@@ -66,18 +67,18 @@ andWords (w ∷ ws) = 32 ∷ (w ++ andWords ws)
 abbrev pub line : List ℕ → List (List ℕ) → List ℕ
 line first others = first ++ andWords others
 
-abbrev pub float : Float → List ℕ
-float x = hex8 (toBits binary32 x)
+abbrev pub floatWord : Float → List ℕ
+floatWord x = hex8 (toBits binary32 x)
 
 -- the evidence's bits or `none`
 abbrev pub evidenceWord : Evidence → List ℕ
-evidenceWord (evidence.Number x) = float x
+evidenceWord (evidence.Number x) = floatWord x
 evidenceWord evidence.Absent = the-none
 
 -- best and next: turn, tx, ty, evidence
 abbrev pub hypothesisLine : List ℕ → Hypothesis → List ℕ
 hypothesisLine first h =
-    line first (decimal (h .alignment .turn) ∷ signed (h .alignment .tx) ∷ signed (h .alignment .ty) ∷ evidenceWord (h .evidence) ∷ [])
+    line first (decimal (h .alignment .turn) ∷ signedDecimal (h .alignment .tx) ∷ signedDecimal (h .alignment .ty) ∷ evidenceWord (h .evidence) ∷ [])
 
 -- `next absent` without a runner-up
 abbrev pub nextLine : Choice → List ℕ
@@ -86,7 +87,7 @@ nextLine choice.Absent = line the-next (the-absent ∷ [])
 
 -- corners: turn and corner translation
 abbrev pub cornersLine : GridAlignment → List ℕ
-cornersLine a = line the-corners (decimal (a .turn) ∷ signed (a .tx) ∷ signed (a .ty) ∷ [])
+cornersLine a = line the-corners (decimal (a .turn) ∷ signedDecimal (a .tx) ∷ signedDecimal (a .ty) ∷ [])
 
 -- A marker has 18 words of the list, of which the first nine are printed; a word past the list counts as 0.
 abbrev pub wordOf : List ℕ → ℕ → ℕ → ℕ
@@ -109,16 +110,15 @@ markerLine words k =
     ∷ reading words k)
 
 -- the lines of the first k markers
-unfoldable pub markerLines : List ℕ → ℕ → List ℕ
-markerLines words zero = []
-markerLines words (suc k) = markerLines words k ++ markerLine words k
+abbrev pub markerLines : List ℕ → ℕ → List ℕ
+markerLines words k = upTo (markerLine words) k
 
 unfoldable pub matchLines : Match → List ℕ → List ℕ
 matchLines m words =
     line the-placed []
     ++ (hypothesisLine the-best (m .best)
     ++ (nextLine (m .«runner_up»)
-    ++ (line the-margin (float (m .margin) ∷ [])
+    ++ (line the-margin (floatWord (m .margin) ∷ [])
     ++ (line the-placements (decimal (m .placements) ∷ [])
     ++ (cornersLine (m .corners)
     ++ markerLines words (m .markers))))))

@@ -1,15 +1,14 @@
--- Text in a list that is lent: it stands in front, as much of it as there is room for, and the rest of the list is untouched.
+-- What is printed into a list that is lent: bytes from a place on, as many as there is room for; the rest of the list is untouched.
 use Prim.Native.Nat.{ℕ, _+_, min}
 use mathlib.Core.Path.{_≡_}
 use mathlib.Core.List.{List, _++_}
 use lib.ListN.{length, take, drop}
-use lib.Seq.{sets}
+use Rattle.lent_list.specs.Front.{inFront}
 
--- the list with the text in front
-abbrev pub fronted : List ℕ → List ℕ → List ℕ
-fronted text lent = take (length lent) text ++ drop (length text) lent
+abbrev pub printedAt : ℕ → List ℕ → List ℕ → List ℕ
+printedAt at bytes lent = take at lent ++ inFront bytes (drop at lent)
 
--- `bytes` were put from the place `at` on, each if there is a place for it, and `next` is the place after them
-pub record Put (bytes : List ℕ) (at next : ℕ) (before after : List ℕ) : Type 0 where
-  pub stored : after ≡ sets before at bytes
+-- `next` is the place after them
+pub record Printed (bytes : List ℕ) (at next : ℕ) (before after : List ℕ) : Type 0 where
+  pub stored : after ≡ printedAt at bytes before
   pub place : next ≡ min (at + length bytes) (length before)

@@ -1,10 +1,13 @@
-// The text of an answer of Match, as the program `place` prints it (document 01). Leans on `refusal`, `floats`, `grid_alignment`,
+// What the program `place` prints (document 01): the text of the answer of Match to a record. Uses `refusal`, `floats`, `grid_alignment`,
 // `ranking` and `board_match`.
 ghost use mathlib.Core.Path.{_≡_};
-ghost use Prim.Native.Nat.{min};
-ghost use lib.ListN.{length};
+ghost use Prim.Native.Nat.{_≤_, min};
+ghost use lib.ListN.{length, take};
+ghost use Rattle.board_match.specs.Match.{matchList};
+ghost use Rattle.place_text.specs.Place.{placeText};
 ghost use Rattle.place_text.specs.Text.{matchLines, textOf};
-ghost use Rattle.place_text.specs.Writing.{Put, fronted};
+ghost use Rattle.lent_list.specs.Front.{inFront};
+ghost use Rattle.place_text.specs.Writing.{Printed};
 
 mod lines;
 mod markers;
@@ -15,7 +18,7 @@ use board_match::Match;
 use board_match::Matched;
 
 fn put_match(text: &mut [u8], at: usize, found: Match, markers: &[u32]) -> usize
-    ensures { λ r. ⌜ Put (matchLines found (now (markers .entry))) at r (now (text .entry)) (now (text .exit)) ⌝ }
+    ensures { λ r. ⌜ Printed (matchLines found (now (markers .entry))) at r (now (text .entry)) (now (text .exit)) ⌝ }
 {
     let best = found.best;
     let placed = best.alignment;
@@ -41,12 +44,41 @@ fn put_match(text: &mut [u8], at: usize, found: Match, markers: &[u32]) -> usize
 
 // The text of `answer` and of the words that a match filled `markers` with, in front of the list that is lent; where that is too
 // short, as much of the text as it holds. The answer is how many bytes that is.
-pub fn format(answer: Matched, markers: &[u32], text: &mut [u8]) -> usize
+fn format(answer: Matched, markers: &[u32], text: &mut [u8]) -> usize
     ensures count { λ r. ⌜ r ≡ min (length (textOf answer (now (markers .entry)))) (length (now (text .entry))) ⌝ }
-    ensures list { λ _. ⌜ now (text .exit) ≡ fronted (textOf answer (now (markers .entry))) (now (text .entry)) ⌝ }
+    ensures list { λ _. ⌜ now (text .exit) ≡ inFront (textOf answer (now (markers .entry))) (now (text .entry)) ⌝ }
 {
     match answer {
         Matched::Placed(found) => put_match(text, 0, found, markers),
         Matched::Refused(refusal) => lines::put_refusal(text, 0, refusal),
     }
+}
+
+// The text of the answer to a record, for lists of any length. It is never longer than 32 KiB.
+fn answer_text(bytes: &[u8], markers: &mut [u32], text: &mut [u8]) -> usize
+    ensures count { λ r. ⌜ r ≡ min (length (placeText (now (bytes .entry)) (now (markers .entry)))) (length (now (text .entry))) ⌝ }
+    ensures text { λ _. ⌜ now (text .exit) ≡ inFront (placeText (now (bytes .entry)) (now (markers .entry))) (now (text .entry)) ⌝ }
+    ensures list { λ _. ⌜ now (markers .exit) ≡ matchList (now (bytes .entry)) (now (markers .entry)) ⌝ }
+    ensures room { λ _. ⌜ length (placeText (now (bytes .entry)) (now (markers .entry))) ≤ 32768 ⌝ }
+{
+    let answer = board_match::match_board(bytes, markers);
+    format(answer, markers, text)
+}
+
+// The record is the first `read` bytes. Its whole text stands in front of the lent one, whatever the record: the list of markers has 18 words for
+// each of 256 cells, and the text has room for as many lines. The answer is the text's length.
+pub fn place(
+    bytes: &[u8; 65536],
+    read: usize,
+    markers: &mut [u32; 4608],
+    text: &mut [u8; 32768],
+) -> usize
+    ensures length { λ r. ⌜ r ≡ length (placeText (take read (now (bytes .entry))) (now (markers .entry))) ⌝ }
+    ensures text { λ _. ⌜ now (text .exit) ≡ inFront (placeText (take read (now (bytes .entry))) (now (markers .entry))) (now (text .entry)) ⌝ }
+    ensures list { λ _. ⌜ now (markers .exit) ≡ matchList (take read (now (bytes .entry))) (now (markers .entry)) ⌝ }
+    ensures room { λ r. ⌜ r ≤ length (now (text .exit)) ⌝ }
+{
+    let all = &bytes[..];
+    let end = writer::least(read, all.len());
+    answer_text(&all[..end], &mut markers[..], &mut text[..])
 }

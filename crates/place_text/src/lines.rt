@@ -1,8 +1,8 @@
 // The lines of an answer but those of its markers.
 ghost use mathlib.Core.List.{[], _∷_};
-ghost use Rattle.place_text.specs.Numerals.{decimal, signed};
-ghost use Rattle.place_text.specs.Text.{line, float, evidenceWord, nextLine, refusalLine};
-ghost use Rattle.place_text.specs.Writing.{Put};
+ghost use Rattle.place_text.specs.Numerals.{decimal, signedDecimal};
+ghost use Rattle.place_text.specs.Text.{line, floatWord, evidenceWord, nextLine, refusalLine};
+ghost use Rattle.place_text.specs.Writing.{Printed};
 use super::words;
 use super::writer;
 use ranking::Choice;
@@ -18,7 +18,8 @@ pub fn put_hypothesis(
     ty: i32,
     evidence: Evidence,
 ) -> usize
-    ensures { λ r. ⌜ Put (line (now (first .entry)) (decimal turn ∷ signed tx ∷ signed ty ∷ evidenceWord evidence ∷ [])) at r (now (text .entry)) (now (text .exit)) ⌝ }
+    ensures { λ r. ⌜ Printed (line (now (first .entry)) (decimal turn ∷ signedDecimal tx ∷ signedDecimal ty ∷ evidenceWord evidence ∷ [])) at r
+        (now (text .entry)) (now (text .exit)) ⌝ }
 {
     let mut next = writer::put_all(text, at, first);
     next = words::and_decimal(text, next, turn as u64);
@@ -29,7 +30,7 @@ pub fn put_hypothesis(
 }
 
 pub fn put_next(text: &mut [u8], at: usize, runner_up: Choice) -> usize
-    ensures { λ r. ⌜ Put (nextLine «runner_up») at r (now (text .entry)) (now (text .exit)) ⌝ }
+    ensures { λ r. ⌜ Printed (nextLine «runner_up») at r (now (text .entry)) (now (text .exit)) ⌝ }
 {
     match runner_up {
         Choice::Placement(h) => {
@@ -42,7 +43,8 @@ pub fn put_next(text: &mut [u8], at: usize, runner_up: Choice) -> usize
 }
 
 pub fn put_alignment(text: &mut [u8], at: usize, first: &[u8], turn: u8, tx: i32, ty: i32) -> usize
-    ensures { λ r. ⌜ Put (line (now (first .entry)) (decimal turn ∷ signed tx ∷ signed ty ∷ [])) at r (now (text .entry)) (now (text .exit)) ⌝ }
+    ensures { λ r. ⌜ Printed (line (now (first .entry)) (decimal turn ∷ signedDecimal tx ∷ signedDecimal ty ∷ [])) at r (now (text .entry))
+        (now (text .exit)) ⌝ }
 {
     let mut next = writer::put_all(text, at, first);
     next = words::and_decimal(text, next, turn as u64);
@@ -52,7 +54,7 @@ pub fn put_alignment(text: &mut [u8], at: usize, first: &[u8], turn: u8, tx: i32
 }
 
 pub fn put_float(text: &mut [u8], at: usize, first: &[u8], x: f32) -> usize
-    ensures { λ r. ⌜ Put (line (now (first .entry)) (float x ∷ [])) at r (now (text .entry)) (now (text .exit)) ⌝ }
+    ensures { λ r. ⌜ Printed (line (now (first .entry)) (floatWord x ∷ [])) at r (now (text .entry)) (now (text .exit)) ⌝ }
 {
     let mut next = writer::put_all(text, at, first);
     next = words::and_hex8(text, next, floats::to_bits(x));
@@ -60,7 +62,7 @@ pub fn put_float(text: &mut [u8], at: usize, first: &[u8], x: f32) -> usize
 }
 
 pub fn put_number(text: &mut [u8], at: usize, first: &[u8], n: u64) -> usize
-    ensures { λ r. ⌜ Put (line (now (first .entry)) (decimal n ∷ [])) at r (now (text .entry)) (now (text .exit)) ⌝ }
+    ensures { λ r. ⌜ Printed (line (now (first .entry)) (decimal n ∷ [])) at r (now (text .entry)) (now (text .exit)) ⌝ }
 {
     let mut next = writer::put_all(text, at, first);
     next = words::and_decimal(text, next, n);
@@ -69,7 +71,7 @@ pub fn put_number(text: &mut [u8], at: usize, first: &[u8], n: u64) -> usize
 
 // Of all values that refusals give, only the margin of 16 is printed.
 pub fn put_refusal(text: &mut [u8], at: usize, refusal: Refusal) -> usize
-    ensures { λ r. ⌜ Put (refusalLine refusal) at r (now (text .entry)) (now (text .exit)) ⌝ }
+    ensures { λ r. ⌜ Printed (refusalLine refusal) at r (now (text .entry)) (now (text .exit)) ⌝ }
 {
     let number = refusal.number();
     if number != 16 {

@@ -3,7 +3,7 @@ ghost use mathlib.Core.Path.{_≡_};
 ghost use mathlib.Core.List.{_∷_, _++_};
 ghost use Rattle.place_text.specs.Numerals.{hex8, decimal, signedWord};
 ghost use Rattle.place_text.specs.Text.{andWords, wordOf, reading, markerLine, markerLines};
-ghost use Rattle.place_text.specs.Writing.{Put};
+ghost use Rattle.place_text.specs.Writing.{Printed};
 use super::words;
 use super::writer;
 
@@ -23,20 +23,21 @@ fn word(markers: &[u32], k: usize, w: usize) -> u32
 }
 
 fn and_decimal(text: &mut [u8], at: usize, markers: &[u32], k: usize, w: usize) -> usize
-    ensures { λ r. ⌜ Put (32 ∷ decimal (wordOf (now (markers .entry)) k w)) at r (now (text .entry)) (now (text .exit)) ⌝ }
+    ensures { λ r. ⌜ Printed (32 ∷ decimal (wordOf (now (markers .entry)) k w)) at r (now (text .entry)) (now (text .exit)) ⌝ }
 {
     words::and_decimal(text, at, word(markers, k, w) as u64)
 }
 
 fn and_signed(text: &mut [u8], at: usize, markers: &[u32], k: usize, w: usize) -> usize
-    ensures { λ r. ⌜ Put (32 ∷ signedWord (wordOf (now (markers .entry)) k w)) at r (now (text .entry)) (now (text .exit)) ⌝ }
+    ensures { λ r. ⌜ Printed (32 ∷ signedWord (wordOf (now (markers .entry)) k w)) at r (now (text .entry)) (now (text .exit)) ⌝ }
 {
     words::and_signed_word(text, at, word(markers, k, w))
 }
 
 // The code's high word stands after its low one.
 fn and_code(text: &mut [u8], at: usize, markers: &[u32], k: usize) -> usize
-    ensures { λ r. ⌜ Put (32 ∷ (hex8 (wordOf (now (markers .entry)) k 7) ++ hex8 (wordOf (now (markers .entry)) k 6))) at r (now (text .entry)) (now (text .exit)) ⌝ }
+    ensures { λ r. ⌜ Printed (32 ∷ (hex8 (wordOf (now (markers .entry)) k 7) ++ hex8 (wordOf (now (markers .entry)) k 6))) at r
+        (now (text .entry)) (now (text .exit)) ⌝ }
 {
     let low = word(markers, k, 6);
     let high = word(markers, k, 7);
@@ -44,14 +45,14 @@ fn and_code(text: &mut [u8], at: usize, markers: &[u32], k: usize) -> usize
 }
 
 fn and_float(text: &mut [u8], at: usize, markers: &[u32], k: usize, w: usize) -> usize
-    ensures { λ r. ⌜ Put (32 ∷ hex8 (wordOf (now (markers .entry)) k w)) at r (now (text .entry)) (now (text .exit)) ⌝ }
+    ensures { λ r. ⌜ Printed (32 ∷ hex8 (wordOf (now (markers .entry)) k w)) at r (now (text .entry)) (now (text .exit)) ⌝ }
 {
     words::and_hex8(text, at, word(markers, k, w))
 }
 
 // The last words of the line: differing bits, code, quotient.
 fn and_reading(text: &mut [u8], at: usize, markers: &[u32], k: usize) -> usize
-    ensures { λ r. ⌜ Put (andWords (reading (now (markers .entry)) k)) at r (now (text .entry)) (now (text .exit)) ⌝ }
+    ensures { λ r. ⌜ Printed (andWords (reading (now (markers .entry)) k)) at r (now (text .entry)) (now (text .exit)) ⌝ }
 {
     let mut next = and_decimal(text, at, markers, k, 5);
     next = and_code(text, next, markers, k);
@@ -61,7 +62,7 @@ fn and_reading(text: &mut [u8], at: usize, markers: &[u32], k: usize) -> usize
 
 // Marker `k`: cell, id, u, v, turn, then its reading.
 fn put_marker(text: &mut [u8], at: usize, markers: &[u32], k: usize) -> usize
-    ensures { λ r. ⌜ Put (markerLine (now (markers .entry)) k) at r (now (text .entry)) (now (text .exit)) ⌝ }
+    ensures { λ r. ⌜ Printed (markerLine (now (markers .entry)) k) at r (now (text .entry)) (now (text .exit)) ⌝ }
 {
     let mut next = writer::put_all(text, at, b"marker");
     next = and_decimal(text, next, markers, k, 0);
@@ -74,7 +75,7 @@ fn put_marker(text: &mut [u8], at: usize, markers: &[u32], k: usize) -> usize
 
 // The first `count` markers.
 pub fn put_markers(text: &mut [u8], at: usize, markers: &[u32], count: usize) -> usize
-    ensures { λ r. ⌜ Put (markerLines (now (markers .entry)) count) at r (now (text .entry)) (now (text .exit)) ⌝ }
+    ensures { λ r. ⌜ Printed (markerLines (now (markers .entry)) count) at r (now (text .entry)) (now (text .exit)) ⌝ }
 {
     let mut next = writer::least(at, text.len());
     let mut k = 0;

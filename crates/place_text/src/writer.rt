@@ -3,8 +3,8 @@
 ghost use mathlib.Core.Path.{_≡_};
 ghost use mathlib.Core.List.{[], _∷_};
 ghost use Prim.Native.Nat.{_<_, min};
-ghost use Rattle.place_text.specs.Numerals.{digit as Digit, hex2, hex4, hex8, decimal, signed, signedWord};
-ghost use Rattle.place_text.specs.Writing.{Put};
+ghost use Rattle.place_text.specs.Numerals.{digit as Digit, hex2, hex4, hex8, decimal, signedDecimal, signedWord};
+ghost use Rattle.place_text.specs.Writing.{Printed};
 
 pub fn least(a: usize, b: usize) -> usize
     ensures { λ r. ⌜ r ≡ min a b ⌝ }
@@ -16,7 +16,7 @@ pub fn least(a: usize, b: usize) -> usize
 }
 
 pub fn put(text: &mut [u8], at: usize, byte: u8) -> usize
-    ensures { λ r. ⌜ Put (byte ∷ []) at r (now (text .entry)) (now (text .exit)) ⌝ }
+    ensures { λ r. ⌜ Printed (byte ∷ []) at r (now (text .entry)) (now (text .exit)) ⌝ }
 {
     if at < text.len() {
         text[at] = byte;
@@ -26,7 +26,7 @@ pub fn put(text: &mut [u8], at: usize, byte: u8) -> usize
 }
 
 pub fn put_all(text: &mut [u8], at: usize, bytes: &[u8]) -> usize
-    ensures { λ r. ⌜ Put (now (bytes .entry)) at r (now (text .entry)) (now (text .exit)) ⌝ }
+    ensures { λ r. ⌜ Printed (now (bytes .entry)) at r (now (text .entry)) (now (text .exit)) ⌝ }
 {
     let mut next = least(at, text.len());
     let mut i = 0;
@@ -48,28 +48,28 @@ fn digit(d: u8) -> u8
 }
 
 fn put_hex2(text: &mut [u8], at: usize, n: u8) -> usize
-    ensures { λ r. ⌜ Put (hex2 n) at r (now (text .entry)) (now (text .exit)) ⌝ }
+    ensures { λ r. ⌜ Printed (hex2 n) at r (now (text .entry)) (now (text .exit)) ⌝ }
 {
     let next = put(text, at, digit(n / 16));
     put(text, next, digit(n % 16))
 }
 
 fn put_hex4(text: &mut [u8], at: usize, n: u16) -> usize
-    ensures { λ r. ⌜ Put (hex4 n) at r (now (text .entry)) (now (text .exit)) ⌝ }
+    ensures { λ r. ⌜ Printed (hex4 n) at r (now (text .entry)) (now (text .exit)) ⌝ }
 {
     let next = put_hex2(text, at, (n / 256) as u8);
     put_hex2(text, next, (n % 256) as u8)
 }
 
 pub fn put_hex8(text: &mut [u8], at: usize, n: u32) -> usize
-    ensures { λ r. ⌜ Put (hex8 n) at r (now (text .entry)) (now (text .exit)) ⌝ }
+    ensures { λ r. ⌜ Printed (hex8 n) at r (now (text .entry)) (now (text .exit)) ⌝ }
 {
     let next = put_hex4(text, at, (n / 65536) as u16);
     put_hex4(text, next, (n % 65536) as u16)
 }
 
 pub fn put_decimal(text: &mut [u8], at: usize, n: u64) -> usize
-    ensures { λ r. ⌜ Put (decimal n) at r (now (text .entry)) (now (text .exit)) ⌝ }
+    ensures { λ r. ⌜ Printed (decimal n) at r (now (text .entry)) (now (text .exit)) ⌝ }
 {
     if n < 10 {
         return put(text, at, digit(n as u8));
@@ -80,7 +80,7 @@ pub fn put_decimal(text: &mut [u8], at: usize, n: u64) -> usize
 
 // The complement of z is −1 − z.
 pub fn put_signed(text: &mut [u8], at: usize, z: i32) -> usize
-    ensures { λ r. ⌜ Put (signed z) at r (now (text .entry)) (now (text .exit)) ⌝ }
+    ensures { λ r. ⌜ Printed (signedDecimal z) at r (now (text .entry)) (now (text .exit)) ⌝ }
 {
     if z < 0 {
         let next = put(text, at, b'-');
@@ -90,7 +90,7 @@ pub fn put_signed(text: &mut [u8], at: usize, z: i32) -> usize
 }
 
 pub fn put_signed_word(text: &mut [u8], at: usize, word: u32) -> usize
-    ensures { λ r. ⌜ Put (signedWord word) at r (now (text .entry)) (now (text .exit)) ⌝ }
+    ensures { λ r. ⌜ Printed (signedWord word) at r (now (text .entry)) (now (text .exit)) ⌝ }
 {
     if word < 0x8000_0000 {
         return put_decimal(text, at, word as u64);

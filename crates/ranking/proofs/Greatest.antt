@@ -6,12 +6,12 @@ use native.Mathlib.Omega.{arith}
 use mathlib.Core.Bool.{Bool, true, false, cond}
 use mathlib.Core.List.{List, [], _∷_}
 use mathlib.Core.Option.{none, some}
-use Rattle.lent_list.specs.Places.{nth}
+use lib.ListN.{getElem?}
 use Rattle.ranking.specs.declared.Hypothesis.{Hypothesis}
 use Rattle.ranking.specs.declared.Choice.{Choice}
 use Rattle.ranking.specs.declared.Choice.the-variants as choice
-use Rattle.ranking.specs.Greatest.{below, over, firstGreatest, rest, restOver}
-use Rattle.ranking.specs.Rules.{FiniteEvidence, AllFinite, FirstGreatest, GreatestRule}
+use Rattle.ranking.specs.Greatest.{liesBelow, over, firstGreatest, rest, restOver}
+use Rattle.ranking.specs.Rules.{FiniteEvidence, AllFinite, IsFirstGreatest, GreatestRule}
 use Rattle.ranking.proofs.Order.{below-self, not-below-trans, below-one-way}
 use Rattle.ranking.proofs.OnePass.{head-finite, tail-finite}
 
@@ -27,7 +27,7 @@ empty (h ∷ hs) e = absurd (go (firstGreatest hs) e)
 
     go : (c : Choice) → over h c ≡ choice.Absent → ⊥
     go choice.Absent e = let z : _≡_ {A = ℕ} 0 1 = cc in omega arith
-    go (choice.Placement g) e = one (below (h .evidence) (g .evidence)) g h e
+    go (choice.Placement g) e = one (liesBelow (h .evidence) (g .evidence)) g h e
 
 same : {a b : Hypothesis} → some a ≡ some b → a ≡ b
 same e = cc
@@ -40,35 +40,36 @@ no-element e = let z : _≡_ {A = ℕ} 0 1 = cc in omega arith
 
 module _ (h : Hypothesis) (hs : List Hypothesis) (f : AllFinite (h ∷ hs)) where
   -- of the places of a list: the head's and those after it
-  at-each : (x : Hypothesis) → below (x .evidence) (h .evidence) ≡ false → ((k : ℕ) (g : Hypothesis) → nth hs k ≡ some g → below (x .evidence) (g .evidence) ≡ false) → (k : ℕ) (g : Hypothesis) → nth (h ∷ hs) k ≡ some g → below (x .evidence) (g .evidence) ≡ false
-  unfolding nth
+  at-each : (x : Hypothesis) → liesBelow (x .evidence) (h .evidence) ≡ false
+      → ((k : ℕ) (g : Hypothesis) → getElem? hs k ≡ some g → liesBelow (x .evidence) (g .evidence) ≡ false) → (k : ℕ) (g : Hypothesis)
+      → getElem? (h ∷ hs) k ≡ some g → liesBelow (x .evidence) (g .evidence) ≡ false
   at-each x p q zero g e = rw (← same e) p
   at-each x p q (suc k) g e = q k g e
 
-  self : below (h .evidence) (h .evidence) ≡ false
+  self : liesBelow (h .evidence) (h .evidence) ≡ false
   self = below-self (h .evidence) (head-finite h hs f)
 
-  head-first : ((k : ℕ) (g : Hypothesis) → nth hs k ≡ some g → below (h .evidence) (g .evidence) ≡ false) → rest (h ∷ hs) ≡ hs → FirstGreatest (h ∷ hs) h
-  unfolding nth
+  head-first : ((k : ℕ) (g : Hypothesis) → getElem? hs k ≡ some g → liesBelow (h .evidence) (g .evidence) ≡ false) → rest (h ∷ hs) ≡ hs
+      → IsFirstGreatest (h ∷ hs) h
   head-first q o = record { place = 0; there = refl; greatest = at-each h self q; first = λ k g l e. absurd (omega arith); others = o }
 
-  alone : firstGreatest hs ≡ choice.Absent → FirstGreatest (h ∷ hs) h
-  unfolding rest nth
-  alone e = head-first (λ k g p. absurd (no-element (sym (ap (λ (l : List Hypothesis). nth l k) (empty hs e)) ∙ p))) (ap (restOver h hs (rest hs)) e)
+  alone : firstGreatest hs ≡ choice.Absent → IsFirstGreatest (h ∷ hs) h
+  unfolding rest
+  alone e = head-first (λ k g p. absurd (no-element (sym (ap (λ (l : List Hypothesis). getElem? l k) (empty hs e)) ∙ p))) (ap (restOver h hs (rest hs)) e)
 
-  module _ (g : Hypothesis) (e : firstGreatest hs ≡ choice.Placement g) (r : FirstGreatest hs g) where
+  module _ (g : Hypothesis) (e : firstGreatest hs ≡ choice.Placement g) (r : IsFirstGreatest hs g) where
     g₀ : FiniteEvidence (g .evidence)
     g₀ = tail-finite h hs f (r .place) g (r .there)
 
-    not-above : below (h .evidence) (g .evidence) ≡ false → FirstGreatest (h ∷ hs) h
+    not-above : liesBelow (h .evidence) (g .evidence) ≡ false → IsFirstGreatest (h ∷ hs) h
     unfolding rest
     not-above t =
         head-first
         (λ k x p. not-below-trans (h .evidence) (g .evidence) (x .evidence) (head-finite h hs f) g₀ (tail-finite h hs f k x p) t (r .greatest k x p))
         (ap (restOver h hs (rest hs)) e ∙ ap (λ (b : Bool). cond b (h ∷ rest hs) hs) t)
 
-    above : below (h .evidence) (g .evidence) ≡ true → FirstGreatest (h ∷ hs) g
-    unfolding rest nth
+    above : liesBelow (h .evidence) (g .evidence) ≡ true → IsFirstGreatest (h ∷ hs) g
+    unfolding rest
     above t =
         record {
           place = suc (r .place);
@@ -78,7 +79,7 @@ module _ (h : Hypothesis) (hs : List Hypothesis) (f : AllFinite (h ∷ hs)) wher
           others = ap (restOver h hs (rest hs)) e ∙ ap (λ (b : Bool). cond b (h ∷ rest hs) hs) t ∙ ap (λ (l : List Hypothesis). h ∷ l) (r .others);
         }
       where
-        go : (k : ℕ) (x : Hypothesis) → k < suc (r .place) → nth (h ∷ hs) k ≡ some x → below (x .evidence) (g .evidence) ≡ true
+        go : (k : ℕ) (x : Hypothesis) → k < suc (r .place) → getElem? (h ∷ hs) k ≡ some x → liesBelow (x .evidence) (g .evidence) ≡ true
         go zero x l p = rw (← same p) t
         go (suc k) x l p = r .first k x (le-of-suc-le-suc l) p
 
@@ -87,10 +88,12 @@ unfolding firstGreatest
 greatest-rule [] b f e = absurd (let z : _≡_ {A = ℕ} 0 1 = cc in omega arith)
 greatest-rule (h ∷ hs) b f e = go (firstGreatest hs) refl (λ g p. greatest-rule hs g (tail-finite h hs f) p) e
   where
-    one : (t : Bool) (g : Hypothesis) → firstGreatest hs ≡ choice.Placement g → below (h .evidence) (g .evidence) ≡ t → FirstGreatest hs g → cond t (choice.Placement g) (choice.Placement h) ≡ choice.Placement b → FirstGreatest (h ∷ hs) b
+    one : (t : Bool) (g : Hypothesis) → firstGreatest hs ≡ choice.Placement g → liesBelow (h .evidence) (g .evidence) ≡ t → IsFirstGreatest hs g
+        → cond t (choice.Placement g) (choice.Placement h) ≡ choice.Placement b → IsFirstGreatest (h ∷ hs) b
     one true g p t r q = rw (← placed q) (above h hs f g p r t)
     one false g p t r q = rw (← placed q) (not-above h hs f g p r t)
 
-    go : (c : Choice) → firstGreatest hs ≡ c → ((g : Hypothesis) → firstGreatest hs ≡ choice.Placement g → FirstGreatest hs g) → over h c ≡ choice.Placement b → FirstGreatest (h ∷ hs) b
+    go : (c : Choice) → firstGreatest hs ≡ c → ((g : Hypothesis) → firstGreatest hs ≡ choice.Placement g → IsFirstGreatest hs g)
+        → over h c ≡ choice.Placement b → IsFirstGreatest (h ∷ hs) b
     go choice.Absent p r q = rw (← placed q) (alone h hs f p)
-    go (choice.Placement g) p r q = one (below (h .evidence) (g .evidence)) g p refl (r g p) q
+    go (choice.Placement g) p r q = one (liesBelow (h .evidence) (g .evidence)) g p refl (r g p) q

@@ -1,7 +1,7 @@
 pub mod Order
 pub mod OnePass
 pub mod RankedTo
-pub mod Behind
+pub mod Unchanged
 pub mod Greatest
 pub mod Margins
 pub mod Members

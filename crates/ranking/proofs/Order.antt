@@ -6,33 +6,35 @@ use mathlib.Core.Bool.{Bool, true, false}
 use Rattle.floats.proofs.Order.{lt-self, lt-trans, not-lt-trans}
 use Rattle.ranking.specs.declared.Evidence.{Evidence}
 use Rattle.ranking.specs.declared.Evidence.the-variants as evidence
-use Rattle.ranking.specs.Greatest.{below}
+use Rattle.ranking.specs.Greatest.{liesBelow}
 use Rattle.ranking.specs.Rules.{FiniteEvidence}
 
 -- a test does not both fail and pass
 pub clash : (t : Bool) → t ≡ false → t ≡ true → ⊥
 clash t p q = let z : _≡_ {A = ℕ} 0 1 = cc in omega arith
 
-pub below-self : (x : Evidence) → FiniteEvidence x → below x x ≡ false
+pub below-self : (x : Evidence) → FiniteEvidence x → liesBelow x x ≡ false
 below-self evidence.Absent h = refl
 below-self (evidence.Number x) h = lt-self x h
 
-pub below-trans : (x y z : Evidence) → FiniteEvidence x → FiniteEvidence y → FiniteEvidence z → below x y ≡ true → below y z ≡ true → below x z ≡ true
+pub below-trans : (x y z : Evidence) → FiniteEvidence x → FiniteEvidence y → FiniteEvidence z → liesBelow x y ≡ true → liesBelow y z ≡ true
+    → liesBelow x z ≡ true
 below-trans x y evidence.Absent x₀ y₀ z₀ p q = absurd (clash false refl q)
 below-trans x evidence.Absent (evidence.Number z) x₀ y₀ z₀ p q = absurd (clash false refl p)
 below-trans evidence.Absent (evidence.Number y) (evidence.Number z) x₀ y₀ z₀ p q = refl
 below-trans (evidence.Number x) (evidence.Number y) (evidence.Number z) x₀ y₀ z₀ p q = lt-trans x y z x₀ y₀ z₀ p q
 
-pub not-below-trans : (x y z : Evidence) → FiniteEvidence x → FiniteEvidence y → FiniteEvidence z → below x y ≡ false → below y z ≡ false → below x z ≡ false
+pub not-below-trans : (x y z : Evidence) → FiniteEvidence x → FiniteEvidence y → FiniteEvidence z → liesBelow x y ≡ false → liesBelow y z ≡ false
+    → liesBelow x z ≡ false
 not-below-trans x y evidence.Absent x₀ y₀ z₀ p q = refl
 not-below-trans x evidence.Absent (evidence.Number z) x₀ y₀ z₀ p q = absurd (clash true q refl)
 not-below-trans evidence.Absent (evidence.Number y) (evidence.Number z) x₀ y₀ z₀ p q = absurd (clash true p refl)
 not-below-trans (evidence.Number x) (evidence.Number y) (evidence.Number z) x₀ y₀ z₀ p q = not-lt-trans x y z x₀ y₀ z₀ p q
 
 -- of two that differ in order only one lies below the other
-pub below-one-way : (x y : Evidence) → FiniteEvidence x → FiniteEvidence y → below x y ≡ true → below y x ≡ false
-below-one-way x y x₀ y₀ p = go (below y x) refl
+pub below-one-way : (x y : Evidence) → FiniteEvidence x → FiniteEvidence y → liesBelow x y ≡ true → liesBelow y x ≡ false
+below-one-way x y x₀ y₀ p = go (liesBelow y x) refl
   where
-    go : (t : Bool) → below y x ≡ t → t ≡ false
+    go : (t : Bool) → liesBelow y x ≡ t → t ≡ false
     go false q = refl
-    go true q = absurd (clash (below x x) (below-self x x₀) (below-trans x y x x₀ y₀ x₀ p q))
+    go true q = absurd (clash (liesBelow x x) (below-self x x₀) (below-trans x y x x₀ y₀ x₀ p q))

@@ -35,7 +35,8 @@ ranked-more k f m (suc n) =
     ap (λ (x : Ranking). ranked x (f (m + n))) (ranked-more k f m n) ∙ ap (rankedTo k f) e
 
 -- the columns below a, and column a
-pub next-column : (k : Ranking) (g : ℕ → ℕ → Hypothesis) (d a : ℕ) → rankedTo (rankedTo k (λ (j : ℕ). g (j / d) (j % d)) (a * d)) (g a) d ≡ rankedTo k (λ (j : ℕ). g (j / d) (j % d)) ((a + 1) * d)
+pub next-column : (k : Ranking) (g : ℕ → ℕ → Hypothesis) (d a : ℕ)
+    → rankedTo (rankedTo k (λ (j : ℕ). g (j / d) (j % d)) (a * d)) (g a) d ≡ rankedTo k (λ (j : ℕ). g (j / d) (j % d)) ((a + 1) * d)
 next-column k g d a =
     let f : ℕ → Hypothesis = λ (j : ℕ). g (j / d) (j % d) in
     ranked-same (rankedTo k f (a * d)) (g a) (λ (j : ℕ). f (a * d + j)) d (λ j h. sym (ap₂ g (digits-div a h) (digits-mod a h)))

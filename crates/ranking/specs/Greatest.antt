@@ -9,15 +9,15 @@ use Rattle.ranking.specs.declared.Choice.{Choice}
 use Rattle.ranking.specs.declared.Choice.the-variants as choice
 
 -- None lies below every number.
-abbrev pub below : Evidence → Evidence → Bool
-below x evidence.Absent = false
-below evidence.Absent (evidence.Number y) = true
-below (evidence.Number x) (evidence.Number y) = lt x y
+abbrev pub liesBelow : Evidence → Evidence → Bool
+liesBelow x evidence.Absent = false
+liesBelow evidence.Absent (evidence.Number y) = true
+liesBelow (evidence.Number x) (evidence.Number y) = lt x y
 
 -- The first greatest of a list: its head, unless the first greatest of the others lies above it.
 abbrev pub over : Hypothesis → Choice → Choice
 over h choice.Absent = choice.Placement h
-over h (choice.Placement g) = cond (below (h .evidence) (g .evidence)) (choice.Placement g) (choice.Placement h)
+over h (choice.Placement g) = cond (liesBelow (h .evidence) (g .evidence)) (choice.Placement g) (choice.Placement h)
 
 unfoldable pub firstGreatest : List Hypothesis → Choice
 firstGreatest [] = choice.Absent
@@ -26,7 +26,7 @@ firstGreatest (h ∷ hs) = over h (firstGreatest hs)
 -- the list without its first greatest
 abbrev pub restOver : Hypothesis → List Hypothesis → List Hypothesis → Choice → List Hypothesis
 restOver h hs others choice.Absent = hs
-restOver h hs others (choice.Placement g) = cond (below (h .evidence) (g .evidence)) (h ∷ others) hs
+restOver h hs others (choice.Placement g) = cond (liesBelow (h .evidence) (g .evidence)) (h ∷ others) hs
 
 unfoldable pub rest : List Hypothesis → List Hypothesis
 unfolding firstGreatest

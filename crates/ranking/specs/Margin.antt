@@ -1,7 +1,7 @@
 -- Document 01, Search: the margin, from the evidence and the capacity of the best placement and from the runner-up.
 use mathlib.Core.Bool.{cond}
 use lib.Ieee.{Float, binary32, ofBits, sub, div, lt, le}
-use Rattle.floats.specs.Units.{nought, one}
+use Rattle.floats.specs.Units.{nought, unity}
 use Rattle.ranking.specs.declared.Evidence.{Evidence}
 use Rattle.ranking.specs.declared.Evidence.the-variants as evidence
 use Rattle.ranking.specs.declared.Choice.{Choice}
@@ -16,11 +16,11 @@ atLeast low x = cond (lt x low) low x
 
 -- The lead over the runner-up as a share of the best's capacity: 1 if the runner-up is absent or none.
 abbrev pub share : Float → Float → Evidence → Float
-share x cap evidence.Absent = one
+share x cap evidence.Absent = unity
 share x cap (evidence.Number y) = div binary32 (sub binary32 x y) (atLeast epsilon cap)
 
 abbrev pub lead : Float → Float → Choice → Float
-lead x cap choice.Absent = one
+lead x cap choice.Absent = unity
 lead x cap (choice.Placement g) = share x cap (g .evidence)
 
 -- Margin: 0 if best is none or at most 0.

@@ -1,11 +1,11 @@
-// The best placement and its runner-up, in one pass over the placements, and the margin between the two (hypothesis.rs). Leans on `floats` and
-// `grid_alignment`, and for its laws on `integers` and `lent_list`.
+// The best placement and its runner-up, in one pass over the placements, and the margin between the two (hypothesis.rs). Uses `floats` and
+// `grid_alignment`; its laws use `integers`.
 ghost use mathlib.Core.Path.{_≡_};
 ghost use mathlib.Core.List.{[]};
 ghost use Prim.Native.Nat.{_^_, _<_};
-ghost use Rattle.ranking.specs.Greatest.{below as lies-below};
+ghost use Rattle.ranking.specs.Greatest.{liesBelow as lies-below};
 ghost use Rattle.ranking.specs.Margin.{margin as marginOf};
-ghost use Rattle.ranking.specs.Ranking.{rankingOf, better as betterOf, ranked as rankedOf, barsBy, barsOf, staysBehind};
+ghost use Rattle.ranking.specs.Ranking.{rankingOf, better as betterOf, ranked as rankedOf, keepsPlace, changesNothing};
 use grid_alignment::GridAlignment;
 
 // The evidence of a placement. None lies below every number.
@@ -108,75 +108,24 @@ pub fn ranked(ranking: Ranking, h: Hypothesis) -> Ranking
     }
 }
 
-// What a placement must pass to change best or runner-up: the numbers of both, where both have one. Without a number it passes no placement.
-pub struct Bars {
-    pub placed: bool,
-    pub known: bool,
-    pub best: f32,
-    pub second: f32,
-}
-
-fn bars_by(best: Evidence, second: Evidence) -> Bars
-    ensures { λ r. ⌜ r ≡ barsBy best second ⌝ }
+// Is a placement held that does not lie below this evidence? Then one with this evidence does not take its place.
+fn keeps_place(held: Choice, evidence: Evidence) -> bool
+    ensures { λ r. ⌜ r ≡ keepsPlace held evidence ⌝ }
 {
-    let unknown = Bars {
-        placed: true,
-        known: false,
-        best: 0.0,
-        second: 0.0,
-    };
-    let Evidence::Number(x) = best else {
-        return unknown;
-    };
-    let Evidence::Number(y) = second else {
-        return unknown;
-    };
-    Bars {
-        placed: true,
-        known: true,
-        best: x,
-        second: y,
-    }
-}
-
-pub fn bars_of(ranking: Ranking) -> Bars
-    ensures { λ r. ⌜ r ≡ barsOf ranking ⌝ }
-{
-    let best = ranking.best;
-    let runner_up = ranking.runner_up;
-    let unknown = Bars {
-        placed: false,
-        known: false,
-        best: 0.0,
-        second: 0.0,
-    };
-    let Choice::Placement(b) = best else {
-        return unknown;
-    };
-    let Choice::Placement(second) = runner_up else {
-        return unknown;
-    };
-    let x = b.evidence;
-    let y = second.evidence;
-    bars_by(x, y)
-}
-
-// Whether a placement with this evidence passes neither of the bars.
-pub fn stays_behind(bars: Bars, evidence: Evidence) -> bool
-    ensures { λ r. ⌜ r ≡ staysBehind bars evidence ⌝ }
-{
-    match evidence {
-        Evidence::Absent => bars.placed,
-        Evidence::Number(x) => {
-            if bars.best < x {
-                return false;
-            }
-            if bars.second < x {
-                return false;
-            }
-            bars.known
+    match held {
+        Choice::Absent => false,
+        Choice::Placement(h) => {
+            let x = h.evidence;
+            !below(x, evidence)
         }
     }
+}
+
+// Whether ranking a placement with this evidence leaves best and runner-up as they are.
+pub fn changes_nothing(best: Choice, runner_up: Choice, evidence: Evidence) -> bool
+    ensures { λ r. ⌜ r ≡ changesNothing best «runner_up» evidence ⌝ }
+{
+    keeps_place(runner_up, evidence) && keeps_place(best, evidence)
 }
 
 // f32::EPSILON, 2⁻²³

@@ -3,8 +3,10 @@ use Prim.Native.Nat.{ℕ}
 use mathlib.Core.List.{List, [], _∷_}
 use lib.Ieee.{binary32, toBits}
 use Rattle.refusal.specs.declared.Refusal.{Refusal}
-use Rattle.refusal.specs.declared.Refusal.the-variants.{InvalidSize, InvalidCellSize, InvalidMarkerSizeRel, InvalidBorderBits, EmptyDictionary, BoardOutOfRange, NotEnoughDictionaryCodes, CodeOutOfRange}
-use Rattle.refusal.specs.declared.Refusal.the-variants.{SettingsNotFinite, InvalidTable, NoCells, CellsOutOfRange, InvalidSample, ListTooShort, TranslationWindow, Margin, NoMarkers}
+use Rattle.refusal.specs.declared.Refusal.the-variants.{InvalidSize, InvalidCellSize, InvalidMarkerSizeRel, InvalidBorderBits, EmptyDictionary}
+use Rattle.refusal.specs.declared.Refusal.the-variants.{BoardOutOfRange, NotEnoughDictionaryCodes, CodeOutOfRange}
+use Rattle.refusal.specs.declared.Refusal.the-variants.{SettingsNotFinite, InvalidTable, NoCells, CellsOutOfRange, InvalidSample, ListTooShort}
+use Rattle.refusal.specs.declared.Refusal.the-variants.{TranslationWindow, Margin, NoMarkers}
 use Rattle.refusal.specs.declared.Refusal.the-variants.{CornersOutOfRange, TooManyLinks, TooManyCells, InvalidRecord}
 
 -- the question that was answered with no

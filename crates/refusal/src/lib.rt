@@ -1,6 +1,6 @@
 // Every entry's refusals in one enum: the questions of document 01 that can be answered with no.
 // A variant has the Rust's error name where the Rust has one (board.rs, board_match/mod.rs).
-// `specs/Numbers.antt` gives each its number and values. Leans on `floats`.
+// `specs/Numbers.antt` gives each its number and values. Uses `floats`.
 ghost use mathlib.Core.Path.{_≡_};
 ghost use lib.ListN.{getD};
 ghost use Rattle.refusal.specs.Numbers.{numberOf, valuesOf};

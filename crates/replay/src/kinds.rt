@@ -6,6 +6,7 @@ use crate::scores;
 use board::Board;
 use board::NewBoard;
 use grid_alignment::GridAlignment;
+use grid_alignment::alignments;
 use stored_rows::boards;
 use stored_rows::tally;
 use stored_rows::tally::Outcome;
@@ -102,7 +103,7 @@ fn corner_translation(words: [u64; 32]) -> bool {
         tx: u as i32,
         ty: v as i32,
     };
-    let corners = cells.cell_to_corner_alignment();
+    let corners = alignments::cell_to_corner_alignment(cells);
     same_point(corners.tx, corners.ty, words)
 }
 

@@ -1,5 +1,5 @@
 // Asks our library again what the oracle asked the Rust (the file `stdin`), and prints how many answers agree.
-// Leans on `refusal`, `floats`, `matcher`, `grid_alignment`, `board`, `score_matrix` and `stored_rows`, and for a proof on
+// Uses `refusal`, `floats`, `matcher`, `grid_alignment`, `board`, `score_matrix` and `stored_rows`, and for a proof
 // `integers`.
 mod digest;
 mod kinds;

@@ -4,6 +4,7 @@ ghost use Prim.Native.Nat.{_-_, _*_, _≤_};
 ghost use lib.ListN.{length};
 ghost use Rattle.score_matrix.specs.Scores.{side};
 use score_matrix::BoardMatchConfig;
+use score_matrix::BorderSample;
 use score_matrix::cell;
 use score_matrix::table;
 use stored_rows::greys;
@@ -56,6 +57,13 @@ pub fn null_score(words: [u64; 32]) -> bool {
     values::same_float(score_matrix::null_score(bits as u8), words[2])
 }
 
+fn border_of(sampled: bool, fraction: f32) -> BorderSample {
+    if sampled {
+        return BorderSample::BlackFraction(fraction);
+    }
+    BorderSample::Unsampled
+}
+
 pub fn weight(words: [u64; 32]) -> bool {
     let threshold = words[1];
     let sampled = words[2];
@@ -74,12 +82,8 @@ pub fn weight(words: [u64; 32]) -> bool {
         alignment_min_margin: 0.0,
         cell_weight_border_threshold: floats::from_bits(threshold as u32),
     };
-    let weight = score_matrix::cell_weight(
-        config,
-        sampled == 1,
-        floats::from_bits(fraction as u32),
-    );
-    values::same_float(weight, words[4])
+    let border = border_of(sampled == 1, floats::from_bits(fraction as u32));
+    values::same_float(score_matrix::cell_weight(config, border), words[4])
 }
 
 fn grid_size(bits: u8, border: u8) -> usize

@@ -1,5 +1,5 @@
 // Asks our library for the corners and links of the file `stdin`, and prints how many answers agree.
-// Leans on `refusal`, `grid_alignment`, `board`, `corner_mapping`, `link_check` and `stored_rows`.
+// Uses `refusal`, `grid_alignment`, `board`, `corner_mapping`, `link_check` and `stored_rows`.
 mod answers;
 mod corners;
 mod effect;

@@ -1,5 +1,5 @@
 // Asks our library for the matches of the file `stdin`, and prints how many answers agree.
-// Leans on `charuco` and `stored_rows`.
+// Uses `charuco` and `stored_rows`.
 mod effect;
 mod matches;
 mod records;

@@ -1,5 +1,5 @@
 // Kind 3: the match of the record that stands there, with a lent list.
-use charuco::matches::charuco_match_board;
+use charuco::charuco_match_board;
 use stored_rows::lent;
 
 fn same_word(word: u32, w: u64) -> bool {

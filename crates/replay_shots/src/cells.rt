@@ -1,5 +1,7 @@
 // Kind 6: a cell of the record, where it starts, and its grid.
 use shot_record::ReadCell;
+use shot_record::cells;
+use shot_record::fields;
 use stored_rows::digest;
 
 // Is `w` the word of `x`, its 16 bits? The complement of n is −1 − n.
@@ -61,7 +63,7 @@ fn same_start(bytes: &[u8], words: [u64; 32]) -> bool {
     if 255 < k {
         return words[7] == 0;
     }
-    let starts = shot_record::cell_starts(bytes);
+    let starts = cells::starts(bytes, fields::locate(bytes));
     starts[k as usize] as u64 == words[7]
 }
 

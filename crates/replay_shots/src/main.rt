@@ -1,5 +1,5 @@
 // Asks our library about the shot records and the corners of the file `stdin`, and prints how many answers agree.
-// Leans on `refusal`, `floats`, `shot_record`, `marker_sampling` and `stored_rows`, and for the types of a header on `board` and
+// Uses `refusal`, `floats`, `shot_record`, `marker_sampling` and `stored_rows`, and for the types of a header `board` and
 // `score_matrix`.
 mod cells;
 mod effect;

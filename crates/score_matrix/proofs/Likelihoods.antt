@@ -14,10 +14,10 @@ use Rattle.matcher.specs.Codes.{bit, turned}
 use Rattle.matcher.proofs.Bits.{bit-small}
 use Rattle.matcher.proofs.Turns.{bit-turned}
 use Rattle.score_matrix.specs.Scores.{Samples, bitCount, likelihood, term, score}
-use Rattle.score_matrix.specs.Likelihoods.{Holds, picked, Sources, pickedFrom}
+use Rattle.score_matrix.specs.Likelihoods.{HoldsLikelihoods, picked, Sources, pickedFrom}
 
 -- one bit more is written
-module _ (table : List Float) (s : Samples) (k : ℕ) (l : List Float) (zeros ones : Float) (holds : Holds table s k l) (room : 2 * k + 1 < length l)
+module _ (table : List Float) (s : Samples) (k : ℕ) (l : List Float) (zeros ones : Float) (holds : HoldsLikelihoods table s k l) (room : 2 * k + 1 < length l)
     (z : zeros ≡ likelihood table s k 0) (o : ones ≡ likelihood table s k 1) where
   abbrev written : List Float
   written = set (set l (2 * k) zeros) (2 * k + 1) ones
@@ -33,13 +33,14 @@ module _ (table : List Float) (s : Samples) (k : ℕ) (l : List Float) (zeros on
     getD-set-same (set l (2 * k) zeros) (2 * k + 1) ones nan (rw length-set room) ∙ o,
   )
 
-  pub holds-next : Holds table s (k + 1) written
+  pub holds-next : HoldsLikelihoods table s (k + 1) written
   holds-next =
       below-more (λ j. (getD written (2 * j) nan ≡ likelihood table s j 0) × (getD written (2 * j + 1) nan ≡ likelihood table s j 1)) k
       (λ j h. (earlier (2 * j) (omega arith) ∙ holds j h .0, earlier (2 * j + 1) (omega arith) ∙ holds j h .1)) here
 
 -- what is picked is what the score adds
-picked-term : (table : List Float) (s : Samples) (n : ℕ) (l : List Float) (code k : ℕ) → Holds table s n l → k < n → picked l code k ≡ term table s code k
+picked-term : (table : List Float) (s : Samples) (n : ℕ) (l : List Float) (code k : ℕ) → HoldsLikelihoods table s n l → k < n
+    → picked l code k ≡ term table s code k
 picked-term table s n l code k holds h = go (bit code k) (bit-small code k)
   where
     go : (b : ℕ) → b < 2 → getD l (2 * k + b) nan ≡ likelihood table s k b
@@ -47,17 +48,20 @@ picked-term table s n l code k holds h = go (bit code k) (bit-small code k)
     go (suc zero) c = holds k h .1
     go (suc (suc b)) c = absurd (omega arith)
 
-pub picked-score : (table : List Float) (s : Samples) (n : ℕ) (l : List Float) (code : ℕ) → Holds table s n l → sumTo (picked l code) n ≡ sumTo (term table s code) n
+pub picked-score : (table : List Float) (s : Samples) (n : ℕ) (l : List Float) (code : ℕ) → HoldsLikelihoods table s n l
+    → sumTo (picked l code) n ≡ sumTo (term table s code) n
 picked-score table s n l code holds = sum-ext (picked l code) (term table s code) n (λ k h. picked-term table s n l code k holds h)
 
 -- picked in the turned order it is what the score of the turned code adds
-from-term : (table : List Float) (s : Samples) (turn : ℕ) (l : List Float) (sources : List ℕ) (code k : ℕ) → Holds table s (bitCount s) l → Sources (s .bits) turn (bitCount s) sources → k < bitCount s
+from-term : (table : List Float) (s : Samples) (turn : ℕ) (l : List Float) (sources : List ℕ) (code k : ℕ) → HoldsLikelihoods table s (bitCount s) l
+    → Sources (s .bits) turn (bitCount s) sources → k < bitCount s
     → pickedFrom l sources code k ≡ term table s (turned (s .bits) turn code) k
 from-term table s turn l sources code k holds from h =
     ap (λ (b : ℕ). getD l (2 * k + b) nan) (ap (bit code) (from k h) ∙ sym (bit-turned (s .bits) turn code k h))
     ∙ picked-term table s (bitCount s) l (turned (s .bits) turn code) k holds h
 
-pub turned-score : (table : List Float) (s : Samples) (turn : ℕ) (l : List Float) (sources : List ℕ) (code : ℕ) → Holds table s (bitCount s) l → Sources (s .bits) turn (bitCount s) sources
+pub turned-score : (table : List Float) (s : Samples) (turn : ℕ) (l : List Float) (sources : List ℕ) (code : ℕ)
+    → HoldsLikelihoods table s (bitCount s) l → Sources (s .bits) turn (bitCount s) sources
     → sumTo (pickedFrom l sources code) (bitCount s) ≡ score table s (turned (s .bits) turn code)
 turned-score table s turn l sources code holds from =
     sum-ext (pickedFrom l sources code) (term table s (turned (s .bits) turn code)) (bitCount s) (λ k h. from-term table s turn l sources code k holds from h)

@@ -1,6 +1,7 @@
 -- A score and a code read depend on the bytes of the grid, not on where in a record it stands. Assumes nothing.
 use mathlib.Core.Path.{_≡_, ap, ap₂, _∙_}
 use mathlib.Core.List.{List, _++_}
+use mathlib.Core.Bool.{cond}
 use Prim.Native.Nat.{ℕ, zero, suc, _*_, _<_}
 use lib.Dec.{ltb}
 use lib.ListN.{length, take}
@@ -8,7 +9,7 @@ use lib.Seq.{take-append-seam, drop-append-seam}
 use lib.Ieee.{Float}
 use Rattle.floats.specs.Units.{sumTo}
 use Rattle.floats.proofs.Folds.{sum-ext}
-use Rattle.matcher.specs.Codes.{bit, fromBits, pick}
+use Rattle.matcher.specs.Codes.{bit, fromBits}
 use Rattle.matcher.proofs.Bits.{from-ext}
 use Rattle.score_matrix.specs.Table.{entry}
 use Rattle.score_matrix.specs.Scores.{Samples, samples, bitCount, likelihood, term, score, readBit, readCode}
@@ -29,7 +30,8 @@ by-greys s t b h same =
       scores = λ table code.
           sum-ext (term table s code) (term table t code) (bitCount s) (λ k l. likelihoods table k (bit code k) l)
           ∙ ap (λ (n : ℕ). sumTo (term table t code) (n * n)) b;
-      codes = from-ext (readBit s) (readBit t) (bitCount s) (λ k l. ap₂ (λ (g x : ℕ). pick (ltb g x) 1 0) (same k l) h) ∙ ap (λ (n : ℕ). fromBits (readBit t) (n * n)) b;
+      codes = from-ext (readBit s) (readBit t) (bitCount s) (λ k l. ap₂ (λ (g x : ℕ). cond (ltb g x) 1 0) (same k l) h)
+          ∙ ap (λ (n : ℕ). fromBits (readBit t) (n * n)) b;
     }
   where
     likelihoods : (table : List Float) (k b : ℕ) → k < bitCount s → likelihood table s k b ≡ likelihood table t k b

@@ -5,7 +5,7 @@ use native.Mathlib.Nat.{mul-le-mul, mul-le-mul-right, div-add-mod', zero-mod, ze
 use native.Mathlib.Omega.{arith}
 use lib.ListN.{getD}
 use Rattle.matcher.specs.declared.Place.{Place}
-use Rattle.matcher.specs.Codes.{placeOf, indexOf}
+use Rattle.matcher.specs.Codes.{bitPlace, indexOf}
 use Rattle.matcher.proofs.Turns.{Inside, place-inside, place-index}
 use Rattle.score_matrix.specs.Scores.{Samples, side, gridIndex, grey}
 
@@ -18,7 +18,7 @@ pub record Here (bits k : ℕ) (p : Place) : Type 0 where
   pub small : k < 64
   pub inside : Inside bits p
 
-pub here : (bits k : ℕ) (p : Place) → bits ≤ 8 → k < bits * bits → p ≡ placeOf bits k → Here bits k p
+pub here : (bits k : ℕ) (p : Place) → bits ≤ 8 → k < bits * bits → p ≡ bitPlace bits k → Here bits k p
 here bits k p b h e = record { small = omega (arith, area bits b); inside = subst (Inside bits) (sym e) (place-inside bits k h) }
 
 -- a place of a code is in the grid
@@ -28,27 +28,27 @@ index-inside bits border p h =
     omega (arith, mul-le-mul-right (side bits border) l, h .column)
 
 -- what is read there is the grey of that bit
-pub read-grey : (s : Samples) (k i : ℕ) (p : Place) → i ≡ gridIndex (s .bits) (s .border) p → p ≡ placeOf (s .bits) k → getD (s .grid) i 0 ≡ grey s k
+pub read-grey : (s : Samples) (k i : ℕ) (p : Place) → i ≡ gridIndex (s .bits) (s .border) p → p ≡ bitPlace (s .bits) k → getD (s .grid) i 0 ≡ grey s k
 read-grey s k i p a b = ap (λ (j : ℕ). getD (s .grid) j 0) (a ∙ ap (gridIndex (s .bits) (s .border)) b)
 
 -- the first bit
-pub first-place : (bits : ℕ) → record { x = 0; y = 0 } ≡ placeOf bits 0
+pub first-place : (bits : ℕ) → record { x = 0; y = 0 } ≡ bitPlace bits 0
 first-place bits = ap₂ (λ (a b : ℕ). record { x = a; y = b }) (sym (zero-mod bits)) (sym (zero-div bits))
 
 -- the bit after the one at p, row by row
-module _ (bits k : ℕ) (p : Place) (h : p .x < bits) (e : p ≡ placeOf bits k) where
+module _ (bits k : ℕ) (p : Place) (h : p .x < bits) (e : p ≡ bitPlace bits k) where
   after : k + 1 ≡ p .y * bits + (p .x + 1)
   after =
       let rank : k ≡ indexOf bits p = sym (div-add-mod' k bits) ∙ sym (ap (indexOf bits) e) in
       omega (arith, rank)
 
-  next : (q : Place) → q .x < bits → indexOf bits q ≡ p .y * bits + (p .x + 1) → q ≡ placeOf bits (k + 1)
-  next q l f = sym (place-index bits q l) ∙ ap (placeOf bits) (f ∙ sym after)
+  next : (q : Place) → q .x < bits → indexOf bits q ≡ p .y * bits + (p .x + 1) → q ≡ bitPlace bits (k + 1)
+  next q l f = sym (place-index bits q l) ∙ ap (bitPlace bits) (f ∙ sym after)
 
-  pub next-column : p .x + 1 < bits → record { x = p .x + 1; y = p .y } ≡ placeOf bits (k + 1)
+  pub next-column : p .x + 1 < bits → record { x = p .x + 1; y = p .y } ≡ bitPlace bits (k + 1)
   next-column l = next (record { x = p .x + 1; y = p .y }) l (omega arith)
 
-  pub next-row : bits ≤ p .x + 1 → record { x = 0; y = p .y + 1 } ≡ placeOf bits (k + 1)
+  pub next-row : bits ≤ p .x + 1 → record { x = 0; y = p .y + 1 } ≡ bitPlace bits (k + 1)
   next-row l =
       let all : bits ≡ p .x + 1 = omega arith in
       next (record { x = 0; y = p .y + 1 }) (omega arith) (omega (arith, all))

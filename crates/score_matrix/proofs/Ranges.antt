@@ -12,30 +12,34 @@ use lib.Ieee.{Float, nan, binary32, le, lt, eq, div, mul, neg, ofInt, ofBits, fi
 use lib.Ieee.Fits.{and-l, and-r, cond-fits, div-fits, mul-fits}
 use lib.Ieee.Bits.{ofBits-fits}
 use Rattle.integers.proofs.Parts.{minus}
-use Rattle.floats.specs.Units.{value, Finite, nought, one, Between, clamp01}
+use Rattle.floats.specs.Units.{value, Finite, nought, unity, Between, clamp01}
 use Rattle.floats.proofs.Compare.{not-le→lt, finite-not-nan}
 use Rattle.floats.proofs.Ranges.{Nonpositive, nonpositive, between-finite, clamp01-between, div-not-nan}
-use Rattle.score_matrix.specs.Table.{least, ranged, allRanged, patterns, builtIn, EntryRule, BuiltInRule}
+use Rattle.score_matrix.specs.Table.{leastEntry, entryInRange, entriesInRange, patterns, builtIn, EntryRule, BuiltInRule}
 use Rattle.score_matrix.specs.Scores.{ln2, nullScore}
-use Rattle.score_matrix.specs.Accuracy.{Passed, Weight, lowest}
-use Rattle.score_matrix.specs.Weights.{sampledWeight, weight, WeightRule}
+use Rattle.score_matrix.specs.Accuracy.{PassedTable, WeightInRange, lowestScore}
+use Rattle.score_matrix.specs.declared.BoardMatchConfig.{BoardMatchConfig}
+use Rattle.score_matrix.specs.declared.BorderSample.{BorderSample}
+use Rattle.score_matrix.specs.declared.BorderSample.the-variants as border
+use Rattle.score_matrix.specs.Weights.{weight, FractionInRange, WeightRule}
 
 -- ---- table entries: one test of the whole table, carried to each entry
-at : (xs : List Float) → T (allRanged xs) → (i : ℕ) → i < length xs → Between least nought (getD xs i nan)
+at : (xs : List Float) → T (entriesInRange xs) → (i : ℕ) → i < length xs → Between leastEntry nought (getD xs i nan)
 at [] t i h = absurd (not-suc-le-zero h)
-at (x ∷ xs) t zero h = let r = and-l (ranged x) (allRanged xs) t in (and-l (le least x) (le x nought) r, and-r (le least x) (le x nought) r)
-at (x ∷ xs) t (suc i) h = at xs (and-r (ranged x) (allRanged xs) t) i (le-of-suc-le-suc h)
+at (x ∷ xs) t zero h = let r = and-l (entryInRange x) (entriesInRange xs) t in
+    (and-l (le leastEntry x) (le x nought) r, and-r (le leastEntry x) (le x nought) r)
+at (x ∷ xs) t (suc i) h = at xs (and-r (entryInRange x) (entriesInRange xs) t) i (le-of-suc-le-suc h)
 
 pub entry-range : EntryRule
 entry-range table t i h =
-    let e : length table ≡ 511 = eqb→eq (length table) 511 (and-l (eqb (length table) 511) (allRanged table) t) in
-    at table (and-r (eqb (length table) 511) (allRanged table) t) i (rw e h)
+    let e : length table ≡ 511 = eqb→eq (length table) 511 (and-l (eqb (length table) 511) (entriesInRange table) t) in
+    at table (and-r (eqb (length table) 511) (entriesInRange table) t) i (rw e h)
 
 pub built-in-passes : BuiltInRule
 unfolding patterns builtIn ofBits le lt eq
 built-in-passes = tt
 
-pub built-in-passed : Passed builtIn
+pub built-in-passed : PassedTable builtIn
 unfolding builtIn ofBits
 built-in-passed =
     record {
@@ -44,27 +48,31 @@ built-in-passed =
     }
 
 -- ---- a weight
-sampled-range : (threshold fraction : Float) → Finite threshold → Between nought one fraction → Between nought one (sampledWeight threshold fraction)
-sampled-range threshold fraction t₀ h = go (le threshold nought) (not-le→lt threshold nought (finite-not-nan threshold t₀) (finite-not-nan nought tt))
-  where
-    go : (b : Bool) → (T (not b) → T (lt nought threshold)) → Between nought one (cond b one (clamp01 (div binary32 fraction threshold)))
-    go true f = unfold le lt eq in (tt, tt)
-    go false f = clamp01-between (div binary32 fraction threshold) (div-not-nan binary32 fraction threshold (between-finite nought one fraction tt tt h) t₀ (f tt))
-
 pub weight-range : WeightRule
-weight-range threshold true fraction t₀ h = sampled-range threshold fraction t₀ h
-weight-range threshold false fraction t₀ h = unfold le lt eq in (tt, tt)
+weight-range config border.Unsampled t₀ h = unfold le lt eq in (tt, tt)
+weight-range config (border.BlackFraction fraction) t₀ h =
+    go (le threshold nought) (not-le→lt threshold nought (finite-not-nan threshold t₀) (finite-not-nan nought tt))
+  where
+    threshold : Float
+    threshold = config .«cell_weight_border_threshold»
 
-weight-fits : (threshold : Float) (sampled : Bool) (fraction : Float) → T (fits binary32 (weight threshold sampled fraction))
+    go : (b : Bool) → (T (not b) → T (lt nought threshold)) → Between nought unity (cond b unity (clamp01 (div binary32 fraction threshold)))
+    go true f = unfold le lt eq in (tt, tt)
+    go false f = clamp01-between (div binary32 fraction threshold)
+        (div-not-nan binary32 fraction threshold (between-finite nought unity fraction tt tt h) t₀ (f tt))
+
+weight-fits : (config : BoardMatchConfig) (b : BorderSample) → T (fits binary32 (weight config b))
 unfolding fits
-weight-fits threshold false fraction = tt
-weight-fits threshold true fraction =
+weight-fits config border.Unsampled = tt
+weight-fits config (border.BlackFraction fraction) =
+    let threshold = config .«cell_weight_border_threshold» in
     let q = div binary32 fraction threshold in
-    cond-fits binary32 (le threshold nought) one (clamp01 q) tt
-    (cond-fits binary32 (lt q nought) nought (cond (lt one q) one q) tt (cond-fits binary32 (lt one q) one q tt (div-fits binary32 fraction threshold)))
+    cond-fits binary32 (le threshold nought) unity (clamp01 q) tt
+    (cond-fits binary32 (lt q nought) nought (cond (lt unity q) unity q) tt (cond-fits binary32 (lt unity q) unity q tt (div-fits binary32 fraction threshold)))
 
-pub is-weight : (threshold : Float) (sampled : Bool) (fraction : Float) → Finite threshold → Between nought one fraction → Weight (weight threshold sampled fraction)
-is-weight threshold sampled fraction t₀ h = record { float = weight-fits threshold sampled fraction; range = weight-range threshold sampled fraction t₀ h }
+pub is-weight : (config : BoardMatchConfig) (b : BorderSample) → Finite (config .«cell_weight_border_threshold») → FractionInRange b
+    → WeightInRange (weight config b)
+is-weight config b t₀ h = record { float = weight-fits config b; range = weight-range config b t₀ h }
 
 -- ---- the null score: one test of the sides from 0 to 8
 unfoldable all : (ℕ → Bool) → ℕ → Bool
@@ -74,15 +82,17 @@ all f (suc n) = f n && all f n
 all-at : (f : ℕ → Bool) (n : ℕ) → T (all f n) → (k : ℕ) → k < n → T (f k)
 unfolding all
 all-at f zero t k h = absurd (not-suc-le-zero h)
-all-at f (suc n) t k h = elim (eq-or-lt-of-le (le-of-suc-le-suc h)) [ inl e ↦ rw e (and-l (f n) (all f n) t) | inr l ↦ all-at f n (and-r (f n) (all f n) t) k l ]
+all-at f (suc n) t k h = elim (eq-or-lt-of-le (le-of-suc-le-suc h))
+    [ inl e ↦ rw e (and-l (f n) (all f n) t) | inr l ↦ all-at f n (and-r (f n) (all f n) t) k l ]
 
 unfoldable null-ranged : ℕ → Bool
-null-ranged bits = le lowest (nullScore bits) && le (nullScore bits) nought
+null-ranged bits = le lowestScore (nullScore bits) && le (nullScore bits) nought
 
 pub null-range : (bits : ℕ) → bits ≤ 8 → Nonpositive binary32 (2 ^ 158) (nullScore bits)
 unfolding value minus fits null-ranged
 null-range bits h =
     let t = all-at null-ranged 9 (unfold all mul neg ofInt ofBits le lt eq in tt) bits (suc-le-suc h) in
-    let low = le lowest (nullScore bits) in
+    let low = le lowestScore (nullScore bits) in
     let high = le (nullScore bits) nought in
-    nonpositive binary32 lowest (nullScore bits) tt tt (mul-fits binary32 (ofInt binary32 (pos (bits * bits))) (neg ln2)) (and-l low high t, and-r low high t)
+    nonpositive binary32 lowestScore (nullScore bits) tt tt (mul-fits binary32 (ofInt binary32 (pos (bits * bits))) (neg ln2))
+    (and-l low high t, and-r low high t)

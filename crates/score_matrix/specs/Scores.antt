@@ -1,5 +1,6 @@
 -- Document 01, Scores: the score of a cell, the null score and evidence; and the code that is read from a cell (Emission).
 use Prim.Native.Nat.{ℕ, zero, suc, _+_, _*_}
+use mathlib.Core.Bool.{cond}
 use mathlib.Core.List.{List}
 use lib.Dec.{ltb}
 use lib.ListN.{getD}
@@ -7,7 +8,7 @@ use lib.IntN.{pos}
 use lib.Ieee.{Float, binary32, ofBits, ofInt, neg, mul, sub}
 use Rattle.floats.specs.Units.{sumTo}
 use Rattle.matcher.specs.declared.Place.{Place}
-use Rattle.matcher.specs.Codes.{bit, fromBits, pick, placeOf}
+use Rattle.matcher.specs.Codes.{bit, fromBits, bitPlace}
 use Rattle.score_matrix.specs.Table.{entry}
 
 -- What is sampled of a cell: the side of its code, the border around it, the threshold and the grey bytes row by row.
@@ -33,7 +34,7 @@ gridIndex bits border p = (border + p .y) * side bits border + (border + p .x)
 
 -- the grey at bit k of a code: in column border + k mod bits and row border + k / bits
 abbrev pub grey : Samples → ℕ → ℕ
-grey s k = getD (s .grid) (gridIndex (s .bits) (s .border) (placeOf (s .bits) k)) 0
+grey s k = getD (s .grid) (gridIndex (s .bits) (s .border) (bitPlace (s .bits) k)) 0
 
 -- What bit k of a code adds to the score, with d = threshold − grey: entry −d where it is 0, entry d where it is 1.
 abbrev pub likelihood : List Float → Samples → ℕ → ℕ → Float
@@ -61,7 +62,7 @@ evidence table s code = sub binary32 (score table s code) (nullScore (s .bits))
 
 -- the code read from a cell: a bit is set where grey < threshold
 abbrev pub readBit : Samples → ℕ → ℕ
-readBit s k = pick (ltb (grey s k) (s .threshold)) 1 0
+readBit s k = cond (ltb (grey s k) (s .threshold)) 1 0
 
 abbrev pub readCode : Samples → ℕ
 readCode s = fromBits (readBit s) (bitCount s)

@@ -13,19 +13,19 @@ abbrev pub entry : List Float → ℕ → ℕ → Float
 entry table a b = getD table (a + 255 - b) nan
 
 -- from −8 to 0
-abbrev pub least : Float
-least = fin true 1 (pos 3)
+abbrev pub leastEntry : Float
+leastEntry = fin true 1 (pos 3)
 
-abbrev pub ranged : Float → Bool
-ranged x = le least x && le x nought
+abbrev pub entryInRange : Float → Bool
+entryInRange x = le leastEntry x && le x nought
 
-abbrev pub allRanged : List Float → Bool
-allRanged [] = true
-allRanged (x ∷ xs) = ranged x && allRanged xs
+abbrev pub entriesInRange : List Float → Bool
+entriesInRange [] = true
+entriesInRange (x ∷ xs) = entryInRange x && entriesInRange xs
 
 -- Question 10: Has the table 511 entries, each from −8 to 0?
 abbrev pub isTable : List Float → Bool
-isTable table = eqb (length table) 511 && allRanged table
+isTable table = eqb (length table) 511 && entriesInRange table
 
 -- The table for slope 36 and floor −6, by its bits: −6 up to d = −43, −0.0 from d = 118 on.
 unfoldable pub patterns : List ℕ
@@ -58,7 +58,7 @@ builtIn = map (ofBits binary32) patterns
 
 -- each entry of a table that passes question 10 lies from −8 to 0, and the built-in table passes
 abbrev pub EntryRule : Type 0
-EntryRule = (table : List Float) → T (isTable table) → (i : ℕ) → i < 511 → Between least nought (getD table i nan)
+EntryRule = (table : List Float) → T (isTable table) → (i : ℕ) → i < 511 → Between leastEntry nought (getD table i nan)
 
 abbrev pub BuiltInRule : Type 0
 BuiltInRule = T (isTable builtIn)

@@ -1,11 +1,12 @@
 // The score of one cell, and the code read from it. A grid is the cell's part of the caller's record.
 ghost use mathlib.Core.Path.{_≡_};
+ghost use mathlib.Core.Bool.{cond};
 ghost use Prim.Native.Nat.{ℕ, _+_, _*_, _<_, _≤_};
 ghost use lib.Dec.{ltb};
 ghost use Rattle.floats.specs.Units.{sumTo};
-ghost use Rattle.matcher.specs.Codes.{pick, placeOf};
+ghost use Rattle.matcher.specs.Codes.{bitPlace};
 ghost use Rattle.score_matrix.specs.Scores.{samples, side, gridIndex, score as scoreOf, readCode};
-ghost use Rattle.score_matrix.specs.Likelihoods.{Holds, picked};
+ghost use Rattle.score_matrix.specs.Likelihoods.{HoldsLikelihoods, picked};
 use super::table;
 use matcher::Place;
 
@@ -20,7 +21,7 @@ fn grid_index(bits: u64, border: u64, p: Place) -> usize
 // The place of the bit after the one at `p`, row by row.
 pub fn next_place(bits: u64, p: Place) -> Place
     requires { ⌜ (bits ≤ 8) × (p .x < bits) × (p .y < bits) ⌝ }
-    ensures { λ r. ⌜ ((k : ℕ) → p ≡ placeOf bits k → r ≡ placeOf bits (k + 1)) ⌝ }
+    ensures { λ r. ⌜ ((k : ℕ) → p ≡ bitPlace bits k → r ≡ bitPlace bits (k + 1)) ⌝ }
 {
     if p.x + 1 < bits {
         return Place { x: p.x + 1, y: p.y };
@@ -38,7 +39,7 @@ pub fn bit_likelihoods(
 ) -> [f32; 128]
     requires { ⌜ bits ≤ 8 ⌝ }
     requires { do ⌜ (← ⟦grid.len()⟧) ≡ side bits border * side bits border ⌝ }
-    ensures { λ r. ⌜ Holds (now (table .entry)) (samples bits border threshold (now (grid .entry))) (bits * bits) r ⌝ }
+    ensures { λ r. ⌜ HoldsLikelihoods (now (table .entry)) (samples bits border threshold (now (grid .entry))) (bits * bits) r ⌝ }
 {
     let n = bits as u64;
     let rim = border as u64;
@@ -84,7 +85,7 @@ pub fn score(table: &[f32; 511], grid: &[u8], threshold: u8, bits: u8, border: u
 }
 
 fn below(grey: u8, threshold: u8) -> u64
-    ensures { λ r. ⌜ r ≡ pick (ltb grey threshold) 1 0 ⌝ }
+    ensures { λ r. ⌜ r ≡ cond (ltb grey threshold) 1 0 ⌝ }
 {
     if grey < threshold {
         return 1;

@@ -1,5 +1,5 @@
-// The score of one cell (score_matrix.rs, bit_likelihood.rs; `read_code` of emit.rs). Leans on `floats` and `matcher`,
-// and for its laws on `integers`.
+// The score of one cell (score_matrix.rs, bit_likelihood.rs; `read_code` of emit.rs). Uses `floats` and `matcher`;
+// its laws use `integers`.
 ghost use mathlib.Core.Path.{_≡_};
 ghost use lib.Ieee.{binary32, sub};
 ghost use Rattle.score_matrix.specs.Scores.{nullScore};
@@ -17,18 +17,27 @@ pub struct BoardMatchConfig {
     pub cell_weight_border_threshold: f32,
 }
 
-// How much a cell counts, by the fraction of its border that is black. An unsampled cell does not count.
-pub fn cell_weight(config: BoardMatchConfig, sampled: bool, border_black_fraction: f32) -> f32
-    ensures { λ r. ⌜ r ≡ weight (config .«cell_weight_border_threshold») sampled «border_black_fraction» ⌝ }
+// The border of a cell: the fraction of it that is black, which a sampled cell alone has.
+pub enum BorderSample {
+    BlackFraction(f32),
+    Unsampled,
+}
+
+// How much a cell counts. An unsampled cell does not count.
+pub fn cell_weight(config: BoardMatchConfig, border: BorderSample) -> f32
+    ensures { λ r. ⌜ r ≡ weight config border ⌝ }
 {
-    if !sampled {
-        return 0.0;
+    match border {
+        BorderSample::Unsampled => 0.0,
+        BorderSample::BlackFraction(fraction) => {
+            let threshold = config.cell_weight_border_threshold;
+            if threshold <= 0.0 {
+                1.0
+            } else {
+                floats::clamp01(fraction / threshold)
+            }
+        }
     }
-    let threshold = config.cell_weight_border_threshold;
-    if threshold <= 0.0 {
-        return 1.0;
-    }
-    floats::clamp01(border_black_fraction / threshold)
 }
 
 const LN_2: f32 = 0.6931472;
@@ -41,7 +50,7 @@ pub fn null_score(bits: u8) -> f32
     (n * n) as f32 * -LN_2
 }
 
-// How much a score speaks for a marker: above 0 where the cell favours it over chance.
+// How much a score favours a marker: above 0 where it is above the chance score.
 pub fn evidence(score: f32, bits: u8) -> f32
     ensures { λ r. ⌜ r ≡ sub binary32 score (nullScore bits) ⌝ }
 {

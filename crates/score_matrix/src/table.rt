@@ -1,6 +1,6 @@
 // The likelihood table (bit_likelihood.rs): the one that is built in, and the test of a lent one.
 ghost use mathlib.Core.Path.{_≡_};
-ghost use Rattle.score_matrix.specs.Table.{entry as entryOf, ranged as rangedOf, isTable, builtIn};
+ghost use Rattle.score_matrix.specs.Table.{entry as entryOf, entryInRange as rangedOf, isTable, builtIn};
 use super::built_in::LIKELIHOODS;
 
 pub fn built_in_table() -> [f32; 511]

@@ -1,6 +1,6 @@
 // The scores of turned codes, from what the bits of a cell add. No code is turned: its bits are picked in the order of the turned one.
 ghost use mathlib.Core.Path.{_≡_};
-ghost use Prim.Native.Nat.{ℕ, _+_, _*_, _%_, _<_, _≤_};
+ghost use Prim.Native.Nat.{ℕ, _+_, _*_, _<_, _≤_};
 ghost use lib.ListN.{getD};
 ghost use Rattle.matcher.specs.Codes.{bit, indexOf, source};
 ghost use lib.Ieee.{nan};
@@ -11,7 +11,7 @@ use matcher::Place;
 
 fn source_bit(n: u64, turn: u8, p: Place) -> u8
     requires { ⌜ (n ≤ 8) × (p .x < n) × (p .y < n) ⌝ }
-    ensures { λ r. ⌜ r ≡ indexOf n (source n (turn % 4) p) ⌝ }
+    ensures { λ r. ⌜ r ≡ indexOf n (source n turn p) ⌝ }
 {
     let q = matcher::source_place(n, turn, p);
     (q.y * n + q.x) as u8
@@ -65,7 +65,7 @@ pub struct Four {
     pub d: f32,
 }
 
-// The scores of four codes: no sum waits for another.
+// The scores of four codes. No sum depends on another, so that they are added at the same time.
 pub fn sum_four(
     likelihoods: &[f32; 128],
     sources: &[u8; 64],

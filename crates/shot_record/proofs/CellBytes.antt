@@ -13,21 +13,21 @@ use mir.Val.{SFits, ofZ, toZ}
 use mir.ValLaws.{ofZ-fits, toZ-ofZ, toZ-fits, ofZ-toZ}
 use Rattle.shot_record.specs.Fields.{number, cellLength, bitsOf, borderOf, gridSize, sampled, cellAt}
 use Rattle.shot_record.specs.Shots.{Sample, Cell, list, sampleAt, cellFrom, cellOf}
-use Rattle.shot_record.specs.Writing.{le, each, isSampled, sampleBytes, cellBytes, All, Bytes, IfSampled, FitCell}
+use Rattle.shot_record.specs.Writing.{littleEndian, each, isSampled, sampleBytes, cellBytes, All, Bytes, IfSampled, FitCell}
 use Rattle.shot_record.proofs.Reading.{Small, number-below, starts-rise}
 use Rattle.shot_record.proofs.LittleEndian.{byte-below}
 use Rattle.shot_record.proofs.Runs.{Runs, Read, after, back, byte-is, byte-written, number-read, number-written}
 use Rattle.shot_record.proofs.Sequences.{Each, list-all, list-read, list-written, all-take, all-drop}
 
 -- ---- a coordinate
-coordinate-read : {bytes rest : List ℕ} {at : ℕ} (to : ℕ) (z : ℤ) → SFits w16 z → to ≡ at + 2 → Runs bytes at (le 2 (ofZ w16 z) ++ rest)
+coordinate-read : {bytes rest : List ℕ} {at : ℕ} (to : ℕ) (z : ℤ) → SFits w16 z → to ≡ at + 2 → Runs bytes at (littleEndian 2 (ofZ w16 z) ++ rest)
     → Read (toZ w16 (number 2 at bytes)) z bytes to rest
 coordinate-read to z f e r =
     let n = number-read 2 to (ofZ w16 z) (ofZ-fits w16 z f .fits) e r in
     record { value = ap (toZ w16) (n .value) ∙ toZ-ofZ w16 z f; next = n .next }
 
 coordinate-written : {bytes rest : List ℕ} {to : ℕ} → Small bytes → (at : ℕ) → to ≡ at + 2 → Runs bytes to rest
-    → Runs bytes at (le 2 (ofZ w16 (toZ w16 (number 2 at bytes))) ++ rest)
+    → Runs bytes at (littleEndian 2 (ofZ w16 (toZ w16 (number 2 at bytes))) ++ rest)
 coordinate-written {bytes} s at e r =
     rw (ofZ-toZ w16 (number 2 at bytes) (record { fits = number-below bytes s 2 at })) (number-written s 2 at e r)
 
@@ -36,7 +36,8 @@ sample-read : {bytes rest : List ℕ} (grid at : ℕ) (o : Option Sample) → If
     → Read (sampleAt (isSampled o) grid at bytes) o bytes (at + cellLength (isSampled o) grid) rest
 sample-read grid at none f r = record { value = refl; next = r }
 sample-read {bytes} {rest} grid at (some s) f r =
-    let fraction = number-read 4 (at + 8) (s .fraction) (f .fraction) (omega arith) (rw (append-assoc (le 4 (s .fraction)) (s .threshold ∷ s .grid) rest) at r) in
+    let fraction = number-read 4 (at + 8) (s .fraction) (f .fraction) (omega arith)
+    (rw (append-assoc (littleEndian 4 (s .fraction)) (s .threshold ∷ s .grid) rest) at r) in
     let greys = after (s .threshold ∷ []) (at + 9) (fraction .next) (omega arith) in
     let threshold = byte-is (at + 8) 0 (omega arith) (fraction .next) in
     let cut = ap (take grid) (greys .holds) ∙ take-at (s .grid) rest grid (f .size) in
@@ -94,7 +95,8 @@ pub cells-read : {bytes rest : List ℕ} (cells : List Cell)
     → Read (list (cellOf bytes) (length cells)) cells bytes (cellAt bytes (length cells)) rest
 unfolding cellAt
 cells-read {bytes} cells =
-    list-read bytes cellBytes (λ (k : ℕ) (c : Cell). FitCell (sizeOfGrid bytes) c × (sampled bytes k ≡ isSampled (c .sample))) (cellOf bytes) (cellAt bytes) cells
+    list-read bytes cellBytes (λ (k : ℕ) (c : Cell). FitCell (sizeOfGrid bytes) c × (sampled bytes k ≡ isSampled (c .sample))) (cellOf bytes)
+    (cellAt bytes) cells
     (λ k c other q r. cell-read (sampled bytes k) (sizeOfGrid bytes) (cellAt bytes k) c (q .0) (q .1) r)
 
 pub cells-written : {bytes rest : List ℕ} → Small bytes → (n : ℕ) → Runs bytes (cellAt bytes n) rest

@@ -61,5 +61,6 @@ pub map-of-read : (bytes : List ℕ) → cellMap bytes < 2 ^ cellCount bytes
     → fromBits (marks (list (cellOf bytes) (cellCount bytes))) (cellCount bytes) ≡ cellMap bytes
 map-of-read bytes h =
     let n = cellCount bytes in
-    from-ext (marks (list (cellOf bytes) n)) (sampled bytes) n (λ k l. marks-of-list (cellOf bytes) n k l ∙ sampled-at (sampled bytes k) _ _ bytes (bit-small (cellMap bytes) k))
+    from-ext (marks (list (cellOf bytes) n)) (sampled bytes) n (λ k l. marks-of-list (cellOf bytes) n k l
+    ∙ sampled-at (sampled bytes k) _ _ bytes (bit-small (cellMap bytes) k))
     ∙ from-bits (cellMap bytes) n ∙ mod-eq-of-lt h

@@ -28,7 +28,8 @@ with-grid (suc b) grid at bytes h = refl
 pub without-part : (b grid at : ℕ) (bytes : List ℕ) → b ≡ 0 → _≡_ {A = Part} (record { first = 0; end = 0 }) (partWith at grid (sampleAt b grid at bytes))
 without-part b grid at bytes e = rw e refl
 
-pub with-part : (b grid at : ℕ) (bytes : List ℕ) → (b ≡ 0 → ⊥) → _≡_ {A = Part} (record { first = at + 9; end = at + 9 + grid }) (partWith at grid (sampleAt b grid at bytes))
+pub with-part : (b grid at : ℕ) (bytes : List ℕ) → (b ≡ 0 → ⊥)
+    → _≡_ {A = Part} (record { first = at + 9; end = at + 9 + grid }) (partWith at grid (sampleAt b grid at bytes))
 with-part zero grid at bytes h = absurd (h refl)
 with-part (suc b) grid at bytes h = refl
 

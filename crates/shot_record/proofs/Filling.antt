@@ -25,7 +25,8 @@ module _ {A : Type 0} (f : ℕ → A) (d : A) where
 
   pub all-filled : (xs : List A) (n k : ℕ) → Filled f d xs n k → k ≡ n → xs ≡ list f n
   all-filled xs n k l e =
-      ext-getD d xs (list f n) (l .size ∙ sym (length-list f n)) (λ i h. l .before i (omega (arith, h, l .size)) ∙ sym (getD-list f n i d (omega (arith, h, l .size))))
+      ext-getD d xs (list f n) (l .size ∙ sym (length-list f n)) (λ i h. l .before i (omega (arith, h, l .size))
+      ∙ sym (getD-list f n i d (omega (arith, h, l .size))))
 
 pub map-list : {A B : Type 0} (g : A → B) (f : ℕ → A) (n : ℕ) → map g (list f n) ≡ list (λ (k : ℕ). g (f k)) n
 unfolding list

@@ -1,7 +1,7 @@
 -- Parsing and writing a record undo each other. Assumes nothing.
 use mathlib.Core.Path.{sym, ap, _∙_, subst}
 use Prim.Native.Nat.{ℕ}
-use Rattle.shot_record.specs.Writing.{bytesOf, Written, ReadBack, WrittenBack, OneToOne}
+use Rattle.shot_record.specs.Writing.{bytesOf, WrittenShot, ReadBack, WrittenBack, OneToOne}
 use Rattle.shot_record.proofs.Whole.{parsed}
 use Rattle.shot_record.proofs.ReadBack.{written, written-parses}
 use Rattle.shot_record.proofs.WrittenBack.{whole-written}
@@ -10,7 +10,7 @@ pub read-back : ReadBack
 read-back m s f = written-parses (bytesOf m s) s (written m s f)
 
 pub written-back : WrittenBack
-written-back bytes b s e = let p = parsed bytes s e in subst (Written bytes) (p .1) (whole-written bytes b (p .0))
+written-back bytes b s e = let p = parsed bytes s e in subst (WrittenShot bytes) (p .1) (whole-written bytes b (p .0))
 
 pub one-to-one : OneToOne
 one-to-one a b below-a below-b s p q e =

@@ -5,9 +5,8 @@ use native.Mathlib.Nat.{le-of-suc-le-suc}
 use native.Mathlib.Omega.{arith}
 use mathlib.Core.List.{List, [], _∷_}
 use mathlib.Core.Option.{none, some}
-use lib.ListN.{length, getD}
+use lib.ListN.{length, getD, getElem?}
 use Rattle.shot_record.specs.Shots.{list}
-use Rattle.lent_list.specs.Places.{nth}
 
 module _ {A : Type 0} where
   pub length-list : (f : ℕ → A) (n : ℕ) → length (list f n) ≡ n
@@ -21,24 +20,22 @@ module _ {A : Type 0} where
   getD-list f (suc n) zero d h = refl
   getD-list f (suc n) (suc k) d h = getD-list (λ (k : ℕ). f (suc k)) n k d (le-of-suc-le-suc h)
 
-  pub nth-inside : (xs : List A) (k : ℕ) (d : A) → k < length xs → nth xs k ≡ some (getD xs k d)
-  unfolding nth
-  nth-inside [] k d h = absurd (omega arith)
-  nth-inside (x ∷ xs) zero d h = refl
-  nth-inside (x ∷ xs) (suc k) d h = nth-inside xs k d (le-of-suc-le-suc h)
+  pub getElem?-inside : (xs : List A) (k : ℕ) (d : A) → k < length xs → getElem? xs k ≡ some (getD xs k d)
+  getElem?-inside [] k d h = absurd (omega arith)
+  getElem?-inside (x ∷ xs) zero d h = refl
+  getElem?-inside (x ∷ xs) (suc k) d h = getElem?-inside xs k d (le-of-suc-le-suc h)
 
-  pub nth-past : (xs : List A) (k : ℕ) → length xs ≤ k → nth xs k ≡ none
-  unfolding nth
-  nth-past [] k h = refl
-  nth-past (x ∷ xs) zero h = absurd (omega arith)
-  nth-past (x ∷ xs) (suc k) h = nth-past xs k (le-of-suc-le-suc h)
+  pub getElem?-past : (xs : List A) (k : ℕ) → length xs ≤ k → getElem? xs k ≡ none
+  getElem?-past [] k h = refl
+  getElem?-past (x ∷ xs) zero h = absurd (omega arith)
+  getElem?-past (x ∷ xs) (suc k) h = getElem?-past xs k (le-of-suc-le-suc h)
 
   -- the same for a list of f 0 to f (n − 1)
-  pub nth-list : (f : ℕ → A) (n k : ℕ) → k < n → nth (list f n) k ≡ some (f k)
-  unfolding nth list
-  nth-list f zero k h = absurd (omega arith)
-  nth-list f (suc n) zero h = refl
-  nth-list f (suc n) (suc k) h = nth-list (λ (k : ℕ). f (suc k)) n k (le-of-suc-le-suc h)
+  pub getElem?-list : (f : ℕ → A) (n k : ℕ) → k < n → getElem? (list f n) k ≡ some (f k)
+  unfolding list
+  getElem?-list f zero k h = absurd (omega arith)
+  getElem?-list f (suc n) zero h = refl
+  getElem?-list f (suc n) (suc k) h = getElem?-list (λ (k : ℕ). f (suc k)) n k (le-of-suc-le-suc h)
 
-  pub nth-list-past : (f : ℕ → A) (n k : ℕ) → n ≤ k → nth (list f n) k ≡ none
-  nth-list-past f n k h = nth-past (list f n) k (rw (length-list f n) h)
+  pub getElem?-list-past : (f : ℕ → A) (n k : ℕ) → n ≤ k → getElem? (list f n) k ≡ none
+  getElem?-list-past f n k h = getElem?-past (list f n) k (rw (length-list f n) h)

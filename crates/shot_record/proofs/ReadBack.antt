@@ -8,18 +8,20 @@ use lib.ListN.{length}
 use Rattle.matcher.specs.Codes.{bit, fromBits}
 use Rattle.matcher.proofs.Bits.{bit-small}
 use Rattle.score_matrix.specs.Table.{patterns}
-use Rattle.shot_record.specs.Fields.{byte, number, mapByte, marginAt, thresholdAt, pxAt, tableAt, rowsAt, bitsOf, borderOf, codeCount, codesAt, cellCountAt, cellCount, cellMapAt, cellMap, mapSize, sampled, gridSize, cellsAt, cellAt}
+use Rattle.shot_record.specs.Fields.{byte, number, mapByte, marginAt, thresholdAt, pxAt, tableAt, rowsAt, bitsOf, borderOf, codeCount, codesAt}
+use Rattle.shot_record.specs.Fields.{cellCountAt, cellCount, cellMapAt, cellMap, mapSize, sampled, gridSize, cellsAt, cellAt}
 use Rattle.shot_record.specs.Shots.{Cell, Shot, list, numbers, setting, defaultMargin, defaultThreshold, defaultPx, cellOf, shot, parse}
-use Rattle.shot_record.specs.Writing.{le, ifSet, each, marks, bytesOf, isSampled, FitCell, Default, Fit, Written}
+use Rattle.shot_record.specs.Writing.{littleEndian, ifSet, each, marks, bytesOf, isSampled, FitCell, Default, Fit, WrittenShot}
 use Rattle.shot_record.proofs.Whole.{Whole, parse-whole}
 use Rattle.shot_record.proofs.LittleEndian.{le-length}
 use Rattle.shot_record.proofs.Runs.{Runs, Read, after, ends, byte-is, number-read, setting-read}
 use Rattle.shot_record.proofs.Sequences.{Each, numbers-read, each-length}
 use Rattle.shot_record.proofs.CellMaps.{map-below, map-small, map-marks}
 use Rattle.shot_record.proofs.CellBytes.{cells-read}
-use Rattle.shot_record.proofs.Parts.{fromCells, fromCellMap, fromCellCount, fromCodes, fromCodeCount, fromMarkerSize, fromRows, fromTable, fromPx, fromThreshold, fromMargin, bytes-parts}
+use Rattle.shot_record.proofs.Parts.{fromCells, fromCellMap, fromCellCount, fromCodes, fromCodeCount, fromMarkerSize, fromRows, fromTable, fromPx}
+use Rattle.shot_record.proofs.Parts.{fromThreshold, fromMargin, bytes-parts}
 
-module _ (bytes : List ℕ) (s : Shot) (w : Written bytes s) where
+module _ (bytes : List ℕ) (s : Shot) (w : WrittenShot bytes s) where
   abbrev fit : Fit (mapByte bytes) s
   fit = w .fits
 
@@ -28,10 +30,11 @@ module _ (bytes : List ℕ) (s : Shot) (w : Written bytes s) where
 
   -- ---- the settings
   float-read : {rest : List ℕ} {at : ℕ} (k x default : ℕ) → x < 2 ^ 32 → Default (bit m k) x default
-      → Runs bytes at (ifSet (bit m k) (le 4 x) ++ rest)
+      → Runs bytes at (ifSet (bit m k) (littleEndian 4 x) ++ rest)
       → Read (setting (bit m k) (number 4 at bytes) default) x bytes (at + 4 * bit m k) rest
   float-read {rest} {at} k x default h d =
-      setting-read (bit m k) 4 (le 4 x) (number 4 at bytes) default x (bit-small m k) (le-length 4 x) d (λ r. number-read 4 (at + 4) x h refl r .value)
+      setting-read (bit m k) 4 (littleEndian 4 x) (number 4 at bytes) default x (bit-small m k) (le-length 4 x) d
+      (λ r. number-read 4 (at + 4) x h refl r .value)
 
   start : Runs bytes 0 (m ∷ fromMargin m s)
   start = record { inside = omega arith; holds = w .same ∙ bytes-parts m s }
@@ -51,7 +54,7 @@ module _ (bytes : List ℕ) (s : Shot) (w : Written bytes s) where
   table : Read (setting (bit m 3) (numbers 4 511 (tableAt bytes) bytes) patterns) (s .table) bytes (rowsAt bytes) (fromRows s)
   unfolding rowsAt
   table =
-      setting-read (bit m 3) 2044 (each (le 4) (s .table)) (numbers 4 511 (tableAt bytes) bytes) patterns (s .table) (bit-small m 3)
+      setting-read (bit m 3) 2044 (each (littleEndian 4) (s .table)) (numbers 4 511 (tableAt bytes) bytes) patterns (s .table) (bit-small m 3)
       (each-length 4 (s .table) ∙ ap (λ (n : ℕ). 4 * n) (fit .table-size)) (fit .table-default)
       (λ r. ap (λ (n : ℕ). numbers 4 n (tableAt bytes) bytes) (sym (fit .table-size)) ∙ numbers-read 4 (s .table) (fit .table) r .value) (px .next)
 
@@ -94,7 +97,8 @@ module _ (bytes : List ℕ) (s : Shot) (w : Written bytes s) where
   unfolding cellMap
   cell-map =
       let n = length (s .cells) in
-      subst (λ (k : ℕ). Read (number (mapSize k) (cellMapAt bytes) bytes) (fromBits (marks (s .cells)) n) bytes (cellMapAt bytes + mapSize k) (fromCells s)) (sym (cell-count .value))
+      subst (λ (k : ℕ). Read (number (mapSize k) (cellMapAt bytes) bytes) (fromBits (marks (s .cells)) n) bytes (cellMapAt bytes + mapSize k)
+      (fromCells s)) (sym (cell-count .value))
       (number-read (mapSize n) (cellMapAt bytes + mapSize n) (fromBits (marks (s .cells)) n) (map-below (s .cells)) refl (cell-count .next))
 
   marked : Each (λ (k : ℕ) (c : Cell). FitCell (gridSize (bitsOf bytes) (borderOf bytes)) c × (sampled bytes k ≡ isSampled (c .sample))) (s .cells)
@@ -140,7 +144,7 @@ module _ (bytes : List ℕ) (s : Shot) (w : Written bytes s) where
 mapByte-of : (m : ℕ) (s : Shot) → mapByte (bytesOf m s) ≡ m
 mapByte-of m s = ap mapByte (bytes-parts m s)
 
-pub written : (m : ℕ) (s : Shot) → Fit m s → Written (bytesOf m s) s
+pub written : (m : ℕ) (s : Shot) → Fit m s → WrittenShot (bytesOf m s) s
 written m s f =
     record {
       fits = subst (λ (n : ℕ). Fit n s) (sym (mapByte-of m s)) f;

@@ -16,7 +16,8 @@ use Rattle.matcher.proofs.Bits.{bit-small, bit-under}
 use Rattle.shot_record.specs.declared.fields.Fields.{Fields}
 use Rattle.shot_record.specs.Shots.{setting, shot}
 use Rattle.shot_record.proofs.Lists.{length-list}
-use Rattle.shot_record.specs.Fields.{fieldsOf, byte, number, mapByte, thresholdAt, pxAt, tableAt, rowsAt, bitsOf, borderOf, codeCount, cellCountAt, cellCount, cellMapAt, cellMap, sampled, mapSize, gridSize, cellLength, cellsAt, cellAt}
+use Rattle.shot_record.specs.Fields.{fieldsOf, byte, number, mapByte, thresholdAt, pxAt, tableAt, rowsAt, bitsOf, borderOf, codeCount, cellCountAt}
+use Rattle.shot_record.specs.Fields.{cellCount, cellMapAt, cellMap, sampled, mapSize, gridSize, cellLength, cellsAt, cellAt}
 
 -- the fields that were found, one by one
 pub record Found (f : Fields) (bytes : List ℕ) : Type 0 where
@@ -112,16 +113,20 @@ module _ (bytes : List ℕ) (s : Small bytes) where
           let same : k % 8 ≡ k = omega arith in
           ap (λ (x : ℕ). bit x k) order ∙ bit-under (byte at bytes) rest 8 k l ∙ rw (here, same) refl
 
-      up : 8 ≤ k → (k - 8 < 8 * n → bit rest (k - 8) ≡ bit (byte (suc at + (k - 8) / 8) bytes) ((k - 8) % 8)) → bit (byte at bytes + 256 * rest) k ≡ bit (byte (at + k / 8) bytes) (k % 8)
+      up : 8 ≤ k → (k - 8 < 8 * n → bit rest (k - 8) ≡ bit (byte (suc at + (k - 8) / 8) bytes) ((k - 8) % 8))
+          → bit (byte at bytes + 256 * rest) k ≡ bit (byte (at + k / 8) bytes) (k % 8)
       up l ih =
           let there : suc at + (k - 8) / 8 ≡ at + k / 8 = omega arith in
           let same : (k - 8) % 8 ≡ k % 8 = omega arith in
           let sum : k ≡ 8 + (k - 8) = omega arith in
           let shifted : (byte at bytes + 256 * rest) / 2 ^ k ≡ rest / 2 ^ (k - 8)
-          = ap (λ (j : ℕ). (byte at bytes + 256 * rest) / 2 ^ j) sum ∙ sym (shr-shr (byte at bytes + 256 * rest) 8 (k - 8)) ∙ ap (λ (x : ℕ). x / 2 ^ (k - 8)) (ap (λ (x : ℕ). x / 2 ^ 8) (omega arith) ∙ high rest 8 (s at)) in
+          = ap (λ (j : ℕ). (byte at bytes + 256 * rest) / 2 ^ j) sum ∙ sym (shr-shr (byte at bytes + 256 * rest) 8 (k - 8))
+          ∙ ap (λ (x : ℕ). x / 2 ^ (k - 8)) (ap (λ (x : ℕ). x / 2 ^ 8) (omega arith) ∙ high rest 8 (s at)) in
           ap (λ (x : ℕ). x % 2) shifted ∙ ih (omega arith) ∙ ap₂ (λ (i j : ℕ). bit (byte i bytes) j) there same
 
-      go : (b : Bool) → (T b → k < 8) → (T (not b) → 8 ≤ k) → (k - 8 < 8 * n → bit rest (k - 8) ≡ bit (byte (suc at + (k - 8) / 8) bytes) ((k - 8) % 8)) → bit (byte at bytes + 256 * rest) k ≡ bit (byte (at + k / 8) bytes) (k % 8)
+      go : (b : Bool) → (T b → k < 8) → (T (not b) → 8 ≤ k) → (k - 8 < 8 * n
+          → bit rest (k - 8) ≡ bit (byte (suc at + (k - 8) / 8) bytes) ((k - 8) % 8))
+          → bit (byte at bytes + 256 * rest) k ≡ bit (byte (at + k / 8) bytes) (k % 8)
       go true less more ih = low (less tt)
       go false less more ih = up (more tt) ih
 

@@ -7,7 +7,7 @@ use lib.ListN.{length, take, drop, length-append, length-drop, take-append-drop}
 use lib.Seq.{drop-append-seam, drop-drop, drop-length, drop-cons, getD-drop}
 use Rattle.shot_record.specs.Fields.{byte, number}
 use Rattle.shot_record.specs.Shots.{setting}
-use Rattle.shot_record.specs.Writing.{le, ifSet, Default}
+use Rattle.shot_record.specs.Writing.{littleEndian, ifSet, Default}
 use Rattle.shot_record.proofs.Reading.{Small}
 use Rattle.shot_record.proofs.LittleEndian.{le-length, number-of-le, le-of-number}
 
@@ -54,13 +54,13 @@ pub record Read {A : Type 0} (found x : A) (bytes : List ℕ) (to : ℕ) (rest :
   pub next : Runs bytes to rest
 
 -- ---- a number of n bytes
-pub number-read : {bytes rest : List ℕ} {at : ℕ} (n to x : ℕ) → x < 2 ^ (8 * n) → to ≡ at + n → Runs bytes at (le n x ++ rest)
+pub number-read : {bytes rest : List ℕ} {at : ℕ} (n to x : ℕ) → x < 2 ^ (8 * n) → to ≡ at + n → Runs bytes at (littleEndian n x ++ rest)
     → Read (number n at bytes) x bytes to rest
 number-read {bytes} {rest} {at} n to x h e r =
-    record { value = number-of-le n at x bytes rest h (r .holds); next = after (le n x) to r (omega (arith, le-length n x)) }
+    record { value = number-of-le n at x bytes rest h (r .holds); next = after (littleEndian n x) to r (omega (arith, le-length n x)) }
 
 pub number-written : {bytes rest : List ℕ} {to : ℕ} → Small bytes → (n at : ℕ) → to ≡ at + n → Runs bytes to rest
-    → Runs bytes at (le n (number n at bytes) ++ rest)
+    → Runs bytes at (littleEndian n (number n at bytes) ++ rest)
 number-written {bytes} s n at e r = back at n r e (le-of-number bytes s n at)
 
 -- ---- a setting of w bytes, there if its bit is 1

@@ -6,7 +6,7 @@ use native.Mathlib.Omega.{arith}
 use lib.ListN.{length, take, drop, length-append}
 use Rattle.shot_record.specs.Fields.{number}
 use Rattle.shot_record.specs.Shots.{list, numbers}
-use Rattle.shot_record.specs.Writing.{le, each, All}
+use Rattle.shot_record.specs.Writing.{littleEndian, each, All}
 use Rattle.shot_record.proofs.Reading.{Small, number-below}
 use Rattle.shot_record.proofs.LittleEndian.{le-length}
 use Rattle.shot_record.proofs.Runs.{Runs, Read, after, number-read, number-written}
@@ -54,26 +54,29 @@ module _ {A : Type 0} (bytes : List ℕ) (write : A → List ℕ) where
   unfolding list
   list-written f place zero step r = r
   list-written f place (suc n) {rest} step r =
-      rw append-assoc (step 0 (each write (list (λ (k : ℕ). f (suc k)) n) ++ rest) (list-written (λ (k : ℕ). f (suc k)) (λ (k : ℕ). place (suc k)) n (λ k. step (suc k)) r))
+      rw append-assoc (step 0 (each write (list (λ (k : ℕ). f (suc k)) n) ++ rest)
+      (list-written (λ (k : ℕ). f (suc k)) (λ (k : ℕ). place (suc k)) n (λ k. step (suc k)) r))
 
 -- ---- numbers of w bytes each
 pub numbers-read : {bytes rest : List ℕ} {at : ℕ} (w : ℕ) (xs : List ℕ) → All (λ (x : ℕ). x < 2 ^ (8 * w)) xs
-    → Runs bytes at (each (le w) xs ++ rest) → Read (numbers w (length xs) at bytes) xs bytes (at + w * length xs) rest
+    → Runs bytes at (each (littleEndian w) xs ++ rest) → Read (numbers w (length xs) at bytes) xs bytes (at + w * length xs) rest
 numbers-read {bytes} {rest} {at} w xs h r =
-    list-read bytes (le w) (λ (k x : ℕ). x < 2 ^ (8 * w)) (λ (k : ℕ). number w (at + w * k) bytes) (λ (k : ℕ). at + w * k) xs
-    (λ k x other l q. number-read w (at + w * suc k) x l (omega arith) q) (each-of-all (λ (x : ℕ). x < 2 ^ (8 * w)) xs h) (after [] (at + w * 0) r (omega arith))
+    list-read bytes (littleEndian w) (λ (k x : ℕ). x < 2 ^ (8 * w)) (λ (k : ℕ). number w (at + w * k) bytes) (λ (k : ℕ). at + w * k) xs
+    (λ k x other l q. number-read w (at + w * suc k) x l (omega arith) q) (each-of-all (λ (x : ℕ). x < 2 ^ (8 * w)) xs h)
+    (after [] (at + w * 0) r (omega arith))
 
 pub numbers-written : {bytes rest : List ℕ} → Small bytes → (w n at : ℕ) → Runs bytes (at + w * n) rest
-    → Runs bytes at (each (le w) (numbers w n at bytes) ++ rest)
+    → Runs bytes at (each (littleEndian w) (numbers w n at bytes) ++ rest)
 numbers-written {bytes} s w n at r =
     after [] at
-    (list-written bytes (le w) (λ (k : ℕ). number w (at + w * k) bytes) (λ (k : ℕ). at + w * k) n (λ k other q. number-written s w (at + w * k) (omega arith) q) r)
+    (list-written bytes (littleEndian w) (λ (k : ℕ). number w (at + w * k) bytes) (λ (k : ℕ). at + w * k) n
+    (λ k other q. number-written s w (at + w * k) (omega arith) q) r)
     (omega arith)
 
 pub numbers-below : (bytes : List ℕ) → Small bytes → (w n at : ℕ) → All (λ (x : ℕ). x < 2 ^ (8 * w)) (numbers w n at bytes)
 numbers-below bytes s w n at =
     list-all (λ (x : ℕ). x < 2 ^ (8 * w)) (λ (k : ℕ). number w (at + w * k) bytes) n (λ k l. number-below bytes s w (at + w * k))
 
-pub each-length : (w : ℕ) (xs : List ℕ) → length (each (le w) xs) ≡ w * length xs
+pub each-length : (w : ℕ) (xs : List ℕ) → length (each (littleEndian w) xs) ≡ w * length xs
 each-length w [] = omega arith
-each-length w (x ∷ xs) = length-append (le w x) (each (le w) xs) ∙ omega (arith, le-length w x, each-length w xs)
+each-length w (x ∷ xs) = length-append (littleEndian w x) (each (littleEndian w) xs) ∙ omega (arith, le-length w x, each-length w xs)

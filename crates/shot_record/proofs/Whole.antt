@@ -9,7 +9,7 @@ use lib.ListN.{length}
 use lib.Ieee.Fits.{and-i, and-l, and-r}
 use borrow.Author.Tests.{not-true, not-false}
 use Rattle.shot_record.specs.Fields.{mapByte, cellCount, cellMap, cellAt}
-use Rattle.shot_record.specs.Shots.{Shot, shot, whole, parse}
+use Rattle.shot_record.specs.Shots.{Shot, shot, wholeRecord, parse}
 
 pub record Whole (bytes : List ℕ) : Type 0 where
   pub size : length bytes ≤ 65535
@@ -17,15 +17,21 @@ pub record Whole (bytes : List ℕ) : Type 0 where
   pub cell-map : cellMap bytes < 2 ^ cellCount bytes
   pub end : cellAt bytes (cellCount bytes) ≡ length bytes
 
-whole-passes : (bytes : List ℕ) → Whole bytes → T (whole bytes)
-unfolding whole
-whole-passes bytes w = search (and-i, le→leb (length bytes) 65535 (w .size), lt→ltb (mapByte bytes) 16 (w .map), lt→ltb (cellMap bytes) (2 ^ cellCount bytes) (w .cell-map), ended)
+whole-passes : (bytes : List ℕ) → Whole bytes → T (wholeRecord bytes)
+unfolding wholeRecord
+whole-passes bytes w = search (
+  and-i,
+  le→leb (length bytes) 65535 (w .size),
+  lt→ltb (mapByte bytes) 16 (w .map),
+  lt→ltb (cellMap bytes) (2 ^ cellCount bytes) (w .cell-map),
+  ended,
+)
   where
     ended : T (eqb (cellAt bytes (cellCount bytes)) (length bytes))
     ended = subst (λ (n : ℕ). T (eqb (cellAt bytes (cellCount bytes)) n)) (w .end) (eqb-refl (cellAt bytes (cellCount bytes)))
 
-passes-whole : (bytes : List ℕ) → T (whole bytes) → Whole bytes
-unfolding whole
+passes-whole : (bytes : List ℕ) → T (wholeRecord bytes) → Whole bytes
+unfolding wholeRecord
 passes-whole bytes t =
     record {
       size = leb→le (length bytes) 65535 (search and-l);
@@ -44,19 +50,19 @@ if-shot false s r e = absurd (Option·none-ne-some r e)
 
 pub parse-whole : (bytes : List ℕ) → Whole bytes → parse bytes ≡ some (shot bytes)
 unfolding parse
-parse-whole bytes w = shot-if (whole bytes) (shot bytes) (whole-passes bytes w)
+parse-whole bytes w = shot-if (wholeRecord bytes) (shot bytes) (whole-passes bytes w)
 
 pub parsed : (bytes : List ℕ) (s : Shot) → parse bytes ≡ some s → Whole bytes × (shot bytes ≡ s)
 unfolding parse
-parsed bytes s e = let p = if-shot (whole bytes) (shot bytes) s e in (passes-whole bytes (p .0), p .1)
+parsed bytes s e = let p = if-shot (wholeRecord bytes) (shot bytes) s e in (passes-whole bytes (p .0), p .1)
 
 -- ---- by the answer to question 21, as a program tests it
-pub refused-if : (bytes : List ℕ) (answer : Bool) → answer ≡ whole bytes → not answer ≡ true → parse bytes ≡ none
+pub refused-if : (bytes : List ℕ) (answer : Bool) → answer ≡ wholeRecord bytes → not answer ≡ true → parse bytes ≡ none
 unfolding parse
 refused-if bytes answer e n = rw (sym e ∙ not-true answer n) refl
 
-pub whole-if : (bytes : List ℕ) (answer : Bool) → answer ≡ whole bytes → not answer ≡ false → Whole bytes
+pub whole-if : (bytes : List ℕ) (answer : Bool) → answer ≡ wholeRecord bytes → not answer ≡ false → Whole bytes
 whole-if bytes answer e n = passes-whole bytes (subst T (sym (not-false answer n) ∙ e) tt)
 
-pub passed : (bytes : List ℕ) → whole bytes ≡ true → Whole bytes
+pub passed : (bytes : List ℕ) → wholeRecord bytes ≡ true → Whole bytes
 passed bytes e = passes-whole bytes (subst T (sym e) tt)

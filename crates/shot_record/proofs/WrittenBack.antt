@@ -11,9 +11,10 @@ use lib.Ieee.Fits.{and-l, and-r}
 use Rattle.matcher.specs.Codes.{bit}
 use Rattle.matcher.proofs.Bits.{bit-small}
 use Rattle.score_matrix.specs.Table.{patterns}
-use Rattle.shot_record.specs.Fields.{number, mapByte, marginAt, thresholdAt, pxAt, tableAt, rowsAt, codeCount, codesAt, cellCountAt, cellCount, cellMapAt, cellMap, mapSize, cellsAt, cellAt}
+use Rattle.shot_record.specs.Fields.{number, mapByte, marginAt, thresholdAt, pxAt, tableAt, rowsAt, codeCount, codesAt, cellCountAt, cellCount, cellMapAt}
+use Rattle.shot_record.specs.Fields.{cellMap, mapSize, cellsAt, cellAt}
 use Rattle.shot_record.specs.Shots.{Shot, numbers, setting, defaultMargin, defaultThreshold, defaultPx, cellOf, shot}
-use Rattle.shot_record.specs.Writing.{le, ifSet, each, All, Bytes, bytesOf, Fit, Written}
+use Rattle.shot_record.specs.Writing.{littleEndian, ifSet, each, All, Bytes, bytesOf, Fit, WrittenShot}
 use Rattle.shot_record.proofs.Reading.{Small, number-below, setting-either, table-size}
 use Rattle.shot_record.proofs.Lists.{length-list}
 use Rattle.shot_record.proofs.LittleEndian.{byte-below}
@@ -21,7 +22,8 @@ use Rattle.shot_record.proofs.Runs.{Runs, at-end, byte-written, number-
 use Rattle.shot_record.proofs.Sequences.{numbers-written, numbers-below}
 use Rattle.shot_record.proofs.CellMaps.{map-of-read}
 use Rattle.shot_record.proofs.CellBytes.{cells-written, cells-fit}
-use Rattle.shot_record.proofs.Parts.{fromCells, fromCellMap, fromCellCount, fromCodes, fromCodeCount, fromMarkerSize, fromCellSize, fromRows, fromTable, fromPx, fromThreshold, fromMargin, bytes-parts}
+use Rattle.shot_record.proofs.Parts.{fromCells, fromCellMap, fromCellCount, fromCodes, fromCodeCount, fromMarkerSize, fromCellSize, fromRows, fromTable}
+use Rattle.shot_record.proofs.Parts.{fromPx, fromThreshold, fromMargin, bytes-parts}
 use Rattle.shot_record.proofs.Whole.{Whole}
 
 -- ---- the patterns of the built-in table have 32 bits
@@ -60,7 +62,7 @@ module _ (bytes : List ℕ) (b : Bytes bytes) (w : Whole bytes) where
 
   cell-count : Runs bytes (cellCountAt bytes) (fromCellCount s)
   cell-count =
-      subst (λ (n : ℕ). Runs bytes (cellCountAt bytes) (le 2 n ++ fromCellMap s)) (sym (length-list (cellOf bytes) (cellCount bytes)))
+      subst (λ (n : ℕ). Runs bytes (cellCountAt bytes) (littleEndian 2 n ++ fromCellMap s)) (sym (length-list (cellOf bytes) (cellCount bytes)))
       (number-written small 2 (cellCountAt bytes) refl cell-map)
 
   codes : Runs bytes (codesAt bytes) (fromCodes s)
@@ -69,7 +71,8 @@ module _ (bytes : List ℕ) (b : Bytes bytes) (w : Whole bytes) where
 
   code-count : Runs bytes (rowsAt bytes + 12) (fromCodeCount s)
   code-count =
-      subst (λ (n : ℕ). Runs bytes (rowsAt bytes + 12) (le 2 n ++ fromCodes s)) (sym (length-list (λ (k : ℕ). number 8 (codesAt bytes + 8 * k) bytes) (codeCount bytes)))
+      subst (λ (n : ℕ). Runs bytes (rowsAt bytes + 12) (littleEndian 2 n ++ fromCodes s))
+      (sym (length-list (λ (k : ℕ). number 8 (codesAt bytes + 8 * k) bytes) (codeCount bytes)))
       (number-written small 2 (rowsAt bytes + 12) (omega arith) codes)
 
   marker-size : Runs bytes (rowsAt bytes + 8) (fromMarkerSize s)
@@ -86,11 +89,12 @@ module _ (bytes : List ℕ) (b : Bytes bytes) (w : Whole bytes) where
   table : Runs bytes (tableAt bytes) (fromTable m s)
   unfolding rowsAt
   table =
-      setting-written (bit m 3) 2044 (tableAt bytes) (each (le 4)) (numbers 4 511 (tableAt bytes) bytes) patterns (bit-small m 3) (numbers-written small 4 511 (tableAt bytes)) rows
+      setting-written (bit m 3) 2044 (tableAt bytes) (each (littleEndian 4)) (numbers 4 511 (tableAt bytes) bytes) patterns (bit-small m 3)
+      (numbers-written small 4 511 (tableAt bytes)) rows
 
   float : {rest : List ℕ} (k at default : ℕ) → Runs bytes (at + 4 * bit m k) rest
-      → Runs bytes at (ifSet (bit m k) (le 4 (setting (bit m k) (number 4 at bytes) default)) ++ rest)
-  float k at default = setting-written (bit m k) 4 at (le 4) (number 4 at bytes) default (bit-small m k) (number-written small 4 at refl)
+      → Runs bytes at (ifSet (bit m k) (littleEndian 4 (setting (bit m k) (number 4 at bytes) default)) ++ rest)
+  float k at default = setting-written (bit m k) 4 at (littleEndian 4) (number 4 at bytes) default (bit-small m k) (number-written small 4 at refl)
 
   px : Runs bytes (pxAt bytes) (fromPx m s)
   unfolding tableAt
@@ -137,5 +141,5 @@ module _ (bytes : List ℕ) (b : Bytes bytes) (w : Whole bytes) where
         size = subst (λ (l : List ℕ). length l ≤ 65535) bytes-are (w .size);
       }
 
-  pub whole-written : Written bytes (shot bytes)
+  pub whole-written : WrittenShot bytes (shot bytes)
   whole-written = record { fits = shot-fits; same = bytes-are }

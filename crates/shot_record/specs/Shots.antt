@@ -11,7 +11,8 @@ use mir.Val.{toZ}
 use Rattle.matcher.specs.Codes.{bit}
 use Rattle.score_matrix.specs.Locality.{part}
 use Rattle.score_matrix.specs.Table.{patterns}
-use Rattle.shot_record.specs.Fields.{byte, number, mapByte, marginAt, thresholdAt, pxAt, tableAt, rowsAt, bitsOf, borderOf, codeCount, codesAt, cellCount, cellMap, sampled, gridSize, cellAt}
+use Rattle.shot_record.specs.Fields.{byte, number, mapByte, marginAt, thresholdAt, pxAt, tableAt, rowsAt, bitsOf, borderOf, codeCount, codesAt, cellCount}
+use Rattle.shot_record.specs.Fields.{cellMap, sampled, gridSize, cellAt}
 
 -- What is sampled of a cell. A float is its pattern of 32 bits, here and below, so that a shot has every bit of its record.
 pub record Sample : Type 0 where
@@ -94,11 +95,11 @@ shot bytes =
 
 -- Question 21: at most 65,535 bytes, spare bits 0 in both maps, no field cut short and the last one ending the record (it ends where a cell
 -- after the last one would start)?
-unfoldable pub whole : List ℕ → Bool
-whole bytes =
+unfoldable pub wholeRecord : List ℕ → Bool
+wholeRecord bytes =
     leb (length bytes) 65535
     && (ltb (mapByte bytes) 16 && (ltb (cellMap bytes) (2 ^ cellCount bytes) && eqb (cellAt bytes (cellCount bytes)) (length bytes)))
 
 -- The one meaning of a record: a shot, or refused.
 unfoldable pub parse : List ℕ → Option Shot
-parse bytes = cond (whole bytes) (some (shot bytes)) none
+parse bytes = cond (wholeRecord bytes) (some (shot bytes)) none

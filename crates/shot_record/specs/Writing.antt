@@ -12,9 +12,9 @@ use Rattle.shot_record.specs.Fields.{mapByte, mapSize, gridSize}
 use Rattle.shot_record.specs.Shots.{Sample, Cell, Shot, defaultMargin, defaultThreshold, defaultPx, parse}
 
 -- a number in n bytes, little-endian
-unfoldable pub le : ℕ → ℕ → List ℕ
-le zero x = []
-le (suc n) x = x % 256 ∷ le n (x / 256)
+unfoldable pub littleEndian : ℕ → ℕ → List ℕ
+littleEndian zero x = []
+littleEndian (suc n) x = x % 256 ∷ littleEndian n (x / 256)
 
 -- a field whose bit may be clear
 abbrev pub ifSet : ℕ → List ℕ → List ℕ
@@ -22,12 +22,12 @@ ifSet zero field = []
 ifSet (suc b) field = field
 
 -- one after the other
-abbrev pub join : List (List ℕ) → List ℕ
-join [] = []
-join (field ∷ fields) = field ++ join fields
+abbrev pub joined : List (List ℕ) → List ℕ
+joined [] = []
+joined (field ∷ fields) = field ++ joined fields
 
 abbrev pub each : {A : Type 0} → (A → List ℕ) → List A → List ℕ
-each f xs = join (map f xs)
+each f xs = joined (map f xs)
 
 -- a cell map, lowest bit first, set where sampled
 abbrev pub isSampled : Option Sample → ℕ
@@ -38,31 +38,31 @@ abbrev pub marks : List Cell → ℕ → ℕ
 marks cells k = getD (map (λ (c : Cell). isSampled (c .sample)) cells) k 0
 
 abbrev pub mapBytes : List Cell → List ℕ
-mapBytes cells = le (mapSize (length cells)) (fromBits (marks cells) (length cells))
+mapBytes cells = littleEndian (mapSize (length cells)) (fromBits (marks cells) (length cells))
 
 -- u and v and, if sampled, fraction, threshold byte, grid
 abbrev pub sampleBytes : Option Sample → List ℕ
 sampleBytes none = []
-sampleBytes (some s) = le 4 (s .fraction) ++ (s .threshold ∷ s .grid)
+sampleBytes (some s) = littleEndian 4 (s .fraction) ++ (s .threshold ∷ s .grid)
 
 abbrev pub cellBytes : Cell → List ℕ
-cellBytes c = le 2 (ofZ w16 (c .u)) ++ (le 2 (ofZ w16 (c .v)) ++ sampleBytes (c .sample))
+cellBytes c = littleEndian 2 (ofZ w16 (c .u)) ++ (littleEndian 2 (ofZ w16 (c .v)) ++ sampleBytes (c .sample))
 
 -- The record of a shot with a map byte.
 unfoldable pub bytesOf : ℕ → Shot → List ℕ
 bytesOf m s =
-    join (
+    joined (
     (m ∷ [])
-    ∷ ifSet (bit m 0) (le 4 (s .minimumMargin))
-    ∷ ifSet (bit m 1) (le 4 (s .borderThreshold))
-    ∷ ifSet (bit m 2) (le 4 (s .pxPerSquare))
-    ∷ ifSet (bit m 3) (each (le 4) (s .table))
+    ∷ ifSet (bit m 0) (littleEndian 4 (s .minimumMargin))
+    ∷ ifSet (bit m 1) (littleEndian 4 (s .borderThreshold))
+    ∷ ifSet (bit m 2) (littleEndian 4 (s .pxPerSquare))
+    ∷ ifSet (bit m 3) (each (littleEndian 4) (s .table))
     ∷ (s .rows ∷ s .cols ∷ s .bits ∷ s .border ∷ [])
-    ∷ le 4 (s .cellSize)
-    ∷ le 4 (s .markerSizeRel)
-    ∷ le 2 (length (s .codes))
-    ∷ each (le 8) (s .codes)
-    ∷ le 2 (length (s .cells))
+    ∷ littleEndian 4 (s .cellSize)
+    ∷ littleEndian 4 (s .markerSizeRel)
+    ∷ littleEndian 2 (length (s .codes))
+    ∷ each (littleEndian 8) (s .codes)
+    ∷ littleEndian 2 (length (s .cells))
     ∷ mapBytes (s .cells)
     ∷ each cellBytes (s .cells)
     ∷ [])
@@ -124,12 +124,12 @@ abbrev pub ReadBack : Type 0
 ReadBack = (m : ℕ) (s : Shot) → Fit m s → parse (bytesOf m s) ≡ some s
 
 -- a record that is read has the bytes of its shot, which fits
-pub record Written (bytes : List ℕ) (s : Shot) : Type 0 where
+pub record WrittenShot (bytes : List ℕ) (s : Shot) : Type 0 where
   pub fits : Fit (mapByte bytes) s
   pub same : bytes ≡ bytesOf (mapByte bytes) s
 
 abbrev pub WrittenBack : Type 0
-WrittenBack = (bytes : List ℕ) → Bytes bytes → (s : Shot) → parse bytes ≡ some s → Written bytes s
+WrittenBack = (bytes : List ℕ) → Bytes bytes → (s : Shot) → parse bytes ≡ some s → WrittenShot bytes s
 
 -- two records with the same shot and the same map byte are the same bytes
 abbrev pub OneToOne : Type 0

@@ -6,7 +6,7 @@ ghost use lib.ListN.{getD};
 ghost use Rattle.board.specs.Questions.{codesAnswer};
 ghost use Rattle.shot_record.specs.Fields.{fieldsOf};
 ghost use Rattle.shot_record.specs.Shots.{list, numbers as numbersOf, shot};
-ghost use Rattle.shot_record.specs.Answers.{float};
+ghost use Rattle.shot_record.specs.Answers.{ofPattern};
 use super::fields;
 use super::fields::Fields;
 use super::numbers;
@@ -16,7 +16,7 @@ use score_matrix::table::built_in_table;
 // The table that starts at a place.
 fn table_at(bytes: &[u8], at: usize) -> [f32; 511]
     requires { ⌜ at ≤ 2 ^ 20 ⌝ }
-    ensures { λ r. ⌜ r ≡ map float (numbersOf 4 511 at (now (bytes .entry))) ⌝ }
+    ensures { λ r. ⌜ r ≡ map ofPattern (numbersOf 4 511 at (now (bytes .entry))) ⌝ }
 {
     let mut entries: [f32; 511] = [0.0; 511];
     let mut k = 0;
@@ -29,7 +29,7 @@ fn table_at(bytes: &[u8], at: usize) -> [f32; 511]
 
 // The record's own table, or the built-in one.
 pub fn table(bytes: &[u8]) -> [f32; 511]
-    ensures { λ r. ⌜ r ≡ map float (shot (now (bytes .entry)) .table) ⌝ }
+    ensures { λ r. ⌜ r ≡ map ofPattern (shot (now (bytes .entry)) .table) ⌝ }
 {
     let f = fields::locate(bytes);
     if numbers::bit(f.map, 3) == 0 {
@@ -63,16 +63,27 @@ pub fn codes(bytes: &[u8]) -> [u64; 512]
     codes
 }
 
-// Question 8: Is every code below 2^(bits²)?
-pub fn codes_below(bytes: &[u8], bits: u8) -> bool
-    requires { ⌜ (1 ≤ bits) × (bits ≤ 8) ⌝ }
+// A code, from the list of the first 512 or past it from the record.
+fn code_by(bytes: &[u8], f: Fields, first: &[u64; 512], k: usize) -> u64
+    requires { ⌜ (f ≡ fieldsOf (now bytes)) × (now first ≡ list (λ (k : ℕ). getD (shot (now bytes) .codes) k 0) 512) ⌝ }
+    ensures { λ r. ⌜ r ≡ getD (shot (now (bytes .entry)) .codes) k 0 ⌝ }
+{
+    if k < 512 {
+        return first[k];
+    }
+    code_or_0(bytes, f, k)
+}
+
+// Question 8: Is every code below 2^(bits²)? By the first 512 codes, as `codes` reads them.
+pub fn codes_below(bytes: &[u8], first: &[u64; 512], bits: u8) -> bool
+    requires { ⌜ (1 ≤ bits) × (bits ≤ 8) × (now first ≡ list (λ (k : ℕ). getD (shot (now bytes) .codes) k 0) 512) ⌝ }
     ensures { λ r. ⌜ r ≡ codesAnswer bits (shot (now (bytes .entry)) .codes) ⌝ }
 {
     let f = fields::locate(bytes);
     let count = f.code_count;
     let mut k = 0;
     while k < count {
-        if !questions::code(bits, code_or_0(bytes, f, k)) {
+        if !questions::code(bits, code_by(bytes, f, first, k)) {
             return false;
         }
         k += 1;

@@ -5,7 +5,7 @@ ghost use Prim.Native.Nat.{ℕ, _+_, _-_, _^_, _<_, _≤_};
 ghost use lib.Dec.{ltb};
 ghost use lib.ListN.{take, drop};
 ghost use Rattle.shot_record.specs.Fields.{fieldsOf, cellCount, cellMap, sampled as sampledAt, cellLength, cellAt};
-ghost use Rattle.shot_record.specs.Shots.{whole, parse, cellFrom, cellOf};
+ghost use Rattle.shot_record.specs.Shots.{wholeRecord, parse, cellFrom, cellOf};
 ghost use Rattle.shot_record.specs.Answers.{cellRead, gridRead, gridAnswer, partAnswer, narrow as narrowed, starts as startsOf, Indexed};
 use super::ReadCell;
 use super::fields;
@@ -70,7 +70,7 @@ fn has_clear_map(bytes: &[u8], f: Fields) -> bool
 // Question 21. A record that ends before its cells is not walked: its count of cells may be far above its length.
 pub fn is_whole(bytes: &[u8], f: Fields) -> bool
     requires { ⌜ f ≡ fieldsOf (now bytes) ⌝ }
-    ensures { λ r. ⌜ r ≡ whole (now (bytes .entry)) ⌝ }
+    ensures { λ r. ⌜ r ≡ wholeRecord (now (bytes .entry)) ⌝ }
 {
     if 65535 < bytes.len() {
         return false;
@@ -153,6 +153,7 @@ fn at_most_256(n: usize) -> usize
     256
 }
 
+// Where each of the first 256 cells starts, found in one pass: what a match looks cells up in.
 pub fn starts(bytes: &[u8], f: Fields) -> [u16; 256]
     requires { ⌜ f ≡ fieldsOf (now bytes) ⌝ }
     ensures { λ r. ⌜ r ≡ startsOf (now (bytes .entry)) ⌝ }

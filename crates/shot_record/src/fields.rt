@@ -4,7 +4,7 @@ ghost use Prim.Native.Nat.{_+_, _*_, _^_, _<_, _≤_};
 ghost use lib.ListN.{getD};
 ghost use Rattle.shot_record.specs.Fields.{number, codesAt, gridSize, fieldsOf};
 ghost use Rattle.shot_record.specs.Shots.{setting as settingOf, shot};
-ghost use Rattle.shot_record.specs.Answers.{float, configOf, specOf};
+ghost use Rattle.shot_record.specs.Answers.{ofPattern, configOf, specOf};
 use super::numbers;
 use board::CharucoBoardSpec;
 use score_matrix::BoardMatchConfig;
@@ -64,7 +64,7 @@ pub fn locate(bytes: &[u8]) -> Fields
 // A setting of the record's own, or its default, by the bits of an f32.
 fn setting(bytes: &[u8], is_set: usize, at: usize, default: u32) -> f32
     requires { ⌜ at ≤ 2 ^ 40 ⌝ }
-    ensures { λ r. ⌜ r ≡ float (settingOf «is_set» (number 4 at (now (bytes .entry))) default) ⌝ }
+    ensures { λ r. ⌜ r ≡ ofPattern (settingOf «is_set» (number 4 at (now (bytes .entry))) default) ⌝ }
 {
     if is_set == 0 {
         return floats::from_bits(default);
@@ -107,7 +107,7 @@ pub fn spec(bytes: &[u8], f: Fields) -> CharucoBoardSpec
 // An entry of the record's own table, or of the built-in one.
 pub fn table_entry(bytes: &[u8], f: Fields, k: usize) -> f32
     requires { ⌜ (f ≡ fieldsOf (now bytes)) × (k < 511) ⌝ }
-    ensures { λ r. ⌜ r ≡ float (getD (shot (now (bytes .entry)) .table) k 0) ⌝ }
+    ensures { λ r. ⌜ r ≡ ofPattern (getD (shot (now (bytes .entry)) .table) k 0) ⌝ }
 {
     if numbers::bit(f.map, 3) == 0 {
         let entries = table::built_in_table();

@@ -1,9 +1,9 @@
 // The shot record: one lane-end shot as bytes. Every function of this file accepts every record; question 21 refuses one that is not
-// whole. What a match reads over and over it reads with `bulk` and `cells`, from fields and starts that it finds once. Leans on `refusal`,
-// `floats`, `board` and `score_matrix`, and for its definitions and proofs on `matcher`.
+// whole. What a match reads over and over it reads with `bulk` and `cells`, from fields and starts that it finds once. Uses `refusal`,
+// `floats`, `board` and `score_matrix`, and for its definitions and proofs `matcher`.
 ghost use mathlib.Core.Path.{_≡_};
 ghost use Rattle.shot_record.specs.Shots.{parse};
-ghost use Rattle.shot_record.specs.Answers.{headerAnswer, entryAnswer, codeAnswer, cellAnswer, gridAnswer, starts};
+ghost use Rattle.shot_record.specs.Answers.{headerAnswer, entryAnswer, codeAnswer, cellAnswer, gridAnswer};
 
 pub mod bulk;
 pub mod cells;
@@ -124,12 +124,4 @@ pub fn grid(bytes: &[u8], k: usize) -> &[u8]
     let first = part.first;
     let end = part.end;
     &bytes[first..end]
-}
-
-// Where each of the first 256 cells starts, found in one pass: what a match looks cells up in.
-pub fn cell_starts(bytes: &[u8]) -> [u16; 256]
-    ensures { λ r. ⌜ r ≡ starts (now (bytes .entry)) ⌝ }
-{
-    let f = fields::locate(bytes);
-    cells::starts(bytes, f)
 }

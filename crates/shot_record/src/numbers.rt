@@ -5,7 +5,7 @@ ghost use mir.Syntax.{w16};
 ghost use mir.Val.{toZ};
 ghost use Rattle.matcher.specs.Codes.{bit as bitOf};
 ghost use Rattle.shot_record.specs.Fields.{byte, number};
-ghost use Rattle.shot_record.specs.Answers.{float};
+ghost use Rattle.shot_record.specs.Answers.{ofPattern};
 
 pub fn byte_at(bytes: &[u8], at: usize) -> u8
     ensures { λ r. ⌜ r ≡ byte at (now (bytes .entry)) ⌝ }
@@ -41,7 +41,7 @@ pub fn count_at(bytes: &[u8], at: usize) -> usize
 
 pub fn float_at(bytes: &[u8], at: usize) -> f32
     requires { ⌜ at ≤ 2 ^ 40 ⌝ }
-    ensures { λ r. ⌜ r ≡ float (number 4 at (now (bytes .entry))) ⌝ }
+    ensures { λ r. ⌜ r ≡ ofPattern (number 4 at (now (bytes .entry))) ⌝ }
 {
     floats::from_bits(number_at(bytes, at, 4) as u32)
 }

@@ -1,5 +1,5 @@
 // Rows of stored answers: reading them byte by byte, what their words stand for, and how many agree. For the programs that
-// replay such rows. Leans on `floats`, `board`, `io` and `libc`.
+// replay such rows. Uses `floats`, `board`, `io` and `libc`.
 pub mod boards;
 pub mod corners;
 pub mod digest;

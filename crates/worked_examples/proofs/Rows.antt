@@ -2,8 +2,9 @@
 use mathlib.Core.Path.{refl}
 use lib.Ieee.{ofBits, toBits, ofInt, neg, sub, mul, div, le, lt, eq}
 use Rattle.matcher.specs.Codes.{fromBits, source}
-use Rattle.grid_alignment.specs.Alignment.{sends, lowest}
-use Rattle.board.specs.Numbering.{count, numberAt, numberAtℤ, search}
+use Rattle.grid_alignment.specs.Alignment.{sends, lowestPoint}
+use Rattle.board.specs.Numbering.{countPassing, numberAt, numberAtℤ, search}
+use Rattle.board.specs.Layout.{parityOf}
 use Rattle.shot_record.specs.Shots.{list}
 use Rattle.hypothesis.specs.Placements.{leastTo, greatestTo, frame, withTurnsBelow, placements}
 use Rattle.lent_list.specs.Front.{upTo}
@@ -13,7 +14,8 @@ use Rattle.worked_examples.specs.Table.{Table}
 use Rattle.worked_examples.proofs.Refused.{refused-5, record-refused}
 
 pub table : Table
-unfolding fromBits source sends lowest count numberAt numberAtℤ search ofBits toBits ofInt neg sub mul div le lt eq list leastTo greatestTo frame withTurnsBelow placements upTo anyBelow expectation without
+unfolding fromBits source sends lowestPoint countPassing numberAt numberAtℤ search parityOf ofBits toBits ofInt neg sub mul div le lt eq list leastTo
+    greatestTo frame withTurnsBelow placements upTo anyBelow expectation without
 table =
     record {
       P1 = (refl, refl);
@@ -27,5 +29,5 @@ table =
       P9 = (λ capacity next. refl, λ capacity. refl, λ p. refl);
       P10 = refl;
       P11 = (λ s first second. (refl, refl), λ s first second. (refl, refl), refused-5, record-refused, refl);
-      P12 = (refl, refl, λ fraction. refl);
+      P12 = λ c. (refl, refl, λ fraction. refl);
     }

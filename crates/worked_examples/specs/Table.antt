@@ -12,11 +12,14 @@ use Rattle.refusal.specs.Numbers.{numberOf}
 use Rattle.matcher.specs.Codes.{turned}
 use Rattle.grid_alignment.specs.declared.GridAlignment.{GridAlignment}
 use Rattle.grid_alignment.specs.Alignment.{cornerAlignment}
+use Rattle.board.specs.declared.Board.{Board}
 use Rattle.board.specs.declared.Numbered.the-variants as numbered
 use Rattle.board.specs.declared.Located.the-variants as located
 use Rattle.board.specs.declared.Surrounding.the-variants as surrounding
-use Rattle.board.specs.Layout.{odd, squareOf, cornerAt, fourCorners}
+use Rattle.board.specs.Layout.{markerSquare, cornerAt, surroundingCorners}
 use Rattle.score_matrix.specs.Scores.{nullScore}
+use Rattle.score_matrix.specs.declared.BoardMatchConfig.{BoardMatchConfig}
+use Rattle.score_matrix.specs.declared.BorderSample.the-variants as border
 use Rattle.score_matrix.specs.Weights.{weight}
 use Rattle.score_matrix.specs.Table.{patterns}
 use Rattle.shot_record.specs.Shots.{Sample, Cell, Shot, defaultMargin, defaultThreshold, defaultPx}
@@ -42,8 +45,8 @@ abbrev pub align : ℕ → ℤ → ℤ → GridAlignment
 align turn tx ty = record { turn = turn; tx = tx; ty = ty }
 
 -- 0, 0.25, 0.5, 0.75, 1, 2, 4 and −6 by their bits
-abbrev pub zero : Float
-zero = ofBits binary32 0
+abbrev pub zeroFloat : Float
+zeroFloat = ofBits binary32 0
 
 abbrev pub quarter : Float
 quarter = ofBits binary32 0x3E800000
@@ -54,17 +57,22 @@ half = ofBits binary32 0x3F000000
 abbrev pub threeQuarters : Float
 threeQuarters = ofBits binary32 0x3F400000
 
-abbrev pub whole : Float
-whole = ofBits binary32 0x3F800000
+abbrev pub oneFloat : Float
+oneFloat = ofBits binary32 0x3F800000
 
-abbrev pub two : Float
-two = ofBits binary32 0x40000000
+abbrev pub twoFloat : Float
+twoFloat = ofBits binary32 0x40000000
 
 abbrev pub four : Float
 four = ofBits binary32 0x40800000
 
 abbrev pub minusSix : Float
 minusSix = ofBits binary32 0xC0C00000
+
+-- settings with a border threshold, the rest of them as in c
+abbrev pub overThreshold : BoardMatchConfig → Float → BoardMatchConfig
+overThreshold c threshold =
+    record { «px_per_square» = c .«px_per_square»; «alignment_min_margin» = c .«alignment_min_margin»; «cell_weight_border_threshold» = threshold }
 
 -- a placement with its evidence
 abbrev pub evident : GridAlignment → Float → Hypothesis
@@ -109,25 +117,29 @@ tooWide =
       cells = twoCells 5 none none;
     }
 
+-- a board with so many rows and cols, otherwise as there
+abbrev pub board : ℕ → ℕ → Board
+board rows cols = record { rows = rows; cols = cols; bits = 4; «border_bits» = 1; «cell_size» = oneFloat; «marker_size_rel» = half }
+
 -- P8's links: a marker and a corner each
 abbrev pub links : List ℕ
 links = 3 ∷ 1 ∷ 3 ∷ 1 ∷ 3 ∷ 9 ∷ []
 
 -- an entry of marker 3, whose corners are P7's
-abbrev pub entry : LinkViolationKind → Option ℕ → List ℕ → Violation
-entry k reported missing =
+abbrev pub tableEntry : LinkViolationKind → Option ℕ → List ℕ → Violation
+tableEntry k reported missing =
     record { marker = 3; kind = k; reported = reported; expected = 1 ∷ 2 ∷ 6 ∷ 5 ∷ []; missing = missing }
 
 abbrev pub violationsIn : LinkCheckMode → List Violation
-violationsIn m = violations links (linkCount links) m (expectation odd 4 5)
+violationsIn m = violations links (linkCount links) m (expectation (board 4 5))
 
 pub record Table : Type 0 where
   -- 2 by 2 board: marker 0 at (1, 0), 1 at (0, 1)
-  pub P1 : (squareOf odd 2 2 0 ≡ located.At 1 0) × (squareOf odd 2 2 1 ≡ located.At 0 1)
+  pub P1 : (markerSquare (board 2 2) 0 ≡ located.At 1 0) × (markerSquare (board 2 2) 1 ≡ located.At 0 1)
   -- 3 by 3: (1, 0), (0, 1), (2, 1), (1, 2)
   pub P2 :
-      (squareOf odd 3 3 0 ≡ located.At 1 0) × (squareOf odd 3 3 1 ≡ located.At 0 1)
-      × (squareOf odd 3 3 2 ≡ located.At 2 1) × (squareOf odd 3 3 3 ≡ located.At 1 2)
+      (markerSquare (board 3 3) 0 ≡ located.At 1 0) × (markerSquare (board 3 3) 1 ≡ located.At 0 1)
+      × (markerSquare (board 3 3) 2 ≡ located.At 2 1) × (markerSquare (board 3 3) 3 ≡ located.At 1 2)
   -- 4 rows, 5 cols: corner (1, 1) is 0, (4, 3) is 11; (5, 3) and (0, 1) have none
   pub P3 :
       (cornerAt 4 5 (pos 1) (pos 1) ≡ numbered.Id 0) × (cornerAt 4 5 (pos 4) (pos 3) ≡ numbered.Id 11)
@@ -142,17 +154,19 @@ pub record Table : Type 0 where
       × (cornerAlignment (align 2 (pos 5) (pos 7)) ≡ align 2 (pos 6) (pos 8)) × (cornerAlignment (align 3 (pos 5) (pos 7)) ≡ align 3 (pos 6) (pos 7))
   -- P3's board: marker 3 has corners 1, 2, 6, 5; marker 2 has no four; 10 is unknown
   pub P7 :
-      (fourCorners odd 4 5 3 ≡ surrounding.Corners 1 2 6 5) × (squareOf odd 4 5 2 ≡ located.At 0 1) × (fourCorners odd 4 5 2 ≡ surrounding.Absent)
-      × (squareOf odd 4 5 10 ≡ located.Absent)
+      (surroundingCorners (board 4 5) 3 ≡ surrounding.Corners 1 2 6 5)
+      × (markerSquare (board 4 5) 2 ≡ located.At 0 1) × (surroundingCorners (board 4 5) 2 ≡ surrounding.Absent)
+      × (markerSquare (board 4 5) 10 ≡ located.Absent)
   -- there, links (3, 1), (3, 1), (3, 9): 9 not in neighbourhood, then 1 repeated; all-four mode adds missing 2, 6, 5
   pub P8 :
-      (violationsIn mode.SubsetOk ≡ entry kind.CornerNotInNeighborhood (some 9) [] ∷ entry kind.DuplicateCorner (some 1) [] ∷ [])
-      × (violationsIn mode.MustMatchAll4 ≡ entry kind.CornerNotInNeighborhood (some 9) [] ∷ entry kind.DuplicateCorner (some 1) [] ∷ entry kind.MissingCorners none (2 ∷ 6 ∷ 5 ∷ []) ∷ [])
+      (violationsIn mode.SubsetOk ≡ tableEntry kind.CornerNotInNeighborhood (some 9) [] ∷ tableEntry kind.DuplicateCorner (some 1) [] ∷ [])
+      × (violationsIn mode.MustMatchAll4 ≡ tableEntry kind.CornerNotInNeighborhood (some 9) [] ∷ tableEntry kind.DuplicateCorner (some 1) []
+      ∷ tableEntry kind.MissingCorners none (2 ∷ 6 ∷ 5 ∷ []) ∷ [])
   -- margins: best 0 gives 0; best 2 with runner-up absent gives 1; best 2, runner-up −6, capacity 4 gives 2
   pub P9 :
-      ((capacity : Float) (next : Choice) → margin (evidence.Number zero) capacity next ≡ zero)
-      × ((capacity : Float) → margin (evidence.Number two) capacity choice.Absent ≡ whole)
-      × ((p : GridAlignment) → margin (evidence.Number two) four (choice.Placement (evident p minusSix)) ≡ two)
+      ((capacity : Float) (next : Choice) → margin (evidence.Number zeroFloat) capacity next ≡ zeroFloat)
+      × ((capacity : Float) → margin (evidence.Number twoFloat) capacity choice.Absent ≡ oneFloat)
+      × ((p : GridAlignment) → margin (evidence.Number twoFloat) four (choice.Placement (evident p minusSix)) ≡ twoFloat)
   -- null score, side 4: bits C1317218
   pub P10 : toBits binary32 (nullScore 4) ≡ 0xC1317218
   -- P3's board: cells (0, 0), (2, 0) give 44 placements, by the list and by the formula; (0, 0), (4, 0) give 8; (0, 0), (5, 0) is refused 15,
@@ -165,5 +179,7 @@ pub record Table : Type 0 where
       × (numberOf refusal.TranslationWindow ≡ 15)
   -- weights: fraction 0.25 over 0.5 is 0.5; 0.75 over 0.5 is 1; threshold 0 gives 1
   pub P12 :
-      (weight half true quarter ≡ half) × (weight half true threeQuarters ≡ whole)
-      × ((fraction : Float) → weight zero true fraction ≡ whole)
+      (c : BoardMatchConfig)
+      → (weight (overThreshold c half) (border.BlackFraction quarter) ≡ half)
+      × (weight (overThreshold c half) (border.BlackFraction threeQuarters) ≡ oneFloat)
+      × ((fraction : Float) → weight (overThreshold c zeroFloat) (border.BlackFraction fraction) ≡ oneFloat)

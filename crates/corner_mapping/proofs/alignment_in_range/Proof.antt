@@ -7,7 +7,7 @@ use mir.ValLaws.{toZ-ofZ}
 use native.Mathlib.Omega.{arith}
 use borrow.Author.Needs.{needs}
 use borrow.Author.Tests.{not-true, not-false, lt-ltb, le-ltb}
-use Rattle.integers.specs.Distance.{within}
+use Rattle.integers.specs.Distance.{isWithin}
 use Rattle.grid_alignment.specs.declared.GridAlignment.{GridAlignment}
 use Rattle.corner_mapping.specs.Entry.{alignmentAnswer}
 use Rattle.corner_mapping.proofs.alignment_in_range.Statement.{statement}
@@ -15,13 +15,13 @@ use Rattle.corner_mapping.proofs.alignment_in_range.Tie as tie
 
 -- the three tests in order
 module _ (a : GridAlignment) where
-  answered : (t x : Bool) → ltb (a .turn) 4 ≡ t → within 8192 (a .tx) ≡ x → alignmentAnswer a ≡ (t && (x && within 8192 (a .ty)))
-  answered t x e f = ap₂ (λ (p q : Bool). p && (q && within 8192 (a .ty))) e f
+  answered : (t x : Bool) → ltb (a .turn) 4 ≡ t → isWithin 8192 (a .tx) ≡ x → alignmentAnswer a ≡ (t && (x && isWithin 8192 (a .ty)))
+  answered t x e f = ap₂ (λ (p q : Bool). p && (q && isWithin 8192 (a .ty))) e f
 
 returns : tie.Need-returns
 returns c =
     let a = c .before .before .args .alignment in
-    sym (ap (λ (t : Bool). t && (within 8192 (a .tx) && within 8192 (a .ty))) (le-ltb (a .turn) 4 (omega (arith, c .if1 .taken))))
+    sym (ap (λ (t : Bool). t && (isWithin 8192 (a .tx) && isWithin 8192 (a .ty))) (le-ltb (a .turn) 4 (omega (arith, c .if1 .taken))))
 
 -- the test of tx
 module _ (c : tie.After-within) where
@@ -31,8 +31,9 @@ module _ (c : tie.After-within) where
   turn-small : ltb (alignment .turn) 4 ≡ true
   turn-small = lt-ltb (alignment .turn) 4 (omega (arith, c .before .before .if1 .left))
 
-  tx-within : (b : Bool) → c .within .result ≡ b → within 8192 (alignment .tx) ≡ b
-  tx-within b e = ap (within 8192) (sym (toZ-ofZ w32 (alignment .tx) (record { sfits = c .before .struct-told .given .1 .0 .1 }))) ∙ sym (c .within .ensures) ∙ e
+  tx-within : (b : Bool) → c .within .result ≡ b → isWithin 8192 (alignment .tx) ≡ b
+  tx-within b e = ap (isWithin 8192) (sym (toZ-ofZ w32 (alignment .tx) (record { sfits = c .before .struct-told .given .1 .0 .1 })))
+      ∙ sym (c .within .ensures) ∙ e
 
 returns-2 : tie.Need-returns-2
 returns-2 c =
@@ -44,7 +45,7 @@ returns-3 c =
     let t = c .before in
     let w = t .before .before in
     let a = alignment w in
-    c .within2 .ensures ∙ ap (within 8192) (toZ-ofZ w32 (a .ty) (record { sfits = t .struct-told2 .given .1 .1 .0 .1 }))
+    c .within2 .ensures ∙ ap (isWithin 8192) (toZ-ofZ w32 (a .ty) (record { sfits = t .struct-told2 .given .1 .1 .0 .1 }))
     ∙ sym (answered a true true (turn-small w) (tx-within w true (not-false _ (t .before .if2 .left))))
 
 pub alignment-in-range-spec : {M : Type 1} → statement M

@@ -3,12 +3,14 @@ use mathlib.Core.Path.{_≡_, sym, ap, _∙_}
 use mathlib.Core.Bool.{Bool, _&&_}
 use borrow.Author.Needs.{needs}
 use borrow.Author.Tests.{not-true, not-false}
-use Rattle.corner_mapping.specs.Entry.{alignmentAnswer, rangeAnswer}
+use Rattle.corner_mapping.specs.Entry.{alignmentAnswer, cornerRangeAnswer}
 use Rattle.corner_mapping.proofs.in_range.Statement.{statement}
 use Rattle.corner_mapping.proofs.in_range.Tie as tie
 
 -- by the answer for the corners
-answered : (c : tie.After-corners-in-range) (b : Bool) → c .corners-in-range .result ≡ b → rangeAnswer (c .before .before .args .scores .now) (c .before .before .args .grid .now) (c .before .before .args .alignment) ≡ (b && alignmentAnswer (c .before .before .args .alignment))
+answered : (c : tie.After-corners-in-range) (b : Bool) → c .corners-in-range .result ≡ b
+    → cornerRangeAnswer (c .before .before .args .scores .now) (c .before .before .args .grid .now) (c .before .before .args .alignment)
+    ≡ (b && alignmentAnswer (c .before .before .args .alignment))
 answered c b e = ap (λ (d : Bool). d && alignmentAnswer (c .before .before .args .alignment)) (sym (c .corners-in-range .ensures) ∙ e)
 
 returns : tie.Need-returns

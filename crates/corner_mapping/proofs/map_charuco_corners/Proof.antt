@@ -29,23 +29,18 @@ returns c =
     let m = c .before .before in
     let k = m .before .before in
     let x = start k .args in
-    on-board (x .spec) (x .codes .now) (x .scores .now) (x .grid .now) (x .alignment) (x .corners .now) (board k) (m .map-onto .result) (m .map-onto .last .1 .1 .1 .1 .0) (made k) (m .map-onto .ensures .0) (m .map-onto .ensures .1)
+    on-board (x .spec) (x .codes .now) (x .scores .now) (x .grid .now) (x .alignment) (x .corners .now) (board k) (m .map-onto .result)
+    (m .map-onto .last .1 .1 .1 .1 .0) (made k) (m .map-onto .ensures .0) (m .map-onto .ensures .1)
 
 returns-2 : tie.Need-returns-2
 returns-2 c =
     let m = c .before in
     let n = m .before .before in
     let x = n .before .before .before .before .args in
-    no-board (x .spec) (x .codes .now) (x .scores .now) (x .grid .now) (x .alignment) (x .corners .now) (m .made2 .given .0 .0) (sym (n .new .ensures) ∙ m .made2 .given .1)
+    no-board (x .spec) (x .codes .now) (x .scores .now) (x .grid .now) (x .alignment) (x .corners .now) (m .made2 .given .0 .0)
+    (sym (n .new .ensures) ∙ m .made2 .given .1)
 
 pub map-charuco-corners-spec : {M : Type 1} → statement M
 map-charuco-corners-spec =
-    tie.close
-    (tie.spec
-    (λ c κs. search needs)
-    (λ c. search needs)
-    map-onto-requires
-    (λ c. search needs)
-    (λ c. search needs)
-    returns
+    tie.close (tie.spec (λ c κs. search needs) (λ c. search needs) map-onto-requires (λ c. search needs) (λ c. search needs) returns
     returns-2)

@@ -9,7 +9,7 @@ use borrow.Author.Needs.{needs}
 use borrow.Author.Tests.{not-true, not-false, lt-leb, le-leb}
 use Rattle.refusal.specs.declared.Refusal.the-variants as refusal
 use Rattle.corner_mapping.specs.Corners.{Input}
-use Rattle.corner_mapping.specs.Entry.{rangeAnswer, input}
+use Rattle.corner_mapping.specs.Entry.{cornerRangeAnswer, input}
 use Rattle.corner_mapping.proofs.Ids.{few-corners}
 use Rattle.corner_mapping.proofs.Answered.{count, ranged, asked, refused, mapped-all}
 use Rattle.corner_mapping.proofs.map_onto.Statement.{statement}
@@ -36,7 +36,7 @@ module _ (c : tie.After-corner-count) where
   abbrev start : tie.Start
   start = c .before .before .before .before .before
 
-  in-range : rangeAnswer (start .args .scores .now) (start .args .grid .now) (start .args .alignment) ≡ true
+  in-range : cornerRangeAnswer (start .args .scores .now) (start .args .grid .now) (start .args .alignment) ≡ true
   in-range = sym (c .before .before .in-range .ensures) ∙ not-false _ (c .before .if1 .left)
 
   counted : c .corner-count .result ≡ count (from start)
@@ -57,8 +57,8 @@ module _ (c : tie.Else2) where
 choose-requires : tie.Need-choose-requires
 choose-requires c κs = let s = start (c .before) in ranged (from s) (s .pre .0) (s .pre .1) (in-range (c .before))
 
-write-all-requires : tie.Need-write-all-requires
-write-all-requires c κs = let e = c .before .before .before in (omega (arith, few (start (e .before))), enough e)
+put-all-requires : tie.Need-put-all-requires
+put-all-requires c κs = let e = c .before .before .before in (omega (arith, few (start (e .before))), enough e)
 
 returns-3 : tie.Need-returns-3
 returns-3 c =
@@ -66,23 +66,14 @@ returns-3 c =
     let h = w .before .before .before in
     let e = h .before in
     let s = start (e .before) in
-    mapped-all (from s) (lent s) (w .write-all .result) (h .choose .result) (w .write-all .last .1 .1 .0)
+    mapped-all (from s) (lent s) (w .put-all .result) (h .choose .result) (w .put-all .last .1 .1 .0)
     (asked (from s) (lent s) true true (in-range (e .before)) (le-leb (6 * count (from s)) (length (lent s)) (enough e)))
+    (enough e)
     (omega (arith, few s))
     (h .choose .ensures)
-    (w .write-all .ensures)
+    (w .put-all .ensures)
 
 pub map-onto-spec : {M : Type 1} → statement M
 map-onto-spec =
-    tie.close
-    (tie.spec
-    (λ c κs. search needs)
-    returns
-    (λ c κs. search needs)
-    (λ c. search needs)
-    (λ c. search needs)
-    returns-2
-    choose-requires
-    write-all-requires
-    (λ c. search needs)
-    returns-3)
+    tie.close (tie.spec (λ c κs. search needs) returns (λ c κs. search needs) (λ c. search needs) (λ c. search needs) returns-2
+    choose-requires put-all-requires (λ c. search needs) returns-3)

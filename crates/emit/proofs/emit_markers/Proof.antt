@@ -1,109 +1,113 @@
--- `emit::emit_markers` meets its contract. The loop's invariant: the markers of the first k cells are written. Assumes nothing.
-use mathlib.Core.Path.{_≡_, subst}
-use Prim.Native.Nat.{ℕ, _+_, _-_, _*_, _≤_, _<_}
+-- `emit::emit_markers` meets its contract. The loop's invariant: the words of what the first k cells emit are put. Assumes nothing.
+use mathlib.Core.Path.{_≡_, sym, ap, subst, _∙_}
+use mathlib.Core.List.{List, flatMap}
+use Prim.Native.Nat.{ℕ, _+_, _-_, _*_, _/_, _≤_, _<_}
 use native.Mathlib.Omega.{arith}
 use lib.ListN.{length}
-use Rattle.shot_record.specs.Fields.{cellCount}
-use Rattle.shot_record.specs.Shots.{shot}
+use borrow.Author.Needs.{needs}
+use Rattle.lent_list.specs.Front.{upTo, Put}
+use Rattle.lent_list.proofs.Front.{put-as, put-front}
+use Rattle.lent_list.proofs.Loops.{none-to, to-length, to-room, to-more}
+use Rattle.shot_record.specs.Shots.{Shot, shot}
 use Rattle.shot_record.proofs.Reading.{found}
 use Rattle.shot_record.proofs.CellReads.{cell-count}
 use Rattle.hypothesis.specs.Placements.{cellTotal}
-use Rattle.emit.proofs.Writing.{Behind, none-yet, one-more, same-places, all-written}
+use Rattle.emit.specs.Markers.{Marker, emitted, markers, markerWords}
+use Rattle.emit.specs.Candidates.{OfCell, emittedFor}
+use Rattle.emit.proofs.Reading.{same-emitted, of-cell}
+use Rattle.emit.proofs.Laws.{all-words, one-per-cell}
 use Rattle.emit.proofs.emit_markers.Statement.{statement}
 use Rattle.emit.proofs.emit_markers.Tie as tie
 
 abbrev Inv-loop : tie.InvT-loop
-Inv-loop bytes f starts codes table board config alignment markers₀ n₀ k₀ markers n k =
-    (k ≤ cellCount bytes) × Behind (shot bytes) alignment k markers₀ markers n
+Inv-loop bytes inputs starts table codes alignment list₀ count at₀ k₀ list at k =
+    (k ≤ cellTotal (shot bytes)) × Put list₀ list 0 at (flatMap markerWords (upTo (emitted (shot bytes) alignment) k))
 
 abbrev μ-loop : tie.MeasureT-loop
-μ-loop bytes f starts codes table board config alignment markers₀ n₀ k₀ markers n k = cellCount bytes - k
+μ-loop bytes inputs starts table codes alignment list₀ count at₀ k₀ list at k = count - k
+
+module _ (s : tie.Start Inv-loop μ-loop) where
+  abbrev shown : Shot
+  shown = shot (s .args .bytes .now)
+
+  abbrev here : ℕ → List Marker
+  here = emitted shown (s .args .alignment)
+
+  abbrev lent : List ℕ
+  lent = s .args .markers .now
+
+  -- for the markers of all cells
+  room : 0 + length (flatMap markerWords (upTo here (cellTotal shown))) ≤ length lent
+  room = omega (arith, all-words (markers shown (s .args .alignment)), one-per-cell shown (s .args .alignment), s .pre .1)
+
+  counted : s .args .inputs .fields .«cell_count» ≡ cellTotal shown
+  counted = found (s .args .inputs .fields) (s .args .bytes .now) (s .pre .0 .0 .ready .index .0) .cell-count ∙ sym (cell-count (s .args .bytes .now))
 
 loop-holds : tie.Need-loop-holds Inv-loop μ-loop
-loop-holds c = let x = c .before .before .args in (omega arith, none-yet (shot (x .bytes .now)) (x .alignment) (x .markers .now))
-
--- how many cells there are, as the code has it
-counted : (s : tie.Start Inv-loop μ-loop) → s .args .f .«cell_count» ≡ cellCount (s .args .bytes .now)
-counted s = found (s .args .f) (s .args .bytes .now) (s .pre .0 .0 .indexed .0) .cell-count
+loop-holds c = let s = c .before .before .before in (omega arith, none-to markerWords (here s) (lent s) 0 (cellTotal (shown s)) (room s))
 
 -- in the loop
-module _ (c : tie.Then1 Inv-loop μ-loop) where
+module _ (c : tie.In-loop Inv-loop μ-loop) where
   abbrev start : tie.Start Inv-loop μ-loop
   start = c .before .before .before .before .before
 
-  abbrev cells : ℕ
-  cells = cellCount (start .args .bytes .now)
-
   abbrev k : ℕ
-  k = c .before .before .loop .k
+  k = c .before .loop .k
 
-  abbrev n : ℕ
-  n = c .before .before .loop .n
+  inside : k < cellTotal (shown start)
+  inside = omega (arith, c .loop-test .taken, counted start)
 
-  inside : k < cells
-  inside = omega (arith, c .if1 .taken, counted start)
+expected-in-requires : tie.Need-expected-in-requires Inv-loop μ-loop
+expected-in-requires c κs =
+    let h = start c .pre .0 in (h .0 .ready, h .0 .codes-are, h .1, inside c)
 
-  few : n ≤ k
-  few = c .before .before .loop .inv .1 .few
+-- what the cell emits
+module _ (c : tie.After-expected-in Inv-loop μ-loop) where
+  emits : emittedFor (shown (start (c .before))) (c .expected-in .result) ≡ here (start (c .before)) (k (c .before))
+  emits =
+      let s = start (c .before) in
+      ap (emittedFor (shown s)) (c .expected-in .ensures) ∙ same-emitted (shown s) (s .args .alignment) (k (c .before))
 
-  room : 18 * n + 18 ≤ length (start .args .markers .now)
-  room = omega (arith, few, inside, start .pre .1)
-
-  long : length (c .before .before .loop .markers) ≡ length (start .args .markers .now)
-  long =
-      let x = start .args in
-      same-places (shot (x .bytes .now)) (x .alignment) (x .markers .now) k n (c .before .before .loop .markers) (omega (arith, room)) (c .before .before .loop .inv .1)
-
-emit-cell-requires : tie.Need-emit-cell-requires Inv-loop μ-loop
-emit-cell-requires c κs =
-    let l = c .before in
-    let s = start l in (
-      (s .pre .0 .0, s .pre .0 .1, s .pre .0 .2, inside l),
-      (omega (arith, few l, inside l, s .pre .0 .0 .cells), rw (long l) (room l)),
+emit-expected-requires : tie.Need-emit-expected-requires Inv-loop μ-loop
+emit-expected-requires c κs =
+    let e = c .before in
+    let l = e .before in
+    let s = start l in
+    let h = s .pre .0 .0 in
+    let i = l .before .loop .inv in (
+      (h .ready, h .table-is, subst (OfCell (shown s)) (sym (e .expected-in .ensures)) (of-cell (shown s) (s .args .alignment) (k l) (inside l))),
+      fits _ _ (emits e) (l .before .loop .at) (l .before .loop .markers)
+          (to-room markerWords (here s) (lent s) 0 (cellTotal (shown s)) (room s) (k l) (i .1) (inside l)),
     )
-
-add-k : tie.Need-add-k Inv-loop μ-loop
-add-k c = let l = c .before .before .before .before in record { fits = omega (arith, inside l, start l .pre .0 .0 .cells) }
-
-loop-less : tie.Need-loop-less Inv-loop μ-loop
-loop-less c = let l = c .before .before .before .before in omega (arith, inside l)
+  where
+    fits : (ms ns : List Marker) → ms ≡ ns → (at : ℕ) (l : List ℕ) → at + length (flatMap markerWords ns) ≤ length l
+        → at + length (flatMap markerWords ms) ≤ length l
+    fits ms ns e at l h = rw e h
 
 loop-again : tie.Need-loop-again Inv-loop μ-loop
 loop-again c =
     let e = c .before .before in
-    let l = e .before .before in
-    let x = start l .args in (
-      omega (arith, inside l),
-      one-more (shot (x .bytes .now)) (x .alignment) (x .markers .now) (k l) (n l) (e .emit-cell .result) (l .before .before .loop .markers) _ (l .before .before .loop .inv .1) (e .emit-cell .ensures),
-    )
+    let x = e .before .before in
+    let l = x .before in
+    let s = start l in
+    let put = put-as (ap (flatMap markerWords) (emits x)) (e .emit-expected .ensures) in
+    (omega (arith, inside l), to-more markerWords (here s) (lent s) 0 (cellTotal (shown s)) (room s) (k l) (l .before .loop .inv .1) put)
 
 same-length : tie.Need-same-length Inv-loop μ-loop
 same-length c =
-    let l = c .before .before in
-    let s = l .before .before .before in
-    let i = l .loop .inv in
-    same-places (shot (s .args .bytes .now)) (s .args .alignment) (s .args .markers .now) (l .loop .k) (l .loop .n) (l .loop .markers) (omega (arith, i .0, i .1 .few, s .pre .1)) (i .1)
+    let l = c .before in
+    let s = l .before .before .before .before in
+    to-length markerWords (here s) (lent s) 0 (cellTotal (shown s)) (room s) (l .loop .k) (l .loop .inv .1) (l .loop .inv .0)
 
 returns : tie.Need-returns Inv-loop μ-loop
 returns c =
-    let l = c .before .before in
-    let s = l .before .before .before in
-    let x = s .args in
-    let shown = shot (x .bytes .now) in
-    let all : l .loop .k ≡ cellTotal shown = omega (arith, c .if1 .left, counted s, l .loop .inv .0, cell-count (x .bytes .now)) in
-    all-written shown (x .alignment) (x .markers .now) (l .loop .n) (l .loop .markers)
-    (subst (λ (j : ℕ). Behind shown (x .alignment) j (x .markers .now) (l .loop .markers) (l .loop .n)) all (l .loop .inv .1))
+    let l = c .before in
+    let s = l .before .before .before .before in
+    let all : l .loop .k ≡ cellTotal (shown s) = omega (arith, c .loop-test .left, counted s, l .loop .inv .0) in
+    let p = put-as (ap (λ (j : ℕ). flatMap markerWords (upTo (here s) j)) all) (l .loop .inv .1) in
+    (omega (arith, p .end, all-words (markers (shown s) (s .args .alignment))), put-front (omega (arith, p .end, room s)) p)
 
 pub emit-markers-spec : {M : Type 1} → statement M
 emit-markers-spec =
-    tie.close
-    (tie.spec
-    Inv-loop
-    μ-loop
-    loop-holds
-    emit-cell-requires
-    add-k
-    loop-less
-    loop-again
-    same-length
-    returns)
+    tie.close (tie.spec Inv-loop μ-loop loop-holds expected-in-requires emit-expected-requires (λ c. search needs) (λ c. search needs)
+    loop-again same-length returns)

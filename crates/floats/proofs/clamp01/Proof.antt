@@ -2,17 +2,17 @@
 use mathlib.Core.Path.{_≡_, refl}
 use mathlib.Core.Bool.{Bool, true, false, cond}
 use lib.Ieee.{Float, lt, ofBits, ofFields, odd}
-use Rattle.floats.specs.Units.{nought, one, clamp01}
+use Rattle.floats.specs.Units.{nought, unity, clamp01}
 use Rattle.floats.proofs.clamp01.Statement.{statement}
 use Rattle.floats.proofs.clamp01.Tie as tie
 
 -- by the outcomes of the two tests
-clamped : (x : Float) (a b : Bool) → lt x nought ≡ a → lt one x ≡ b → cond a nought (cond b one x) ≡ clamp01 x
+clamped : (x : Float) (a b : Bool) → lt x nought ≡ a → lt unity x ≡ b → cond a nought (cond b unity x) ≡ clamp01 x
 clamped x a b p q = rw (p, q)
 
 returns : tie.Need-returns
 unfolding ofBits ofFields odd
-returns c = let x = c .before .args .x in clamped x true (lt one x) (c .if1 .taken) refl
+returns c = let x = c .before .args .x in clamped x true (lt unity x) (c .if1 .taken) refl
 
 returns-2 : tie.Need-returns-2
 unfolding ofBits ofFields odd

@@ -22,7 +22,8 @@ nought-by-nought = refl
 returns : tie.Need-returns
 returns c =
     nought-by-nought
-    ∙ only-nan (ofBits binary32 (c .before .before .args .bits)) (sym (nanBits-is binary32 (c .before .before .args .bits)) ∙ sym (c .before .is-nan-pattern .ensures) ∙ c .if1 .taken)
+    ∙ only-nan (ofBits binary32 (c .before .before .args .bits))
+    (sym (nanBits-is binary32 (c .before .before .args .bits)) ∙ sym (c .before .is-nan-pattern .ensures) ∙ c .if1 .taken)
 
 float-from-bits-result : tie.Need-float-from-bits-result
 float-from-bits-result c = subst (λ (b : Bool). T (not b)) (sym (c .if1 .left) ∙ c .before .is-nan-pattern .ensures) tt

@@ -47,15 +47,7 @@ returns-4 c =
 
 pub rotate-gc-top-left-spec : {M : Type 1} → statement M
 rotate-gc-top-left-spec =
-    tie.close
-    (tie.spec
-    (λ c. widened-fits (c .args .u) (c .fits .u))
-    (λ c. widened-fits (c .args .v) (c .fits .v))
-    (λ c. next (c .before .args .u) (c .before .fits .u) .fits)
-    (λ c. next (c .before .args .u) (c .before .fits .u) .fits)
-    (λ c. next (c .before .args .v) (c .before .fits .v) .fits)
-    (λ c. next (c .before .args .v) (c .before .fits .v) .fits)
-    returns
-    returns-2
-    returns-3
-    returns-4)
+    tie.close (tie.spec (λ c. widened-fits (c .args .u) (c .fits .u)) (λ c. widened-fits (c .args .v) (c .fits .v))
+    (λ c. next (c .before .args .u) (c .before .fits .u) .fits) (λ c. next (c .before .args .u) (c .before .fits .u) .fits)
+    (λ c. next (c .before .args .v) (c .before .fits .v) .fits) (λ c. next (c .before .args .v) (c .before .fits .v) .fits) returns
+    returns-2 returns-3 returns-4)

@@ -1,6 +1,6 @@
 -- `grid_alignment::turned` meets its contract: the entries of a turn's matrix are small factors. Assumes nothing.
 use mathlib.Core.Path.{_≡_, sym, ap₂, _∙_, subst}
-use Prim.Native.Nat.{_%_, _^_, _<_}
+use Prim.Native.Nat.{_^_, _<_}
 use lib.IntN.{ℤ}
 use lib.Signed.{mag}
 use mir.Syntax.{w16, w32}
@@ -13,7 +13,7 @@ use Rattle.grid_alignment.proofs.turned.Statement.{statement}
 use Rattle.grid_alignment.proofs.turned.Tie as tie
 
 small : (c : tie.After-turn-matrix) → Small (c .turn-matrix .result)
-small c = subst Small (sym (c .turn-matrix .ensures)) (entries-small (c .before .args .turn % 4))
+small c = subst Small (sym (c .turn-matrix .ensures)) (entries-small (c .before .args .turn))
 
 -- a call's result
 read-back : (z : ℤ) → mag z < 2 ^ 31 → word z ≡ z
@@ -29,13 +29,9 @@ returns c =
     let v = toZ-ofZ w16 (start .args .v) (start .fits .v) in
     ap₂ point (read-back (one .result) (one .ok) ∙ one .ensures) (read-back (two .result) (two .ok) ∙ two .ensures)
     ∙ (λ i. combined (matrix .turn-matrix .ensures i) (u i) (v i))
-    ∙ combined-is (start .args .turn % 4) (start .args .u) (start .args .v)
+    ∙ combined-is (start .args .turn) (start .args .u) (start .args .v)
 
 pub turned-spec : {M : Type 1} → statement M
 turned-spec =
-    tie.close
-    (tie.spec
-    (λ c κs. search needs)
-    (λ c κs. small (c .before .before) .0)
-    (λ c κs. small (c .before .before .before .before .before) .1)
-    returns)
+    tie.close (tie.spec (λ c κs. search needs) (λ c κs. small (c .before .before) .0)
+    (λ c κs. small (c .before .before .before .before .before) .1) returns)

@@ -23,17 +23,24 @@ module _ (a x : ℤ) (fa : SFits w32 a) (h : natAbs a ≤ 1) (fx : SFits w16 x) 
   product-fits = subst (SFits w32) (sym product) (small-fits (a *ℤ x) (omega (arith, size)))
 
 module _ (c : tie.Start) where
-  sum : word (word (c .args .a) *ℤ word (half (c .args .x))) +ℤ word (word (c .args .b) *ℤ word (half (c .args .y))) ≡ c .args .a *ℤ c .args .x +ℤ c .args .b *ℤ c .args .y
+  sum : word (word (c .args .a) *ℤ word (half (c .args .x))) +ℤ word (word (c .args .b) *ℤ word (half (c .args .y)))
+      ≡ c .args .a *ℤ c .args .x +ℤ c .args .b *ℤ c .args .y
   sum =
       let f = c .fits in
       ap₂ _+ℤ_
-      (word-is (c .args .a *ℤ c .args .x) (product (c .args .a) (c .args .x) (f .a) (c .pre .0) (f .x)) (omega (arith, size (c .args .a) (c .args .x) (f .a) (c .pre .0) (f .x))))
-      (word-is (c .args .b *ℤ c .args .y) (product (c .args .b) (c .args .y) (f .b) (c .pre .1) (f .y)) (omega (arith, size (c .args .b) (c .args .y) (f .b) (c .pre .1) (f .y))))
+      (word-is (c .args .a *ℤ c .args .x) (product (c .args .a) (c .args .x) (f .a) (c .pre .0) (f .x))
+      (omega (arith, size (c .args .a) (c .args .x) (f .a) (c .pre .0) (f .x))))
+      (word-is (c .args .b *ℤ c .args .y) (product (c .args .b) (c .args .y) (f .b) (c .pre .1) (f .y))
+      (omega (arith, size (c .args .b) (c .args .y) (f .b) (c .pre .1) (f .y))))
 
   sum-small : natAbs (c .args .a *ℤ c .args .x +ℤ c .args .b *ℤ c .args .y) < 2 ^ 31
   sum-small =
-      omega
-      (arith, abs-add (c .args .a *ℤ c .args .x) (c .args .b *ℤ c .args .y), size (c .args .a) (c .args .x) (c .fits .a) (c .pre .0) (c .fits .x), size (c .args .b) (c .args .y) (c .fits .b) (c .pre .1) (c .fits .y))
+      omega (
+        arith,
+        abs-add (c .args .a *ℤ c .args .x) (c .args .b *ℤ c .args .y),
+        size (c .args .a) (c .args .x) (c .fits .a) (c .pre .0) (c .fits .x),
+        size (c .args .b) (c .args .y) (c .fits .b) (c .pre .1) (c .fits .y),
+      )
 
 cast-result : tie.Need-cast-result
 cast-result c = widened-fits (c .args .x) (c .fits .x)

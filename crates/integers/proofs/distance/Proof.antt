@@ -38,7 +38,8 @@ module _ (c : tie.Start) where
   less : Exact _-ℤ_ (c .args .x) (c .args .y) d
   less =
       let p = c .pre in
-      exact-op _-ℤ_ abs-sub (c .args .x) (c .args .y) (word-is (c .args .x) refl (omega (arith, p .0))) (word-is (c .args .y) refl (omega (arith, p .1))) (omega (arith, p .0, p .1))
+      exact-op _-ℤ_ abs-sub (c .args .x) (c .args .y) (word-is (c .args .x) refl (omega (arith, p .0)))
+      (word-is (c .args .y) refl (omega (arith, p .1))) (omega (arith, p .0, p .1))
 
   small : natAbs d < 2 ^ 31
   small = omega (arith, abs-sub (c .args .x) (c .args .y), c .pre .0, c .pre .1)
@@ -56,13 +57,15 @@ turned : (c : tie.Start) → word (pos 0 -ℤ word (word (c .args .x) -ℤ word 
 turned c = word-is (pos 0 -ℤ d c) (ap (λ (z : ℤ). pos 0 -ℤ z) (less c .reads)) (back c)
 
 cast-result : tie.Need-cast-result
-cast-result c = let s = c .before in opposite (d s) (word (pos 0 -ℤ word (word (s .args .x) -ℤ word (s .args .y)))) (turned s) (rw (less s .reads) at (c .if1 .taken)) (small s)
+cast-result c = let s = c .before in opposite (d s) (word (pos 0 -ℤ word (word (s .args .x) -ℤ word (s .args .y)))) (turned s)
+    (rw (less s .reads) at (c .if1 .taken)) (small s)
 
 returns : tie.Need-returns
 returns c = let s = c .before in ap natAbs (turned s) ∙ size-opposite (d s)
 
 cast-result-2 : tie.Need-cast-result-2
-cast-result-2 c = let s = c .before in own (d s) (word (word (s .args .x) -ℤ word (s .args .y))) (less s .reads) (rw (less s .reads) at (c .if1 .left)) (small s)
+cast-result-2 c = let s = c .before in own (d s) (word (word (s .args .x) -ℤ word (s .args .y))) (less s .reads)
+    (rw (less s .reads) at (c .if1 .left)) (small s)
 
 returns-2 : tie.Need-returns-2
 returns-2 c = ap natAbs (less (c .before) .reads)

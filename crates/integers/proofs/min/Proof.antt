@@ -10,7 +10,8 @@ use Rattle.integers.proofs.min.Statement.{statement}
 use Rattle.integers.proofs.min.Tie as tie
 
 -- by the outcome of the test on the bits, z is the lesser
-lesser : (x y z : ℤ) (b : Bool) → SFits w32 x → SFits w32 y → SFits w32 z → leZ (toZ w32 (ofZ w32 x)) (toZ w32 (ofZ w32 y)) ≡ b → cond b x y ≡ z → toZ w32 (ofZ w32 z) ≡ cond (leZ x y) x y
+lesser : (x y z : ℤ) (b : Bool) → SFits w32 x → SFits w32 y → SFits w32 z → leZ (toZ w32 (ofZ w32 x)) (toZ w32 (ofZ w32 y)) ≡ b → cond b x y ≡ z
+    → toZ w32 (ofZ w32 z) ≡ cond (leZ x y) x y
 lesser x y z b fx fy fz t e =
     toZ-ofZ w32 z fz ∙ sym (ap (λ (c : Bool). cond c x y) (sym (ap₂ leZ (toZ-ofZ w32 x fx) (toZ-ofZ w32 y fy)) ∙ t) ∙ e)
 

@@ -30,7 +30,8 @@ returns-2 : tie.Need-returns-2
 returns-2 c =
     let k = c .before .before in
     let x = start k .args in
-    too-short (x .spec) (x .codes .now) (x .mode) (x .links .now) (x .violations .now) (board k) (made k) (le-leb _ _ (c .before .if1 .left)) (lt-leb _ _ (c .if2 .taken))
+    too-short (x .spec) (x .codes .now) (x .mode) (x .links .now) (x .violations .now) (board k) (made k) (le-leb _ _ (c .before .if1 .left))
+    (lt-leb _ _ (c .if2 .taken))
 
 returns-3 : tie.Need-returns-3
 returns-3 c =
@@ -45,19 +46,10 @@ returns-4 c =
     let two = p .before .before in
     let k = two .before .before in
     let x = start k .args in
-    all-checked (x .spec) (x .codes .now) (x .mode) (x .links .now) (x .violations .now) (board k) (made k) _ (p .check .result) (le-leb _ _ (two .before .if1 .left)) (le-leb _ _ (two .if2 .left)) (p .check .ensures)
+    all-checked (x .spec) (x .codes .now) (x .mode) (x .links .now) (x .violations .now) (board k) (made k) _ (p .check .result)
+    (le-leb _ _ (two .before .if1 .left)) (le-leb _ _ (two .if2 .left)) (p .check .ensures)
 
 pub validate-marker-corner-links-spec : {M : Type 1} → statement M
 validate-marker-corner-links-spec =
-    tie.close
-    (tie.spec
-    (λ c κs. search needs)
-    (λ c. search needs)
-    (λ c. search needs)
-    returns
-    (λ c. search needs)
-    returns-2
-    (λ c κs. search needs)
-    returns-3
-    (λ c. search needs)
-    returns-4)
+    tie.close (tie.spec (λ c κs. search needs) (λ c. search needs) (λ c. search needs) returns (λ c. search needs) returns-2
+    (λ c κs. search needs) returns-3 (λ c. search needs) returns-4)

@@ -2,17 +2,17 @@
 use mathlib.Core.Path.{_≡_, refl, sym, ap, ap₂, _∙_}
 use mathlib.Core.Bool.{Bool, true, false, _&&_}
 use mathlib.Core.List.{List}
-use Prim.Native.Nat.{ℕ}
+use Prim.Native.Nat.{ℕ, _*_, _≤_}
 use native.Mathlib.Omega.{arith}
 use lib.IntN.{ℤ}
 use lib.ListN.{length}
+use lib.Seq.{length-take-le}
 use lib.Ieee.{Float}
 use lib.Dec.{leb}
 use borrow.Author.Needs.{needs}
 use borrow.Author.Tests.{not-true, not-false, lt-leb, le-leb}
 use Rattle.refusal.specs.declared.Refusal.the-variants as refusal
 use Rattle.marker_sampling.specs.Entry.{corners, cornersAnswer, cellsOf}
-use Rattle.marker_sampling.specs.Keys.{Collected}
 use Rattle.marker_sampling.proofs.Searched.{searchable}
 use Rattle.marker_sampling.proofs.Answered.{placed-corners, asked, refused, found-all}
 use Rattle.marker_sampling.proofs.build_marker_cells.Statement.{statement}
@@ -82,21 +82,33 @@ collect-requires c κs =
     let p = placed-corners (scores (entry e)) (grid (entry e)) (ranged (e .before .before)) in
     (searchable (e .before .if2 .left) (p .0) (m .build-corner-map .ensures), refl)
 
--- what the walk found
-module _ (c : tie.After-collect) where
-  abbrev asked-all : tie.Else3
-  asked-all = c .before .before .before .before
-
-  collected : Collected 4096 (corners (scores (entry asked-all)) (grid (entry asked-all))) (inliers (entry asked-all)) 67125249 (c .collect .last .1 .1 .0) (c .collect .result)
-  collected = c .collect .ensures (corners (scores (entry asked-all)) (grid (entry asked-all))) (c .before .before .before .build-corner-map .ensures)
+abbrev asked-all : tie.After-collect → tie.Else3
+asked-all c = c .before .before .before .before
 
 returns-4 : tie.Need-returns-4
 returns-4 c =
     let w = c .before .before in
     let e = asked-all w in
     let s = entry e in
+    let found = w .collect .ensures (corners (scores s) (grid s)) (w .before .before .before .build-corner-map .ensures) in
     refused (scores s) (grid s) (inliers s) (lent s) refusal.TooManyCells
-    (asked (scores s) (grid s) (inliers s) (lent s) true true false (all-ranged (e .before)) (enough e) (lt-leb (length (cellsOf (scores s) (grid s) (inliers s))) 256 (omega (arith, collected w .count, c .if4 .taken))))
+    (asked (scores s) (grid s) (inliers s) (lent s) true true false (all-ranged (e .before)) (enough e)
+    (lt-leb (length (cellsOf (scores s) (grid s) (inliers s))) 256 (omega (arith, found .count, c .if4 .taken))))
+
+-- at most 256 cells: their words fit
+few : (c : tie.Else4) → 6 * c .before .before .collect .result ≤ length (c .before .before .collect .last .1 .1 .0)
+few c =
+    let w = c .before .before in
+    let long : length (w .collect .last .1 .1 .0) ≡ 1536 = w .collect .kept .1 .1 .0 in
+    omega (arith, c .if4 .left, long)
+
+slice-aggregate-put-signed : tie.Need-slice-aggregate-put-signed
+slice-aggregate-put-signed c = sym (length-take-le _ _ (few (c .before .before)))
+
+put-signed-requires : tie.Need-put-signed-requires
+put-signed-requires c κs =
+    let e = asked-all (c .before .before .before .before) in
+    omega (arith, slice-aggregate-put-signed c, c .before .before .if4 .left, e .if3 .left)
 
 returns-5 : tie.Need-returns-5
 returns-5 c =
@@ -105,24 +117,17 @@ returns-5 c =
     let w = t .before .before in
     let e = asked-all w in
     let s = entry e in
-    found-all (scores s) (grid s) (inliers s) (lent s) (w .collect .result) (w .collect .last .1 .1 .0) (k .copy .last .1 .1 .0)
-    (asked (scores s) (grid s) (inliers s) (lent s) true true true (all-ranged (e .before)) (enough e) (le-leb (length (cellsOf (scores s) (grid s) (inliers s))) 256 (omega (arith, collected w .count, t .if4 .left))))
-    (t .if4 .left) (collected w) (k .copy .ensures)
+    let found = w .collect .ensures (corners (scores s) (grid s)) (w .before .before .before .build-corner-map .ensures) in
+    found-all (scores s) (grid s) (inliers s) (lent s) (w .collect .result)
+    (asked (scores s) (grid s) (inliers s) (lent s) true true true (all-ranged (e .before)) (enough e)
+    (le-leb (length (cellsOf (scores s) (grid s) (inliers s))) 256 (omega (arith, found .count, t .if4 .left))))
+    (e .if3 .left)
+    (t .if4 .left)
+    refl
+    found
+    (k .put-signed .ensures)
 
 pub build-marker-cells-spec : {M : Type 1} → statement M
 build-marker-cells-spec =
-    tie.close
-    (tie.spec
-    (λ c κs. search needs)
-    returns
-    returns-2
-    returns-3
-    build-corner-map-requires
-    (λ c. search needs)
-    collect-requires
-    returns-4
-    (λ c. search needs)
-    (λ c. search needs)
-    (λ c κs. search needs)
-    (λ c. search needs)
-    returns-5)
+    tie.close (tie.spec (λ c κs. search needs) returns returns-2 returns-3 build-corner-map-requires (λ c. search needs) collect-requires
+    returns-4 (λ c. search needs) (λ c. few (c .before)) slice-aggregate-put-signed put-signed-requires (λ c. search needs) returns-5)

@@ -100,20 +100,5 @@ returns c =
 
 pub with-row-spec : {M : Type 1} → statement M
 with-row-spec =
-    tie.close
-    (tie.spec
-    Inv-loop
-    μ-loop
-    loop-holds
-    source-place-requires
-    mul-sum
-    add-sum
-    shr-sum
-    mul-sum-2
-    add-sum-2
-    shl-sum
-    add-sum-3
-    add-x
-    loop-less
-    loop-again
-    returns)
+    tie.close (tie.spec Inv-loop μ-loop loop-holds source-place-requires mul-sum add-sum shr-sum mul-sum-2 add-sum-2 shl-sum add-sum-3 add-x
+    loop-less loop-again returns)

@@ -14,7 +14,7 @@ returns c =
     c .id-word .ensures
     ∙ ap idWord
     (c .before .charuco-corner-id-from-board-corner .ensures
-    ∙ (λ k. cornerAt (b .0 k) (b .1 k) (toZ-ofZ w32 (s .args .i) (s .fits .i) k) (toZ-ofZ w32 (s .args .j) (s .fits .j) k)))
+    ∙ (λ k. cornerAt (b k .rows) (b k .cols) (toZ-ofZ w32 (s .args .i) (s .fits .i) k) (toZ-ofZ w32 (s .args .j) (s .fits .j) k)))
 
 pub oracle-corner-id-spec : {M : Type 1} → statement M
 oracle-corner-id-spec = tie.close (tie.spec (λ c κs. tt) (λ c κs. tt) (λ c κs. tt) returns)

@@ -25,10 +25,5 @@ returns c =
 
 pub oracle-corner-translation-spec : {M : Type 1} → statement M
 oracle-corner-translation-spec =
-    tie.close
-    (tie.spec
-    (λ c. widened-fits (c .args .tx) (c .fits .tx))
-    (λ c. widened-fits (c .args .ty) (c .fits .ty))
-    (λ c κs. omega (arith, widened-small (c .args .tx) (c .fits .tx), widened-small (c .args .ty) (c .fits .ty)))
-    (λ c κs. tt)
-    returns)
+    tie.close (tie.spec (λ c. widened-fits (c .args .tx) (c .fits .tx)) (λ c. widened-fits (c .args .ty) (c .fits .ty))
+    (λ c κs. omega (arith, widened-small (c .args .tx) (c .fits .tx), widened-small (c .args .ty) (c .fits .ty))) (λ c κs. tt) returns)

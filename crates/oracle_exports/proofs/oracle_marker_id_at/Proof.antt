@@ -2,7 +2,7 @@
 use mathlib.Core.Path.{ap, _∙_}
 use mir.Syntax.{w32}
 use mir.ValLaws.{toZ-ofZ}
-use Rattle.board.specs.Layout.{markerAt, odd}
+use Rattle.board.specs.Layout.{markerOn}
 use Rattle.oracle_exports.specs.Words.{idWord}
 use Rattle.oracle_exports.proofs.oracle_marker_id_at.Statement.{statement}
 use Rattle.oracle_exports.proofs.oracle_marker_id_at.Tie as tie
@@ -14,7 +14,7 @@ returns c =
     c .id-word .ensures
     ∙ ap idWord
     (c .before .marker-id-at .ensures
-    ∙ (λ k. markerAt odd (b .0 k) (b .1 k) (toZ-ofZ w32 (s .args .i) (s .fits .i) k) (toZ-ofZ w32 (s .args .j) (s .fits .j) k)))
+    ∙ (λ k. markerOn (b k) (toZ-ofZ w32 (s .args .i) (s .fits .i) k) (toZ-ofZ w32 (s .args .j) (s .fits .j) k)))
 
 pub oracle-marker-id-at-spec : {M : Type 1} → statement M
 oracle-marker-id-at-spec = tie.close (tie.spec (λ c κs. tt) (λ c κs. tt) (λ c κs. tt) returns)

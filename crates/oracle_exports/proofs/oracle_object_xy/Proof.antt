@@ -14,10 +14,12 @@ second : (axis : ℕ) (x y : Float) → (axis ≡ 0 → ⊥) → y ≡ axisOfPoi
 second zero x y h = absurd (h refl)
 second (suc k) x y h = refl
 
-point-is : (c : tie.After-charuco-object-xy) → c .charuco-object-xy .result ≡ objectPoint (c .before .before .args .rows) (c .before .before .args .cols) (c .before .before .args .cell-size) (c .before .before .args .id)
+point-is : (c : tie.After-charuco-object-xy)
+    → c .charuco-object-xy .result ≡ objectPoint (c .before .before .args .rows) (c .before .before .args .cols) (c .before .before .args .cell-size)
+    (c .before .before .args .id)
 point-is c =
     let b = c .before .board-of .ensures in
-    c .charuco-object-xy .ensures ∙ (λ k. objectPoint (b .0 k) (b .1 k) (b .2 k) (c .before .before .args .id))
+    c .charuco-object-xy .ensures ∙ (λ k. objectPoint (b k .rows) (b k .cols) (b k .«cell_size») (c .before .before .args .id))
 
 returns : tie.Need-returns
 returns c =
@@ -40,13 +42,4 @@ returns-3 c =
     (sym (c .enum-told .given .1) ∙ point-is (c .before .before))
 
 pub oracle-object-xy-spec : {M : Type 1} → statement M
-oracle-object-xy-spec =
-    tie.close
-    (tie.spec
-    (λ c κs. tt)
-    (λ c κs. tt)
-    (λ c. search needs)
-    (λ c. search needs)
-    returns
-    returns-2
-    returns-3)
+oracle-object-xy-spec = tie.close (tie.spec (λ c κs. tt) (λ c κs. tt) (λ c. search needs) (λ c. search needs) returns returns-2 returns-3)

@@ -16,7 +16,7 @@ returns c =
     toZ-ofZ w32 (c .along .result) (record { sfits = c .along .ok }) ∙ c .along .ensures
     ∙ ap (λ (p : Coord). axisOf p (s .args .axis))
     (c .before .turned .ensures
-    ∙ ap₂ (λ (u v : ℤ). sends (s .args .turn % 4) (point u v)) (toZ-ofZ w16 (s .args .u) (s .fits .u)) (toZ-ofZ w16 (s .args .v) (s .fits .v)))
+    ∙ ap₂ (λ (u v : ℤ). sends (s .args .turn) (point u v)) (toZ-ofZ w16 (s .args .u) (s .fits .u)) (toZ-ofZ w16 (s .args .v) (s .fits .v)))
 
 pub oracle-turned-spec : {M : Type 1} → statement M
 oracle-turned-spec = tie.close (tie.spec (λ c κs. tt) (λ c κs. tt) returns)

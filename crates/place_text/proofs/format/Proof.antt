@@ -3,7 +3,7 @@ use mathlib.Core.Path.{sym, ap}
 use borrow.Author.Needs.{needs}
 use Rattle.board_match.specs.declared.Matched.{Matched}
 use Rattle.place_text.specs.Text.{textOf}
-use Rattle.place_text.proofs.Puts.{said, whole-length, whole-text}
+use Rattle.place_text.proofs.Printing.{said, whole-length, whole-text}
 use Rattle.place_text.proofs.format.Statement.{statement}
 use Rattle.place_text.proofs.format.Tie as tie
 
@@ -23,13 +23,5 @@ returns-2 c =
 
 pub format-spec : {M : Type 1} → statement M
 format-spec =
-    tie.close
-    (tie.spec
-    (λ c. search needs)
-    (λ c κs. tt)
-    (λ c. search needs)
-    (λ c κs. tt)
-    (λ c. search needs)
-    returns
-    (λ c. search needs)
+    tie.close (tie.spec (λ c. search needs) (λ c κs. tt) (λ c. search needs) (λ c κs. tt) (λ c. search needs) returns (λ c. search needs)
     returns-2)

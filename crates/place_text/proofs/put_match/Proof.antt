@@ -2,7 +2,7 @@
 use mathlib.Core.List.{[], _∷_}
 use borrow.Author.Needs.{needs}
 use Rattle.place_text.specs.Text.{the-best, the-corners, evidenceWord, matchLines}
-use Rattle.place_text.proofs.Puts.{then, said, kept}
+use Rattle.place_text.proofs.Printing.{then, said, printed-length}
 use Rattle.place_text.proofs.Translations.{read-back}
 use Rattle.place_text.proofs.put_match.Statement.{statement}
 use Rattle.place_text.proofs.put_match.Tie as tie
@@ -21,7 +21,8 @@ returns c =
     let a = m .best .alignment in
     let told = best .before .before .struct-told .given in
     let best-is =
-    read-back the-best (a .turn) (evidenceWord (m .best .evidence) ∷ []) (a .tx) (a .ty) (record { sfits = told .1 .0 .1 }) (record { sfits = told .1 .1 .0 .1 }) in
+    read-back the-best (a .turn) (evidenceWord (m .best .evidence) ∷ []) (a .tx) (a .ty)
+    (record { sfits = told .1 .0 .1 }) (record { sfits = told .1 .1 .0 .1 }) in
     let b = m .corners in
     let also = corners .before .before .struct-told3 .given in
     let corners-are =
@@ -33,23 +34,9 @@ returns c =
     (then (placements .put-number .ensures) (then (said corners-are (corners .put-alignment .ensures)) (markers .put-markers .ensures))))))
 
 same-length : tie.Need-same-length
-same-length c = kept (returns c)
+same-length c = printed-length (returns c)
 
 pub put-match-spec : {M : Type 1} → statement M
 put-match-spec =
-    tie.close
-    (tie.spec
-    (λ c. search needs)
-    (λ c κs. tt)
-    (λ c. search needs)
-    (λ c κs. tt)
-    (λ c κs. tt)
-    (λ c. search needs)
-    (λ c κs. tt)
-    (λ c. search needs)
-    (λ c κs. tt)
-    (λ c. search needs)
-    (λ c κs. tt)
-    (λ c κs. tt)
-    same-length
-    returns)
+    tie.close (tie.spec (λ c. search needs) (λ c κs. tt) (λ c. search needs) (λ c κs. tt) (λ c κs. tt) (λ c. search needs) (λ c κs. tt)
+    (λ c. search needs) (λ c κs. tt) (λ c. search needs) (λ c κs. tt) (λ c κs. tt) same-length returns)

@@ -3,7 +3,7 @@ use mathlib.Core.Path.{_≡_}
 use mathlib.Core.Bool.{true, false}
 use lib.Ieee.{Float, binary32, ofBits, ofFields, odd, sub, div, lt, le}
 use borrow.Author.Needs.{needs}
-use Rattle.floats.specs.Units.{nought, one}
+use Rattle.floats.specs.Units.{nought, unity}
 use Rattle.ranking.specs.declared.Evidence.{Evidence}
 use Rattle.ranking.specs.declared.Evidence.the-variants as evidence
 use Rattle.ranking.specs.declared.Hypothesis.{Hypothesis}
@@ -22,11 +22,11 @@ module _ (best : Evidence) (cap : Float) (next : Choice) where
     at-most t = rw (e, t)
 
     module _ (t : le x nought ≡ false) where
-      alone : next ≡ choice.Absent → one ≡ margin best cap next
+      alone : next ≡ choice.Absent → unity ≡ margin best cap next
       alone n = rw (e, t, n)
 
       module _ (g : Hypothesis) (n : next ≡ choice.Placement g) where
-        next-none : g .evidence ≡ evidence.Absent → one ≡ margin best cap next
+        next-none : g .evidence ≡ evidence.Absent → unity ≡ margin best cap next
         next-none k = rw (e, t, n, k)
 
         module _ (y : Float) (k : g .evidence ≡ evidence.Number y) where
@@ -60,7 +60,8 @@ returns-4 c =
     let a = c .before .before .before .before .before .before .before .before .before .args in
     let x = c .before .before .before .before .before .before .before .best .given in
     let g = c .before .before .before .runner-up .given in
-    next-none (a .best) (a .best-capacity) (a .runner-up) (x .0 .0) (x .1) (c .before .before .before .before .before .if1 .left) (g .0 .0) (g .1) (c .enum-told3 .given .1)
+    next-none (a .best) (a .best-capacity) (a .runner-up) (x .0 .0) (x .1) (c .before .before .before .before .before .if1 .left) (g .0 .0) (g .1)
+    (c .enum-told3 .given .1)
 
 returns-5 : tie.Need-returns-5
 unfolding ofBits ofFields odd
@@ -69,7 +70,8 @@ returns-5 c =
     let x = c .before .before .before .before .before .before .before .before .before .best .given in
     let g = c .before .before .before .before .before .runner-up .given in
     let y = c .before .before .evidence .given in
-    little (a .best) (a .best-capacity) (a .runner-up) (x .0 .0) (x .1) (c .before .before .before .before .before .before .before .if1 .left) (g .0 .0) (g .1) (y .0 .0) (y .1) (c .if2 .taken)
+    little (a .best) (a .best-capacity) (a .runner-up) (x .0 .0) (x .1) (c .before .before .before .before .before .before .before .if1 .left)
+    (g .0 .0) (g .1) (y .0 .0) (y .1) (c .if2 .taken)
 
 returns-6 : tie.Need-returns-6
 unfolding ofBits ofFields odd
@@ -78,21 +80,10 @@ returns-6 c =
     let x = c .before .before .before .before .before .before .before .before .before .best .given in
     let g = c .before .before .before .before .before .runner-up .given in
     let y = c .before .before .evidence .given in
-    enough (a .best) (a .best-capacity) (a .runner-up) (x .0 .0) (x .1) (c .before .before .before .before .before .before .before .if1 .left) (g .0 .0) (g .1) (y .0 .0) (y .1) (c .if2 .left)
+    enough (a .best) (a .best-capacity) (a .runner-up) (x .0 .0) (x .1) (c .before .before .before .before .before .before .before .if1 .left)
+    (g .0 .0) (g .1) (y .0 .0) (y .1) (c .if2 .left)
 
 pub margin-spec : {M : Type 1} → statement M
 margin-spec =
-    tie.close
-    (tie.spec
-    (λ c. search needs)
-    (λ c. search needs)
-    returns
-    returns-2
-    (λ c. search needs)
-    (λ c. search needs)
-    returns-3
-    (λ c. search needs)
-    (λ c. search needs)
-    returns-4
-    returns-5
-    returns-6)
+    tie.close (tie.spec (λ c. search needs) (λ c. search needs) returns returns-2 (λ c. search needs) (λ c. search needs) returns-3
+    (λ c. search needs) (λ c. search needs) returns-4 returns-5 returns-6)

@@ -1,29 +1,27 @@
 -- `ranking::ranked` meets its contract. Assumes nothing.
 use mathlib.Core.Path.{_≡_, sym, _∙_}
-use Prim.Native.Nat.{ℕ, _+_}
+use Prim.Native.Nat.{_+_}
 use mathlib.Core.Bool.{true, false}
 use borrow.Author.Needs.{needs}
 use Rattle.ranking.specs.declared.Hypothesis.{Hypothesis}
 use Rattle.ranking.specs.declared.Choice.{Choice}
 use Rattle.ranking.specs.declared.Choice.the-variants as choice
 use Rattle.ranking.specs.declared.Ranking.{Ranking}
-use Rattle.ranking.specs.Greatest.{below}
-use Rattle.ranking.specs.Ranking.{better, ranked}
+use Rattle.ranking.specs.Greatest.{liesBelow}
+use Rattle.ranking.specs.Ranking.{ranking, better, ranked}
 use Rattle.ranking.proofs.ranked.Statement.{statement}
 use Rattle.ranking.proofs.ranked.Tie as tie
-
-abbrev ranking : Choice → Choice → ℕ → Ranking
-ranking best second total = record { best = best; «runner_up» = second; total = total }
 
 module _ (k : Ranking) (h : Hypothesis) where
   first : k .best ≡ choice.Absent → ranking (choice.Placement h) choice.Absent (k .total + 1) ≡ ranked k h
   first p = rw p
 
   module _ (b : Hypothesis) (p : k .best ≡ choice.Placement b) where
-    above : below (b .evidence) (h .evidence) ≡ true → ranking (choice.Placement h) (choice.Placement b) (k .total + 1) ≡ ranked k h
+    above : liesBelow (b .evidence) (h .evidence) ≡ true → ranking (choice.Placement h) (choice.Placement b) (k .total + 1) ≡ ranked k h
     above t = rw (p, t)
 
-    not-above : (x : Choice) → below (b .evidence) (h .evidence) ≡ false → x ≡ better (k .«runner_up») h → ranking (choice.Placement b) x (k .total + 1) ≡ ranked k h
+    not-above : (x : Choice) → liesBelow (b .evidence) (h .evidence) ≡ false → x ≡ better (k .«runner_up») h
+        → ranking (choice.Placement b) x (k .total + 1) ≡ ranked k h
     not-above x t e = rw (p, t, e)
 
 returns : tie.Need-returns

@@ -6,30 +6,14 @@ use Rattle.replay_corners_links.proofs.after_input.Statement.{statement
 use Rattle.replay_corners_links.proofs.after_input.Tie as tie
 
 abbrev Inv-loop : tie.InvT-loop
-Inv-loop scores₀ grid₀ reported₀ list₀ tally₀ sizes₀ turns₀ scores grid reported list tally sizes turns = (length scores₀ ≡ length scores) × (length grid₀ ≡ length grid) × (length reported₀ ≡ length reported) × (length list₀ ≡ length list)
+Inv-loop scores₀ grid₀ reported₀ list₀ tally₀ sizes₀ turns₀ scores grid reported list tally sizes turns = (length scores₀ ≡ length scores)
+    × (length grid₀ ≡ length grid) × (length reported₀ ≡ length reported) × (length list₀ ≡ length list)
 
 abbrev μ-loop : tie.MeasureT-loop
 μ-loop scores₀ grid₀ reported₀ list₀ tally₀ sizes₀ turns₀ scores grid reported list tally sizes turns = turns
 
 pub after-input-spec : {M : Type 1} → statement M
 after-input-spec =
-    tie.close
-    (tie.spec
-    Inv-loop
-    μ-loop
-    (λ c κs. tt)
-    (λ c κs. tt)
-    (λ c. search needs)
-    (λ c κs. tt)
-    (λ c κs. search needs)
-    (λ c κs. tt)
-    (λ c. search needs)
-    (λ c κs. tt)
-    (λ c κs. tt)
-    (λ c. search needs)
-    (λ c. search needs)
-    (λ c. search needs)
-    (λ c. search needs)
-    (λ c. search needs)
-    (λ c. search needs)
-    (λ c. tt))
+    tie.close (tie.spec Inv-loop μ-loop (λ c κs. tt) (λ c κs. tt) (λ c. search needs) (λ c κs. tt) (λ c κs. search needs) (λ c κs. tt)
+    (λ c. search needs) (λ c κs. tt) (λ c κs. tt) (λ c. search needs) (λ c. search needs) (λ c. search needs) (λ c. search needs)
+    (λ c. search needs) (λ c. search needs) (λ c. tt))

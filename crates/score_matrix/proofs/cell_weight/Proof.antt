@@ -1,21 +1,21 @@
 -- `score_matrix::cell_weight` meets its contract. Assumes nothing.
 use mathlib.Core.Path.{_∙_}
 use lib.Ieee.{ofBits, ofFields, odd}
-use borrow.Author.Tests.{not-true, not-false}
+use borrow.Author.Needs.{needs}
 use Rattle.score_matrix.proofs.cell_weight.Statement.{statement}
 use Rattle.score_matrix.proofs.cell_weight.Tie as tie
 
 returns : tie.Need-returns
 unfolding ofBits ofFields odd
-returns c = rw (not-true (c .before .args .sampled) (c .if1 .taken))
+returns c = rw (c .enum-told .given .1)
 
 returns-2 : tie.Need-returns-2
 unfolding ofBits ofFields odd
-returns-2 c = rw (not-false (c .before .before .args .sampled) (c .before .if1 .left), c .if2 .taken)
+returns-2 c = rw (c .before .before .border .given .1, c .if1 .taken)
 
 returns-3 : tie.Need-returns-3
 unfolding ofBits ofFields odd
-returns-3 c = c .clamp01 .ensures ∙ rw (not-false (c .before .before .before .args .sampled) (c .before .before .if1 .left), c .before .if2 .left)
+returns-3 c = c .clamp01 .ensures ∙ rw (c .before .before .before .border .given .1, c .before .if1 .left)
 
 pub cell-weight-spec : {M : Type 1} → statement M
-cell-weight-spec = tie.close (tie.spec returns returns-2 (λ c κs. tt) returns-3)
+cell-weight-spec = tie.close (tie.spec (λ c. search needs) (λ c. search needs) (λ c κs. search needs) returns returns-2 returns-3)

@@ -8,7 +8,7 @@ use borrow.Author.Needs.{needs}
 use Rattle.shot_record.specs.Fields.{bitsOf, borderOf, gridSize, cellCount, sampled}
 use Rattle.shot_record.specs.Shots.{cellFrom, cellOf}
 use Rattle.shot_record.specs.Answers.{cellRead}
-use Rattle.shot_record.proofs.Lists.{nth-list, nth-list-past}
+use Rattle.shot_record.proofs.Lists.{getElem?-list, getElem?-list-past}
 use Rattle.shot_record.proofs.Reading.{Found, found, starts-rise}
 use Rattle.shot_record.proofs.Whole.{Whole, whole-if, refused-if, parse-whole}
 use Rattle.shot_record.proofs.cell.Statement.{statement}
@@ -33,7 +33,7 @@ module _ (e : tie.Else1) where
 returns-2 : tie.Need-returns-2
 returns-2 c =
     let e = c .before .before in
-    rw (parse-whole _ (is-whole e), nth-list-past (cellOf (bytes e)) (cellCount (bytes e)) (k e) (omega (arith, f e .cell-count, c .if2 .taken))) refl
+    rw (parse-whole _ (is-whole e), getElem?-list-past (cellOf (bytes e)) (cellCount (bytes e)) (k e) (omega (arith, f e .cell-count, c .if2 .taken))) refl
 
 cell-requires : tie.Need-cell-requires
 cell-requires c κs =
@@ -46,19 +46,12 @@ returns-3 : tie.Need-returns-3
 returns-3 c =
     let d = c .before .before .before in
     let e = d .before .before in
-    rw (parse-whole _ (is-whole e), nth-list (cellOf (bytes e)) (cellCount (bytes e)) (k e) (omega (arith, f e .cell-count, d .if2 .left)))
+    rw (parse-whole _ (is-whole e), getElem?-list (cellOf (bytes e)) (cellCount (bytes e)) (k e) (omega (arith, f e .cell-count, d .if2 .left)))
     (let grid = gridSize (bitsOf (bytes e)) (borderOf (bytes e)) in
-    c .cell .ensures grid ∙ ap₂ (λ (b at : ℕ). cellRead (some (cellFrom b grid at (bytes e)))) (c .before .sampled .ensures) (c .before .before .cell-start .ensures))
+    c .cell .ensures grid ∙ ap₂ (λ (b at : ℕ). cellRead (some (cellFrom b grid at (bytes e)))) (c .before .sampled .ensures)
+    (c .before .before .cell-start .ensures))
 
 pub cell-spec : {M : Type 1} → statement M
 cell-spec =
-    tie.close
-    (tie.spec
-    (λ c κs. search needs)
-    (λ c κs. search needs)
-    returns
-    returns-2
-    (λ c κs. search needs)
-    (λ c κs. search needs)
-    cell-requires
-    returns-3)
+    tie.close (tie.spec (λ c κs. search needs) (λ c κs. search needs) returns returns-2 (λ c κs. search needs) (λ c κs. search needs)
+    cell-requires returns-3)

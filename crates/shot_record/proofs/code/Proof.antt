@@ -6,7 +6,7 @@ use mathlib.Core.List.{List}
 use borrow.Author.Needs.{needs}
 use Rattle.shot_record.specs.declared.ReadCode.the-variants as code
 use Rattle.shot_record.specs.Fields.{number, codesAt, codeCount}
-use Rattle.shot_record.proofs.Lists.{nth-list, nth-list-past}
+use Rattle.shot_record.proofs.Lists.{getElem?-list, getElem?-list-past}
 use Rattle.shot_record.proofs.Reading.{found}
 use Rattle.shot_record.proofs.Whole.{Whole, whole-if, refused-if, parse-whole}
 use Rattle.shot_record.proofs.code.Statement.{statement}
@@ -30,7 +30,7 @@ returns-2 c =
     let e = c .before .before in
     let bytes = e .before .before .before .before .args .bytes .now in
     let k = e .before .before .before .before .args .k in
-    rw (parse-whole _ (is-whole e), nth-list-past (code-of bytes) (codeCount bytes) k (omega (arith, count e, c .if2 .taken))) refl
+    rw (parse-whole _ (is-whole e), getElem?-list-past (code-of bytes) (codeCount bytes) k (omega (arith, count e, c .if2 .taken))) refl
 
 returns-3 : tie.Need-returns-3
 unfolding code-of
@@ -38,9 +38,8 @@ returns-3 c =
     let e = c .before .before .before in
     let bytes = e .before .before .before .before .args .bytes .now in
     let k = e .before .before .before .before .args .k in
-    rw (parse-whole _ (is-whole e), nth-list (code-of bytes) (codeCount bytes) k (omega (arith, count e, c .before .if2 .left))) (ap code.Code (c .code .ensures))
+    rw (parse-whole _ (is-whole e), getElem?-list (code-of bytes) (codeCount bytes) k (omega (arith, count e, c .before .if2 .left)))
+    (ap code.Code (c .code .ensures))
 
 pub code-spec : {M : Type 1} → statement M
-code-spec =
-    tie.close
-    (tie.spec (λ c κs. search needs) (λ c κs. search needs) returns returns-2 (λ c κs. search needs) returns-3)
+code-spec = tie.close (tie.spec (λ c κs. search needs) (λ c κs. search needs) returns returns-2 (λ c κs. search needs) returns-3)

@@ -1,4 +1,4 @@
-//! What limits the sums of a score: how long an addition takes that waits for the one before it, and one that does not.
+//! What limits the sums of a score: how long an addition takes that needs the one before it, and one that does not.
 
 use crate::times::nanoseconds;
 use std::hint::black_box;

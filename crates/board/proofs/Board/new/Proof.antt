@@ -1,8 +1,7 @@
 -- `board::Board::new` meets its contract: the questions up to 7, then 8. Assumes nothing.
-use mathlib.Core.Path.{_≡_, sym, ap, _∙_}
+use mathlib.Core.Path.{_≡_, sym, _∙_}
 use mathlib.Core.List.{List}
 use Prim.Native.Nat.{ℕ}
-use native.Mathlib.Omega.{arith}
 use lib.ListN.{length}
 use borrow.Author.Needs.{needs}
 use borrow.Author.Tests.{not-true, not-false}
@@ -10,7 +9,7 @@ use Rattle.board.specs.declared.CharucoBoardSpec.{CharucoBoardSpec}
 use Rattle.board.specs.declared.Board.{Board}
 use Rattle.board.specs.declared.NewBoard.the-variants as new
 use Rattle.board.specs.Questions.{sizedBoard}
-use Rattle.board.proofs.Asked.{sized, then-made, then-refused}
+use Rattle.board.proofs.Asked.{sized-bits, then-codes, sized-refused}
 use Rattle.board.proofs.Board.new.Statement.{statement}
 use Rattle.board.proofs.Board.new.Tie as tie
 
@@ -29,27 +28,23 @@ module _ (c : tie.After-sized2) where
   board-made = sym (c .sized2 .given .1) ∙ c .before .before .sized .ensures
 
 codes-requires : tie.Need-codes-requires
-codes-requires c κs =
-    let m = c .before in
-    let made = sized (spec m) (length (codes m)) (board m) (sym (board-made m)) in
-    let bits = ap (λ (x : Board). x .bits) (made .1) in
-    omega (arith, made .0 .in-range .some-bits, made .0 .in-range .bits, bits)
+codes-requires c κs = let m = c .before in sized-bits (spec m) (length (codes m)) (board m) (sym (board-made m))
 
 returns : tie.Need-returns
 returns c =
     let m = c .before .before .before in
-    then-made (spec m) (codes m) (board m) _ _ (board-made m) (not-true _ (c .if1 .taken)) (c .before .codes .ensures)
+    then-codes (spec m) (codes m) (board m) _ _ (board-made m) (not-true _ (c .if1 .taken)) (c .before .codes .ensures)
 
 returns-2 : tie.Need-returns-2
 returns-2 c =
     let m = c .before .before .before in
-    then-made (spec m) (codes m) (board m) _ _ (board-made m) (not-false _ (c .if1 .left)) (c .before .codes .ensures)
+    then-codes (spec m) (codes m) (board m) _ _ (board-made m) (not-false _ (c .if1 .left)) (c .before .codes .ensures)
 
 returns-3 : tie.Need-returns-3
 returns-3 c =
     let r = c .before in
-    then-refused (r .before .before .before .before .args .spec) (r .before .before .before .before .args .codes .now) _
-    (sym (r .sized3 .given .1) ∙ r .before .before .sized .ensures)
+    let x = r .before .before .before .before .args in
+    sized-refused (x .spec) (x .codes .now) _ (sym (r .sized3 .given .1) ∙ r .before .before .sized .ensures)
 
 pub new-spec : {M : Type 1} → statement M
 new-spec = tie.close (tie.spec (λ c κs. tt) (λ c. search needs) codes-requires returns (λ c. search needs) returns-2 returns-3)

@@ -21,7 +21,8 @@ returns-4 : tie.Need-returns-4
 returns-4 c = let x = c .before .before .before .before .args in sym (rim-bottom (x .rows) (x .cols) (x .i) (x .j) (omega (arith, c .if4 .taken)))
 
 -- no number comes near the end of a word
-small : (c : tie.Else4) → (c .before .before .before .before .args .j - 1) * (c .before .before .before .before .args .cols - 1) + (c .before .before .before .before .args .i - 1) + (c .before .before .before .before .args .cols - 1) + 1 ≤ 65536 + 512
+small : (c : tie.Else4) → let x = c .before .before .before .before .args in
+    (x .j - 1) * (x .cols - 1) + (x .i - 1) + (x .cols - 1) + 1 ≤ 65536 + 512
 small c =
     let x = c .before .before .before .before .args in
     let f = c .before .before .before .before .fits in
@@ -51,23 +52,14 @@ returns-5 c =
     let x = c .before .before .before .before .args in
     sym
     (off-rim (x .rows) (x .cols) (x .i) (x .j)
-    (record { left = c .before .before .before .if1 .left; top = c .before .before .if2 .left; right = omega (arith, c .before .if3 .left); bottom = omega (arith, c .if4 .left) }))
+    (record {
+      left = c .before .before .before .if1 .left;
+      top = c .before .before .if2 .left;
+      right = omega (arith, c .before .if3 .left);
+      bottom = omega (arith, c .if4 .left);
+    }))
 
 pub around-spec : {M : Type 1} → statement M
 around-spec =
-    tie.close
-    (tie.spec
-    returns
-    returns-2
-    (λ c. search needs)
-    returns-3
-    (λ c. search needs)
-    returns-4
-    (λ c. search needs)
-    mul-top-left
-    add-top-left
-    add-t9
-    add-t11
-    add-t10
-    add-t12
-    returns-5)
+    tie.close (tie.spec returns returns-2 (λ c. search needs) returns-3 (λ c. search needs) returns-4 (λ c. search needs) mul-top-left
+    add-top-left add-t9 add-t11 add-t10 add-t12 returns-5)

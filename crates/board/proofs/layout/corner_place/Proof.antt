@@ -12,7 +12,9 @@ returns : tie.Need-returns
 returns c = sym (unplaced inner _ _ _ (omega (arith, c .if1 .taken, c .before .corner-count .ensures)))
 
 -- the corner is on the board, so the stride is above 0
-has : (c : tie.Else1) → Has inner (c .before .before .args .cols) (c .before .before .args .rows) (c .before .before .args .id % (c .before .before .args .cols - 1) + 1) (c .before .before .args .id / (c .before .before .args .cols - 1) + 1) (c .before .before .args .id)
+has : (c : tie.Else1) → Has inner (c .before .before .args .cols) (c .before .before .args .rows)
+    (c .before .before .args .id % (c .before .before .args .cols - 1) + 1) (c .before .before .args .id / (c .before .before .args .cols - 1) + 1)
+    (c .before .before .args .id)
 has c =
     let x = c .before .before .args in
     corner-has (x .rows) (x .cols) (x .id) (omega (arith, c .if1 .left, c .before .corner-count .ensures, corner-total (x .rows) (x .cols)))

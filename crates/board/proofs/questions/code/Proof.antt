@@ -7,7 +7,7 @@ use native.Mathlib.Omega.{arith}
 use lib.Dec.{T, leb, ltb, leb→le, nleb→lt}
 use lib.Pow.{pow-pos}
 use borrow.Author.Tests.{lt-ltb, le-ltb}
-use Rattle.board.specs.Questions.{codeAnswer}
+use Rattle.board.specs.Questions.{codeInRange}
 use Rattle.board.proofs.questions.code.Statement.{statement}
 use Rattle.board.proofs.questions.code.Tie as tie
 
@@ -27,10 +27,10 @@ module _ (bits : ℕ) (a : 1 ≤ bits) (b : bits ≤ 8) where
       let l : code / 2 ^ (bits * bits - 1) < 2 = omega arith in
       lt-ltb code (2 ^ (bits * bits)) (omega (arith, top-power, div-lt-iff-lt-mul (pow-pos (bits * bits - 1)) .0 l))
 
-  top-bits : (code : ℕ) → leb (code / 2 ^ (bits * bits - 1)) 1 ≡ codeAnswer bits code
+  top-bits : (code : ℕ) → leb (code / 2 ^ (bits * bits - 1)) 1 ≡ codeInRange bits code
   top-bits code = go (leb (code / 2 ^ (bits * bits - 1)) 1) (leb→le _ 1) (nleb→lt _ 1)
     where
-      go : (b : Bool) → (T b → code / 2 ^ (bits * bits - 1) ≤ 1) → (T (not b) → 1 < code / 2 ^ (bits * bits - 1)) → b ≡ codeAnswer bits code
+      go : (b : Bool) → (T b → code / 2 ^ (bits * bits - 1) ≤ 1) → (T (not b) → 1 < code / 2 ^ (bits * bits - 1)) → b ≡ codeInRange bits code
       go true less more = sym (small-enough code (less tt))
       go false less more = sym (too-large code (more tt))
 

@@ -28,7 +28,8 @@ module _ (c : tie.After-code Inv-loop μ-loop) where
   abbrev k : ℕ
   k = c .before .before .before .loop .k
 
-  next : (b : Bool) → c .code .result ≡ b → (b && codesAnswer (s .args .bits) (drop (k + 1) (s .args .codes .now))) ≡ codesAnswer (s .args .bits) (s .args .codes .now)
+  next : (b : Bool) → c .code .result ≡ b → (b
+      && codesAnswer (s .args .bits) (drop (k + 1) (s .args .codes .now))) ≡ codesAnswer (s .args .bits) (s .args .codes .now)
   next b e =
       sym (codes-step (s .args .bits) (s .args .codes .now) k b (c .before .before .loop-test .taken) (sym (c .code .ensures) ∙ e))
       ∙ c .before .before .before .loop .inv .1
@@ -46,16 +47,5 @@ returns-2 c =
 
 pub codes-spec : {M : Type 1} → statement M
 codes-spec =
-    tie.close
-    (tie.spec
-    Inv-loop
-    μ-loop
-    loop-holds
-    (λ c. search needs)
-    (λ c. search needs)
-    (λ c κs. search needs)
-    returns
-    (λ c. search needs)
-    (λ c. search needs)
-    loop-again
-    returns-2)
+    tie.close (tie.spec Inv-loop μ-loop loop-holds (λ c. search needs) (λ c. search needs) (λ c κs. search needs) returns
+    (λ c. search needs) (λ c. search needs) loop-again returns-2)

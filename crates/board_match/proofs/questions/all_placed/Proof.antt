@@ -60,12 +60,16 @@ module _ (c : tie.After-placed Inv-loop μ-loop) where
 returns : tie.Need-returns Inv-loop μ-loop
 returns c =
     let p = c .before in
-    sym (one-out (test (bytes (s p))) (length (shot (bytes (s p)) .cells)) (l p .loop .k) (omega (arith, inside p, cell-count (bytes (s p)))) (sym (here p) ∙ not-true _ (c .if1 .taken)))
+    sym (one-out (test (bytes (s p))) (length (shot (bytes (s p)) .cells)) (l p .loop .k) (omega (arith, inside p, cell-count (bytes (s p))))
+    (sym (here p) ∙ not-true _ (c .if1 .taken)))
 
 loop-again : tie.Need-loop-again Inv-loop μ-loop
 loop-again c =
-    let p = c .before in
-    (omega (arith, p .before .before .loop-test .taken), one-more (test (bytes (s p))) (l p .loop .k) (l p .loop .inv .1) (sym (here p) ∙ not-false _ (c .if1 .left)))
+    let p = c .before in (
+      omega (arith, p .before .before .loop-test .taken),
+      one-more (test (bytes (s p))) (l p .loop .k) (l p .loop .inv .1) (sym (here p)
+          ∙ not-false _ (c .if1 .left)),
+    )
 
 returns-2 : tie.Need-returns-2 Inv-loop μ-loop
 returns-2 c =
@@ -76,15 +80,5 @@ returns-2 c =
 
 pub all-placed-spec : {M : Type 1} → statement M
 all-placed-spec =
-    tie.close
-    (tie.spec
-    Inv-loop
-    μ-loop
-    loop-holds
-    cell-at-requires
-    (λ c κs. tt)
-    returns
-    (λ c. search needs)
-    (λ c. search needs)
-    loop-again
+    tie.close (tie.spec Inv-loop μ-loop loop-holds cell-at-requires (λ c κs. tt) returns (λ c. search needs) (λ c. search needs) loop-again
     returns-2)

@@ -10,7 +10,7 @@ use Rattle.board.specs.declared.CharucoBoardSpec.{CharucoBoardSpec}
 use Rattle.board.specs.declared.Board.{Board}
 use Rattle.board.specs.declared.NewBoard.the-variants as new
 use Rattle.board.specs.Questions.{sizedBoard}
-use Rattle.board.proofs.Asked.{sized, then-made, then-refused}
+use Rattle.board.proofs.Asked.{sized-bits, then-codes, sized-refused}
 use Rattle.shot_record.specs.Fields.{number, codesAt, codeCount}
 use Rattle.shot_record.specs.Shots.{shot}
 use Rattle.shot_record.specs.Answers.{specOf}
@@ -32,7 +32,7 @@ module _ (c : tie.After-sized) where
   answer : c .sized .result ≡ sizedBoard spec (length codes)
   answer =
       let x = c .before .before .before in
-      let count = found (x .args .f) bytes (x .pre) .code-count ∙ sym (length-list (λ (k : ℕ). number 8 (codesAt bytes + 8 * k) bytes) (codeCount bytes)) in
+      let count = found (x .args .f) bytes (x .pre .0) .code-count ∙ sym (length-list (λ (k : ℕ). number 8 (codesAt bytes + 8 * k) bytes) (codeCount bytes)) in
       c .sized .ensures ∙ ap₂ sizedBoard (c .before .spec .ensures) count
 
 -- the board that passed the questions up to 7
@@ -47,37 +47,28 @@ codes-below-requires : tie.Need-codes-below-requires
 codes-below-requires c κs =
     let m = c .before in
     let a = m .before .before in
-    let made = sized (spec a) (length (codes a)) (board m) (sym (board-made m)) in
-    let bits = ap (λ (x : Board). x .bits) (made .1) in
-    omega (arith, made .0 .in-range .some-bits, made .0 .in-range .bits, bits)
+    let bits = sized-bits (spec a) (length (codes a)) (board m) (sym (board-made m)) in
+    (bits .0, bits .1, a .before .before .before .pre .1)
 
 returns : tie.Need-returns
 returns c =
     let m = c .before .before .before in
     let a = m .before .before in
-    then-made (spec a) (codes a) (board m) _ _ (board-made m) (not-true _ (c .if1 .taken)) (c .before .codes-below .ensures)
+    then-codes (spec a) (codes a) (board m) _ _ (board-made m) (not-true _ (c .if1 .taken)) (c .before .codes-below .ensures)
 
 returns-2 : tie.Need-returns-2
 returns-2 c =
     let m = c .before .before .before in
     let a = m .before .before in
-    then-made (spec a) (codes a) (board m) _ _ (board-made m) (not-false _ (c .if1 .left)) (c .before .codes-below .ensures)
+    then-codes (spec a) (codes a) (board m) _ _ (board-made m) (not-false _ (c .if1 .left)) (c .before .codes-below .ensures)
 
 returns-3 : tie.Need-returns-3
 returns-3 c =
     let r = c .before in
     let a = r .before .before in
-    then-refused (spec a) (codes a) _ (sym (r .sized3 .given .1) ∙ answer a)
+    sized-refused (spec a) (codes a) _ (sym (r .sized3 .given .1) ∙ answer a)
 
 pub board-spec : {M : Type 1} → statement M
 board-spec =
-    tie.close
-    (tie.spec
-    (λ c κs. search needs)
-    (λ c κs. tt)
-    (λ c. search needs)
-    codes-below-requires
-    returns
-    (λ c. search needs)
-    returns-2
+    tie.close (tie.spec (λ c κs. search needs) (λ c κs. tt) (λ c. search needs) codes-below-requires returns (λ c. search needs) returns-2
     returns-3)

@@ -2,7 +2,7 @@
 use mathlib.Core.Path.{_≡_, refl, sym, ap, _∙_}
 use mathlib.Core.Bool.{Bool, _&&_}
 use lib.Ieee.{Float, binary32, ofBits, ofFields, odd, le}
-use Rattle.floats.specs.Units.{nought, one}
+use Rattle.floats.specs.Units.{nought, unity}
 use Rattle.board_match.specs.Questions.{fractionAnswer}
 use Rattle.board_match.proofs.questions.fraction.Statement.{statement}
 use Rattle.board_match.proofs.questions.fraction.Tie as tie
@@ -11,7 +11,7 @@ zero-is : ofBits binary32 0 ≡ nought
 unfolding ofBits ofFields odd
 zero-is = refl
 
-one-is : ofBits binary32 0x3F800000 ≡ one
+one-is : ofBits binary32 0x3F800000 ≡ unity
 unfolding ofBits ofFields odd
 one-is = refl
 

@@ -16,7 +16,8 @@ returns-3 : tie.Need-returns-3
 returns-3 c =
     let d = c .before in
     let e = d .before .before in
-    rw (sym (e .before .is-finite .ensures) ∙ not-false _ (e .if1 .left), sym (d .before .is-finite2 .ensures) ∙ not-false _ (d .if2 .left)) (c .is-finite3 .ensures)
+    rw (sym (e .before .is-finite .ensures) ∙ not-false _ (e .if1 .left), sym (d .before .is-finite2 .ensures) ∙ not-false _ (d .if2 .left))
+    (c .is-finite3 .ensures)
 
 pub settings-spec : {M : Type 1} → statement M
 settings-spec = tie.close (tie.spec (λ c κs. tt) returns (λ c κs. tt) returns-2 (λ c κs. tt) returns-3)

@@ -6,12 +6,12 @@ use lib.Signed.{leZ}
 use mir.Syntax.{w16}
 use mir.Val.{toZ, ofZ}
 use mir.ValLaws.{toZ-ofZ}
-use Rattle.integers.specs.Distance.{within}
+use Rattle.integers.specs.Distance.{isWithin}
 use Rattle.board_match.proofs.questions.within.Statement.{statement}
 use Rattle.board_match.proofs.questions.within.Tie as tie
 
 -- by the outcome of the first test on the bits
-first : (z y : ℤ) (b : Bool) → y ≡ z → leZ (negsuc 4095) y ≡ b → within 4096 z ≡ (b && leZ z (pos 4096))
+first : (z y : ℤ) (b : Bool) → y ≡ z → leZ (negsuc 4095) y ≡ b → isWithin 4096 z ≡ (b && leZ z (pos 4096))
 first z y b e t = ap (λ (d : Bool). d && leZ z (pos 4096)) (sym (ap (leZ (negsuc 4095)) e) ∙ t)
 
 returns : tie.Need-returns

@@ -13,11 +13,4 @@ returns c =
     (telling (ap cellsTold (b .0)) (t .tell-cells .ensures), b .1)
 
 pub charuco-build-marker-cells-spec : {M : Type 1} → statement M
-charuco-build-marker-cells-spec =
-    tie.close
-    (tie.spec
-    (λ c κs. tt)
-    (λ c κs. tt)
-    (λ c. search needs)
-    (λ c. search needs)
-    returns)
+charuco-build-marker-cells-spec = tie.close (tie.spec (λ c κs. tt) (λ c κs. tt) (λ c. search needs) (λ c. search needs) returns)

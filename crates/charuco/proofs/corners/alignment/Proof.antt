@@ -15,8 +15,4 @@ returns c =
     }
 
 pub alignment-spec : {M : Type 1} → statement M
-alignment-spec =
-    tie.close
-    (tie.spec
-    (λ c κs. tt)
-    returns)
+alignment-spec = tie.close (tie.spec (λ c κs. tt) returns)

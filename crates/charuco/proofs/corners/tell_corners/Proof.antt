@@ -14,13 +14,5 @@ returns-2 c = let w = c .before .before in telling (sym (ap cornersTold (w .befo
 
 pub tell-corners-spec : {M : Type 1} → statement M
 tell-corners-spec =
-    tie.close
-    (tie.spec
-    (λ c. search needs)
-    (λ c κs. tt)
-    (λ c. search needs)
-    (λ c κs. tt)
-    (λ c. search needs)
-    returns
-    (λ c. search needs)
+    tie.close (tie.spec (λ c. search needs) (λ c κs. tt) (λ c. search needs) (λ c κs. tt) (λ c. search needs) returns (λ c. search needs)
     returns-2)

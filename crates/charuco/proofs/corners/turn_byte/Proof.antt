@@ -13,9 +13,4 @@ returns-2 : tie.Need-returns-2
 returns-2 c = let n = c .before .args .turn in sym (ap (λ (b : Bool). cond b n 4) (le-ltb n 4 (c .if1 .left)))
 
 pub turn-byte-spec : {M : Type 1} → statement M
-turn-byte-spec =
-    tie.close
-    (tie.spec
-    (λ c. search needs)
-    returns
-    returns-2)
+turn-byte-spec = tie.close (tie.spec (λ c. search needs) returns returns-2)

@@ -15,8 +15,4 @@ returns-2 : tie.Need-returns-2
 returns-2 c = all-four (c .before .args .mode) (c .if1 .left)
 
 pub mode-of-spec : {M : Type 1} → statement M
-mode-of-spec =
-    tie.close
-    (tie.spec
-    (λ c. search needs)
-    returns-2)
+mode-of-spec = tie.close (tie.spec (λ c. search needs) returns-2)

@@ -14,13 +14,5 @@ returns-2 c = let w = c .before .before in telling (sym (ap linksTold (w .before
 
 pub tell-links-spec : {M : Type 1} → statement M
 tell-links-spec =
-    tie.close
-    (tie.spec
-    (λ c. search needs)
-    (λ c κs. tt)
-    (λ c. search needs)
-    (λ c κs. tt)
-    (λ c. search needs)
-    returns
-    (λ c. search needs)
+    tie.close (tie.spec (λ c. search needs) (λ c κs. tt) (λ c. search needs) (λ c κs. tt) (λ c. search needs) returns (λ c. search needs)
     returns-2)

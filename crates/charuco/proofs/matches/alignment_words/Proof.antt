@@ -20,10 +20,4 @@ returns c =
     ∷ []
 
 pub alignment-words-spec : {M : Type 1} → statement M
-alignment-words-spec =
-    tie.close
-    (tie.spec
-    (λ c. search needs)
-    (λ c κs. tt)
-    (λ c κs. tt)
-    returns)
+alignment-words-spec = tie.close (tie.spec (λ c. search needs) (λ c κs. tt) (λ c κs. tt) returns)

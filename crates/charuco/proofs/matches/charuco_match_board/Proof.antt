@@ -14,11 +14,4 @@ returns c =
     (telling (ap matchTold (b .0)) (t .tell-match .ensures), (b .1 .0, subst (Accuracy _) (b .0) (b .1 .1)))
 
 pub charuco-match-board-spec : {M : Type 1} → statement M
-charuco-match-board-spec =
-    tie.close
-    (tie.spec
-    (λ c κs. tt)
-    (λ c κs. tt)
-    (λ c. search needs)
-    (λ c. search needs)
-    returns)
+charuco-match-board-spec = tie.close (tie.spec (λ c κs. tt) (λ c κs. tt) (λ c. search needs) (λ c. search needs) returns)

@@ -10,11 +10,4 @@ returns : tie.Need-returns
 returns c = (λ i. 1 ∷ c .to-bits .ensures i ∷ []) ∙ sym (ap evidenceWords (c .before .before .evidence .given .1))
 
 pub evidence-words-spec : {M : Type 1} → statement M
-evidence-words-spec =
-    tie.close
-    (tie.spec
-    (λ c. search needs)
-    (λ c κs. tt)
-    (λ c. search needs)
-    returns
-    (λ c. search needs))
+evidence-words-spec = tie.close (tie.spec (λ c. search needs) (λ c κs. tt) (λ c. search needs) returns (λ c. search needs))

@@ -10,10 +10,4 @@ returns : tie.Need-returns
 returns c = let t = c .before .before in telling (ap cellTold (t .before .before .cell .ensures)) (t .tell-cell .ensures)
 
 pub charuco-cell-spec : {M : Type 1} → statement M
-charuco-cell-spec =
-    tie.close
-    (tie.spec
-    (λ c κs. tt)
-    (λ c κs. tt)
-    (λ c. search needs)
-    returns)
+charuco-cell-spec = tie.close (tie.spec (λ c κs. tt) (λ c κs. tt) (λ c. search needs) returns)

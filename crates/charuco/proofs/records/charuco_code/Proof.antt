@@ -10,10 +10,4 @@ returns : tie.Need-returns
 returns c = let t = c .before .before in telling (ap codeTold (t .before .before .code .ensures)) (t .tell-code .ensures)
 
 pub charuco-code-spec : {M : Type 1} → statement M
-charuco-code-spec =
-    tie.close
-    (tie.spec
-    (λ c κs. tt)
-    (λ c κs. tt)
-    (λ c. search needs)
-    returns)
+charuco-code-spec = tie.close (tie.spec (λ c κs. tt) (λ c κs. tt) (λ c. search needs) returns)

@@ -10,10 +10,4 @@ returns : tie.Need-returns
 returns c = let t = c .before .before in telling (ap headerTold (t .before .before .read-header .ensures)) (t .tell-header .ensures)
 
 pub charuco-read-header-spec : {M : Type 1} → statement M
-charuco-read-header-spec =
-    tie.close
-    (tie.spec
-    (λ c κs. tt)
-    (λ c κs. tt)
-    (λ c. search needs)
-    returns)
+charuco-read-header-spec = tie.close (tie.spec (λ c κs. tt) (λ c κs. tt) (λ c. search needs) returns)

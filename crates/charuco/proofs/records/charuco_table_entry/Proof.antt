@@ -10,10 +10,4 @@ returns : tie.Need-returns
 returns c = let t = c .before .before in telling (ap entryTold (t .before .before .table-entry .ensures)) (t .tell-entry .ensures)
 
 pub charuco-table-entry-spec : {M : Type 1} → statement M
-charuco-table-entry-spec =
-    tie.close
-    (tie.spec
-    (λ c κs. tt)
-    (λ c κs. tt)
-    (λ c. search needs)
-    returns)
+charuco-table-entry-spec = tie.close (tie.spec (λ c κs. tt) (λ c κs. tt) (λ c. search needs) returns)

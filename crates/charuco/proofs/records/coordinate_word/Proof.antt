@@ -13,9 +13,4 @@ returns : tie.Need-returns
 returns c = c .word .ensures ∙ ap (ofZ w32) (widened (c .before .args .z) (c .before .fits .z))
 
 pub coordinate-word-spec : {M : Type 1} → statement M
-coordinate-word-spec =
-    tie.close
-    (tie.spec
-    cast-word
-    (λ c κs. tt)
-    returns)
+coordinate-word-spec = tie.close (tie.spec cast-word (λ c κs. tt) returns)

@@ -10,11 +10,4 @@ returns : tie.Need-returns
 returns c = let w = c .before .before in telling (λ i. worked (w .before .before .count-word .ensures i ∷ [])) (w .worked .ensures)
 
 pub counted-spec : {M : Type 1} → statement M
-counted-spec =
-    tie.close
-    (tie.spec
-    (λ c κs. tt)
-    (λ c. search needs)
-    (λ c κs. tt)
-    (λ c. search needs)
-    returns)
+counted-spec = tie.close (tie.spec (λ c κs. tt) (λ c. search needs) (λ c κs. tt) (λ c. search needs) returns)

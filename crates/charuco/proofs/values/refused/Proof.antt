@@ -6,7 +6,8 @@ use native.Mathlib.Omega.{arith}
 use lib.ListN.{take}
 use lib.Seq.{length-take-le}
 use borrow.Author.Needs.{needs}
-use Rattle.charuco.specs.Answers.{given, valueCount}
+use Rattle.lent_list.specs.Front.{inFront}
+use Rattle.charuco.specs.Answers.{valueCount}
 use Rattle.charuco.proofs.Giving.{values-are, few}
 use Rattle.charuco.proofs.values.refused.Statement.{statement}
 use Rattle.charuco.proofs.values.refused.Tie as tie
@@ -21,8 +22,8 @@ module _ (c : tie.After-value-count) where
 array-share-prefix-words : tie.Need-array-share-prefix-words
 array-share-prefix-words c = at-most-two (c .before)
 
-slice-aggregate-put : tie.Need-slice-aggregate-put
-slice-aggregate-put c = sym (length-take-le _ _ (at-most-two (c .before .before)))
+slice-aggregate-put-front : tie.Need-slice-aggregate-put-front
+slice-aggregate-put-front c = sym (length-take-le _ _ (at-most-two (c .before .before)))
 
 returns : tie.Need-returns
 returns c =
@@ -34,18 +35,9 @@ returns c =
     let words =
     (λ i. take ((k .value-count .ensures ∙ ap valueCount (n .number .ensures)) i) (v .before .value .ensures i ∷ v .value2 .ensures i ∷ []))
     ∙ values-are (s .refusal) in
-    record { number = n .number .ensures; values = p .put .ensures ∙ ap (λ (ws : List ℕ). given ws (s .values .now)) words }
+    record { number = n .number .ensures; values = p .put-front .ensures ∙ ap (λ (ws : List ℕ). inFront ws (s .values .now)) words }
 
 pub refused-spec : {M : Type 1} → statement M
 refused-spec =
-    tie.close
-    (tie.spec
-    (λ c κs. tt)
-    (λ c κs. tt)
-    (λ c κs. tt)
-    (λ c κs. tt)
-    array-share-prefix-words
-    slice-aggregate-put
-    (λ c κs. tt)
-    (λ c. search needs)
-    returns)
+    tie.close (tie.spec (λ c κs. tt) (λ c κs. tt) (λ c κs. tt) (λ c κs. tt) array-share-prefix-words slice-aggregate-put-front (λ c κs. tt)
+    (λ c. search needs) returns)

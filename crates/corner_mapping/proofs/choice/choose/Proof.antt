@@ -6,13 +6,13 @@ use lib.ListN.{length}
 use borrow.Author.Needs.{needs}
 use Rattle.corner_mapping.specs.Corners.{Input}
 use Rattle.corner_mapping.specs.Entry.{input}
-use Rattle.corner_mapping.specs.Inner.{Chosen}
+use Rattle.corner_mapping.specs.Inner.{ChoicesHeld}
 use Rattle.corner_mapping.proofs.Choices.{chosen-first}
 use Rattle.corner_mapping.proofs.choice.choose.Statement.{statement}
 use Rattle.corner_mapping.proofs.choice.choose.Tie as tie
 
 abbrev Inv-loop : tie.InvT-loop
-Inv-loop board alignment scores grid choices₀ k₀ choices k = (k ≤ length scores) × Chosen (input board alignment scores grid) k choices
+Inv-loop board alignment scores grid choices₀ k₀ choices k = (k ≤ length scores) × ChoicesHeld (input board alignment scores grid) k choices
 
 abbrev μ-loop : tie.MeasureT-loop
 μ-loop board alignment scores grid choices₀ k₀ choices k = length scores - k
@@ -35,9 +35,8 @@ returns c =
     let l = c .before in
     let s = l .before .before in
     let e : l .loop .k ≡ length (s .args .scores .now) = omega (arith, l .loop .inv .0, c .loop-test .left) in
-    subst (λ (n : ℕ). Chosen (from s) n (l .loop .choices)) e (l .loop .inv .1)
+    subst (λ (n : ℕ). ChoicesHeld (from s) n (l .loop .choices)) e (l .loop .inv .1)
 
 pub choose-spec : {M : Type 1} → statement M
 choose-spec =
-    tie.close
-    (tie.spec Inv-loop μ-loop loop-holds choose-next-requires (λ c. search needs) (λ c. search needs) loop-again returns)
+    tie.close (tie.spec Inv-loop μ-loop loop-holds choose-next-requires (λ c. search needs) (λ c. search needs) loop-again returns)

@@ -10,21 +10,21 @@ use Rattle.marker_sampling.specs.Entry.{corners}
 use Rattle.marker_sampling.proofs.Placing.{both-within}
 use Rattle.corner_mapping.specs.Corners.{Input, idOf}
 use Rattle.corner_mapping.specs.Entry.{input}
-use Rattle.corner_mapping.specs.Inner.{Ranged, Near, Chosen}
+use Rattle.corner_mapping.specs.Inner.{InputInRange, NearCorner, ChoicesHeld}
 use Rattle.corner_mapping.proofs.Ids.{id-below, few-corners}
 use Rattle.corner_mapping.proofs.Choices.{stored-below, chosen-same, chosen-more}
 use Rattle.corner_mapping.proofs.choice.choose_next.Statement.{statement}
 use Rattle.corner_mapping.proofs.choice.choose_next.Tie as tie
 
 -- what is asked of the calls
-module _ (x : Input) (r : Ranged x) (k : ℕ) (l : k < length (x .scores)) where
-  near : Near (x .grid) k
+module _ (x : Input) (r : InputInRange x) (k : ℕ) (l : k < length (x .scores)) where
+  near : NearCorner (x .grid) k
   near e = both-within 4096 (corners (x .scores) (x .grid)) (length (x .scores)) k l (r .placed) e
 
   small : (id : ℕ) → idOf (x .board) (x .alignment) (x .grid) k ≡ numbered.Id id → id < 1024
   small id e = omega (arith, id-below (x .board) (x .alignment) (x .grid) k id e, few-corners (x .board .rows) (x .board .cols) (r .rows) (r .cols))
 
-  earlier : (choices : List ℕ) (id : ℕ) → Chosen x k choices → id < 1024 → getD choices id 0 ≤ k
+  earlier : (choices : List ℕ) (id : ℕ) → ChoicesHeld x k choices → id < 1024 → getD choices id 0 ≤ k
   earlier choices id h i = stored-below x id k (getD choices id 0) (h .at id i)
 
 module _ (s : tie.Start) where
@@ -72,16 +72,5 @@ returns-2 c =
 
 pub choose-next-spec : {M : Type 1} → statement M
 choose-next-spec =
-    tie.close
-    (tie.spec
-    id-of-requires
-    (λ c. search needs)
-    (λ c. search needs)
-    (λ c. search needs)
-    (λ c. id-small c)
-    better-requires
-    (λ c. search needs)
-    (λ c. id-small (c .before .before))
-    (λ c. search needs)
-    returns
-    returns-2)
+    tie.close (tie.spec id-of-requires (λ c. search needs) (λ c. search needs) (λ c. search needs) (λ c. id-small c) better-requires
+    (λ c. search needs) (λ c. id-small (c .before .before)) (λ c. search needs) returns returns-2)

@@ -15,8 +15,7 @@ use Rattle.integers.proofs.Words.{word as read, half}
 use Rattle.grid_alignment.specs.declared.Coord.{Coord}
 use Rattle.grid_alignment.specs.Alignment.{point, applied}
 use Rattle.board.specs.Layout.{cornerAt}
-use Rattle.marker_sampling.specs.Cells.{word, labelled}
-use Rattle.marker_sampling.specs.Keys.{cornersOf}
+use Rattle.marker_sampling.specs.Cells.{word, labelled, cornersOf}
 use Rattle.marker_sampling.proofs.Tests.{read-back}
 use Rattle.corner_mapping.proofs.Ids.{half-fits, no-point, at-point}
 use Rattle.corner_mapping.proofs.choice.id_of.Statement.{statement}
@@ -69,7 +68,8 @@ returns-2 c =
     let x = start e .args in
     let p = q .apply .result in
     let there : p ≡ applied (x .alignment) (point (coordinate e 1) (coordinate e 2)) =
-    q .apply .ensures ∙ ap₂ (λ (u v : ℤ). applied (x .alignment) (point u v)) (ap half (u-read (w .before)) ∙ toZ-ofZ w16 (coordinate e 1) (u-fits e)) (ap half (v-read w) ∙ toZ-ofZ w16 (coordinate e 2) (v-fits e)) in
+    q .apply .ensures ∙ ap₂ (λ (u v : ℤ). applied (x .alignment) (point u v))
+    (ap half (u-read (w .before)) ∙ toZ-ofZ w16 (coordinate e 1) (u-fits e)) (ap half (v-read w) ∙ toZ-ofZ w16 (coordinate e 2) (v-fits e)) in
     c .charuco-corner-id-from-board-corner .ensures
     ∙ ap₂ (cornerAt (x .board .rows) (x .board .cols))
     (toZ-ofZ w32 (p .u) (record { sfits = t .before .struct-told .given .0 .1 }) ∙ ap (λ (r : Coord). r .u) there)
@@ -78,18 +78,5 @@ returns-2 c =
 
 pub id-of-spec : {M : Type 1} → statement M
 id-of-spec =
-    tie.close
-    (tie.spec
-    (λ c κs. search needs)
-    returns
-    (λ c. search needs)
-    (λ c. search needs)
-    (λ c κs. search needs)
-    cast-u
-    (λ c. search needs)
-    (λ c. search needs)
-    (λ c κs. search needs)
-    cast-v
-    (λ c κs. search needs)
-    (λ c κs. search needs)
-    returns-2)
+    tie.close (tie.spec (λ c κs. search needs) returns (λ c. search needs) (λ c. search needs) (λ c κs. search needs) cast-u
+    (λ c. search needs) (λ c. search needs) (λ c κs. search needs) cast-v (λ c κs. search needs) (λ c κs. search needs) returns-2)

@@ -10,7 +10,7 @@ use mir.ValLaws.{toZ-ofZ}
 use borrow.Author.Needs.{needs}
 use Rattle.grid_alignment.specs.declared.Coord.{Coord}
 use Rattle.grid_alignment.specs.Alignment.{point, corner, rectCorners}
-use Rattle.emit.specs.Markers.{cornerWord, words}
+use Rattle.emit.specs.Markers.{cornerWord, markerWords}
 use Rattle.emit.proofs.words.marker_words.Statement.{statement}
 use Rattle.emit.proofs.words.marker_words.Tie as tie
 
@@ -19,7 +19,7 @@ at : {l m : List (List Float)} → l ≡ m → (k axis : ℕ) → cornerWord l k
 at e k axis = ap (λ (l : List (List Float)). cornerWord l k axis) e
 
 returns : tie.Need-returns
-unfolding words
+unfolding markerWords
 returns b10 =
     let b9 = b10 .before .before in
     let b8 = b9 .before .before in
@@ -43,16 +43,20 @@ returns b10 =
     let x = s .args in
     let c = x .c in
     let p = rot .rotate-gc-top-left .result in
-    let top : p ≡ corner (c .turn % 4) (point (c .u) (c .v)) =
-    rot .rotate-gc-top-left .ensures ∙ ap₂ (λ (u v : ℤ). corner (c .turn % 4) (point u v)) (toZ-ofZ w16 (c .u) (record { sfits = u1 .struct-told .given .1 .1 .0 .1 })) (toZ-ofZ w16 (c .v) (record { sfits = v1 .struct-told2 .given .1 .1 .1 .0 .1 })) in
+    let top : p ≡ corner (c .turn) (point (c .u) (c .v)) =
+    rot .rotate-gc-top-left .ensures
+    ∙ ap₂ (λ (u v : ℤ). corner (c .turn) (point u v)) (toZ-ofZ w16 (c .u) (record { sfits = u1 .struct-told .given .1 .1 .0 .1 }))
+    (toZ-ofZ w16 (c .v) (record { sfits = v1 .struct-told2 .given .1 .1 .1 .0 .1 })) in
     let rects : rect .cell-rect-corners-at .result ≡ rectCorners (c .u) (c .v) (x .px-per-square) =
-    rect .cell-rect-corners-at .ensures ∙ ap₂ (λ (u v : ℤ). rectCorners u v (x .px-per-square)) (toZ-ofZ w16 (c .u) (record { sfits = u2 .struct-told3 .given .1 .1 .0 .1 })) (toZ-ofZ w16 (c .v) (record { sfits = v2 .struct-told4 .given .1 .1 .1 .0 .1 })) in
+    rect .cell-rect-corners-at .ensures
+    ∙ ap₂ (λ (u v : ℤ). rectCorners u v (x .px-per-square)) (toZ-ofZ w16 (c .u) (record { sfits = u2 .struct-told3 .given .1 .1 .0 .1 }))
+    (toZ-ofZ w16 (c .v) (record { sfits = v2 .struct-told4 .given .1 .1 .1 .0 .1 })) in
     λ i.
     c .cell
     ∷ c .id
     ∷ (w1 .word .ensures ∙ ap (ofZ w32) (toZ-ofZ w32 (p .u) (record { sfits = w1 .before .struct-told5 .given .0 .1 }) ∙ ap (λ (q : Coord). q .u) top)) i
     ∷ (w2 .word2 .ensures ∙ ap (ofZ w32) (toZ-ofZ w32 (p .v) (record { sfits = w2 .before .struct-told6 .given .1 .0 .1 }) ∙ ap (λ (q : Coord). q .v) top)) i
-    ∷ c .turn
+    ∷ c .turn % 4
     ∷ (d .differing-bits .ensures) i
     ∷ x .read % 2 ^ 32
     ∷ x .read / 2 ^ 32
@@ -70,40 +74,9 @@ returns b10 =
 
 pub marker-words-spec : {M : Type 1} → statement M
 marker-words-spec =
-    tie.close
-    (tie.spec
-    (λ c κs. search needs)
-    (λ c κs. search needs)
-    (λ c κs. search needs)
-    (λ c κs. search needs)
-    (λ c. search needs)
-    (λ c κs. search needs)
-    (λ c. search needs)
-    (λ c. search needs)
-    (λ c κs. search needs)
-    (λ c κs. search needs)
-    (λ c. search needs)
-    (λ c. search needs)
-    (λ c κs. search needs)
-    (λ c. search needs)
-    (λ c. search needs)
-    (λ c κs. search needs)
-    (λ c. search needs)
-    (λ c. search needs)
-    (λ c κs. search needs)
-    (λ c. search needs)
-    (λ c. search needs)
-    (λ c κs. search needs)
-    (λ c. search needs)
-    (λ c. search needs)
-    (λ c κs. search needs)
-    (λ c. search needs)
-    (λ c. search needs)
-    (λ c κs. search needs)
-    (λ c. search needs)
-    (λ c. search needs)
-    (λ c κs. search needs)
-    (λ c. search needs)
-    (λ c. search needs)
-    (λ c κs. search needs)
-    returns)
+    tie.close (tie.spec (λ c κs. search needs) (λ c κs. search needs) (λ c κs. search needs) (λ c κs. search needs) (λ c. search needs)
+    (λ c κs. search needs) (λ c. search needs) (λ c. search needs) (λ c κs. search needs) (λ c κs. search needs) (λ c. search needs)
+    (λ c. search needs) (λ c κs. search needs) (λ c. search needs) (λ c. search needs) (λ c κs. search needs) (λ c. search needs)
+    (λ c. search needs) (λ c κs. search needs) (λ c. search needs) (λ c. search needs) (λ c κs. search needs) (λ c. search needs)
+    (λ c. search needs) (λ c κs. search needs) (λ c. search needs) (λ c. search needs) (λ c κs. search needs) (λ c. search needs)
+    (λ c. search needs) (λ c κs. search needs) (λ c. search needs) (λ c. search needs) (λ c κs. search needs) returns)

@@ -3,18 +3,20 @@ use mathlib.Core.Path.{_≡_, refl, ap, _∙_}
 use Prim.Native.Nat.{ℕ, suc, _+_, _-_, _≤_, _<_}
 use native.Mathlib.Omega.{arith}
 use lib.Ieee.{Float, ofBits, ofFields, odd, neg}
+use Rattle.lent_list.specs.Front.{upTo}
 use Rattle.shot_record.specs.Shots.{Shot, shot}
 use Rattle.hypothesis.specs.Placements.{cellTotal}
-use Rattle.hypothesis.specs.Evidence.{sumOver, capacityTo, orNought, capacity}
+use Rattle.hypothesis.specs.Evidence.{contributionsTo, capacitySum, capacity}
 use Rattle.hypothesis.specs.Inputs.{Ready}
 use Rattle.hypothesis.proofs.ReadCells.{ready-count, ready-cell}
+use Rattle.hypothesis.proofs.CountedCells.{near-read}
 use Rattle.hypothesis.proofs.Capacities.{capacity-step}
 use Rattle.hypothesis.proofs.capacity.capacity.Statement.{statement}
 use Rattle.hypothesis.proofs.capacity.capacity.Tie as tie
 
 abbrev Inv-loop : tie.InvT-loop
 Inv-loop bytes inputs starts alignment fields count most total₀ k₀ total k =
-    (k ≤ count) × (total ≡ orNought (capacityTo (shot bytes) alignment k))
+    (k ≤ count) × (total ≡ capacitySum (shot bytes) (contributionsTo (shot bytes) alignment k))
 
 abbrev μ-loop : tie.MeasureT-loop
 μ-loop bytes inputs starts alignment fields count most total₀ k₀ total k = count - k
@@ -30,7 +32,7 @@ module _ (c : tie.Start Inv-loop μ-loop) where
   count-is = ready-count (c .args .bytes .now) (c .args .inputs) (c .args .starts .now) ready
 
 loop-holds : tie.Need-loop-holds Inv-loop μ-loop
-unfolding sumOver ofBits ofFields odd
+unfolding upTo ofBits ofFields odd
 loop-holds c = (omega arith, refl)
 
 module _ (c : tie.In-loop Inv-loop μ-loop) where
@@ -45,8 +47,14 @@ cell-at-requires c κs =
     let x = start c in
     ready-cell (x .args .bytes .now) (x .args .inputs) (x .args .starts .now) (ready x) (c .before .loop .k) (inside c)
 
-with-cell-requires : tie.Need-with-cell-requires Inv-loop μ-loop
-with-cell-requires c κs = let x = start (c .before) in (x .pre .1, x .pre .2)
+with-read-requires : tie.Need-with-read-requires Inv-loop μ-loop
+with-read-requires c κs =
+    let l = c .before in
+    let x = start l in (
+      near-read (x .args .bytes .now) (x .args .inputs) (x .args .starts .now) (ready x) (l .before .loop .k) (inside l) (c .cell-at .result)
+          (c .cell-at .ensures),
+      x .pre .1,
+    )
 
 add-k : tie.Need-add-k Inv-loop μ-loop
 add-k c = let b = c .before .before in omega (arith, inside b, ready (start b) .passed .checked .few)
@@ -63,9 +71,10 @@ loop-again c =
     let r = c .before .cell-at in
     let next : suc (l .k) ≡ l .k + 1 = omega arith in (
       omega (arith, b .loop-test .taken),
-      c .with-cell .ensures
-          ∙ capacity-step (x .args .bytes .now) (x .args .inputs) (x .args .starts .now) (ready x) (x .args .alignment) (l .k) (inside b) (l .total) (neg (n .result)) (r .result) (l .inv .1) (ap (λ (y : Float). neg y) (n .ensures)) (r .ensures)
-          ∙ ap (λ (k : ℕ). orNought (capacityTo (s x) (x .args .alignment) k)) next,
+      c .with-read .ensures
+          ∙ capacity-step (x .args .bytes .now) (x .args .inputs) (x .args .starts .now) (ready x) (x .args .alignment) (l .k) (inside b) (l .total)
+          (neg (n .result)) (r .result) (l .inv .1) (ap (λ (y : Float). neg y) (n .ensures)) (r .ensures)
+          ∙ ap (λ (k : ℕ). capacitySum (s x) (contributionsTo (s x) (x .args .alignment) k)) next,
     )
 
 returns : tie.Need-returns Inv-loop μ-loop
@@ -74,19 +83,8 @@ returns c =
     let l = c .before .loop in
     let x = c .before .before .before .before .before .before in
     let all : l .k ≡ cellTotal (s x) = omega (arith, l .inv .0, c .loop-test .left, count-is x) in
-    l .inv .1 ∙ ap (λ (k : ℕ). orNought (capacityTo (s x) (x .args .alignment) k)) all
+    l .inv .1 ∙ ap (λ (k : ℕ). capacitySum (s x) (contributionsTo (s x) (x .args .alignment) k)) all
 
 pub capacity-spec : {M : Type 1} → statement M
 capacity-spec =
-    tie.close
-    (tie.spec
-    Inv-loop
-    μ-loop
-    (λ c κs. tt)
-    loop-holds
-    cell-at-requires
-    with-cell-requires
-    add-k
-    loop-less
-    loop-again
-    returns)
+    tie.close (tie.spec Inv-loop μ-loop (λ c κs. tt) loop-holds cell-at-requires with-read-requires add-k loop-less loop-again returns)

@@ -6,7 +6,7 @@ use mir.Syntax.{w32}
 use mir.Val.{toZ}
 use Rattle.shot_record.specs.Shots.{Shot, shot}
 use Rattle.hypothesis.specs.Placements.{cellTotal}
-use Rattle.hypothesis.specs.Inputs.{Ready, Passed}
+use Rattle.hypothesis.specs.Inputs.{Ready, PassedShot}
 use Rattle.hypothesis.proofs.ReadCells.{ready-count}
 use Rattle.hypothesis.proofs.Sides.{Seen, first-seen, next-seen, all-seen}
 use Rattle.hypothesis.proofs.framing.extremes.Statement.{statement}
@@ -26,7 +26,7 @@ module _ (c : tie.Start Inv-loop μ-loop) where
   ready : Ready (c .args .bytes .now) (c .args .inputs) (c .args .starts .now)
   ready = c .pre .0
 
-  passed : Passed s
+  passed : PassedShot s
   passed = ready .passed
 
   count-is : c .args .inputs .fields .«cell_count» ≡ cellTotal s
@@ -72,7 +72,8 @@ loop-again c =
     let top = c .before .before .min2 in
     let bottom = c .max2 in (
       omega (arith, b .loop-test .taken),
-      next-seen (s x) (passed x) (x .args .turn) (l .k) (toZ w32 (l .left)) (toZ w32 (l .right)) (toZ w32 (l .top)) (toZ w32 (l .bottom)) (t .result) (l .inv .1) (t .ensures)
+      next-seen (s x) (passed x) (x .args .turn) (l .k) (toZ w32 (l .left)) (toZ w32 (l .right)) (toZ w32 (l .top)) (toZ w32 (l .bottom)) (t .result)
+          (l .inv .1) (t .ensures)
           (left .result) (right .result) (top .result) (bottom .result) (left .ensures) (right .ensures) (top .ensures) (bottom .ensures),
     )
 
@@ -85,18 +86,5 @@ returns c =
 
 pub extremes-spec : {M : Type 1} → statement M
 extremes-spec =
-    tie.close
-    (tie.spec
-    Inv-loop
-    μ-loop
-    turned-point-requires
-    loop-holds
-    turned-point-requires-2
-    (λ c κs. tt)
-    (λ c κs. tt)
-    (λ c κs. tt)
-    (λ c κs. tt)
-    add-k
-    loop-less
-    loop-again
-    returns)
+    tie.close (tie.spec Inv-loop μ-loop turned-point-requires loop-holds turned-point-requires-2 (λ c κs. tt) (λ c κs. tt) (λ c κs. tt)
+    (λ c κs. tt) add-k loop-less loop-again returns)

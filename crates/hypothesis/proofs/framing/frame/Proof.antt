@@ -11,7 +11,7 @@ use borrow.Author.Needs.{needs}
 use Rattle.integers.proofs.Words.{word}
 use Rattle.shot_record.specs.Shots.{Shot, shot}
 use Rattle.hypothesis.specs.Placements.{cellTotal, turnedU, turnedV, leastTo, greatestTo, squares, frame}
-use Rattle.hypothesis.specs.Inputs.{Passed}
+use Rattle.hypothesis.specs.Inputs.{PassedShot}
 use Rattle.hypothesis.proofs.Sides.{near-sides, Counted, counted-across, counted-down, left-read, top-read}
 use Rattle.hypothesis.proofs.framing.frame.Statement.{statement}
 use Rattle.hypothesis.proofs.framing.frame.Tie as tie
@@ -33,7 +33,7 @@ module _ (c : tie.After-extremes) where
   abbrev last : ℕ
   last = cellTotal s - 1
 
-  passed : Passed s
+  passed : PassedShot s
   passed = start .pre .0 .passed
 
   across : Counted (c .extremes .result .right) (c .extremes .result .left) (squares (leastTo (turnedU s r) last) (greatestTo (turnedU s r) last))
@@ -65,13 +65,6 @@ returns c =
 
 pub frame-spec : {M : Type 1} → statement M
 frame-spec =
-    tie.close
-    (tie.spec
-    (λ c κs. search needs)
-    (λ c. across (c .before .before) .sub-fits)
-    (λ c. across (c .before .before) .add-fits)
-    cast-t8
-    (λ c. down (c .before .before .before .before) .sub-fits)
-    (λ c. down (c .before .before .before .before) .add-fits)
-    cast-t11
+    tie.close (tie.spec (λ c κs. search needs) (λ c. across (c .before .before) .sub-fits) (λ c. across (c .before .before) .add-fits)
+    cast-t8 (λ c. down (c .before .before .before .before) .sub-fits) (λ c. down (c .before .before .before .before) .add-fits) cast-t11
     returns)

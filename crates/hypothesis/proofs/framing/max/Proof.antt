@@ -7,12 +7,12 @@ use mir.Syntax.{w32}
 use mir.Val.{SFits}
 use mir.ValLaws.{toZ-ofZ}
 use Rattle.integers.proofs.Words.{word}
-use Rattle.hypothesis.specs.Placements.{greatest}
+use Rattle.hypothesis.specs.Placements.{higher}
 use Rattle.hypothesis.proofs.framing.max.Statement.{statement}
 use Rattle.hypothesis.proofs.framing.max.Tie as tie
 
 -- by the outcome of the test on the bits, z is the greater
-greater : (x y z : ℤ) (b : Bool) → SFits w32 x → SFits w32 y → SFits w32 z → leZ (word x) (word y) ≡ b → cond b y x ≡ z → word z ≡ greatest x y
+greater : (x y z : ℤ) (b : Bool) → SFits w32 x → SFits w32 y → SFits w32 z → leZ (word x) (word y) ≡ b → cond b y x ≡ z → word z ≡ higher x y
 greater x y z b fx fy fz t e =
     toZ-ofZ w32 z fz ∙ sym (ap (λ (c : Bool). cond c y x) (sym (ap₂ leZ (toZ-ofZ w32 x fx) (toZ-ofZ w32 y fy)) ∙ t) ∙ e)
 

@@ -1,6 +1,5 @@
 -- `hypothesis::framing::turned_point` meets its contract. Assumes nothing.
-use mathlib.Core.Path.{ap₂, _∙_}
-use native.Mathlib.Nat.{mod-eq-of-lt}
+use mathlib.Core.Path.{ap, _∙_}
 use borrow.Author.Needs.{needs}
 use Rattle.grid_alignment.specs.Alignment.{sends}
 use Rattle.hypothesis.proofs.ReadCells.{point-read, ready-cell, ready-inside}
@@ -17,7 +16,7 @@ returns c =
     let bytes = a .bytes .now in
     let inside = ready-inside bytes (a .inputs) (a .starts .now) (x .pre .0) (a .k) (x .pre .2) in
     c .turned .ensures
-    ∙ ap₂ sends (mod-eq-of-lt (x .pre .1)) (point-read bytes (a .k) inside (c .before .cell-at .result) (c .before .cell-at .ensures))
+    ∙ ap (sends (a .turn)) (point-read bytes (a .k) inside (c .before .cell-at .result) (c .before .cell-at .ensures))
 
 pub turned-point-spec : {M : Type 1} → statement M
 turned-point-spec = tie.close (tie.spec cell-at-requires (λ c κs. search needs) returns)

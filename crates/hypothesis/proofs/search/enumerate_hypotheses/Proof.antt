@@ -7,7 +7,7 @@ use Rattle.ranking.specs.declared.Hypothesis.{Hypothesis}
 use Rattle.ranking.specs.declared.Choice.the-variants as choice
 use Rattle.hypothesis.specs.declared.Selection.{Selection}
 use Rattle.hypothesis.specs.declared.Enumerated.the-variants as enumerated
-use Rattle.hypothesis.specs.Inputs.{Passed}
+use Rattle.hypothesis.specs.Inputs.{PassedShot}
 use Rattle.hypothesis.specs.Turns.{selectionOf}
 use Rattle.hypothesis.proofs.Turned.{best-ranked, enumerate-absent, enumerate-selected}
 use Rattle.hypothesis.proofs.Best.{BestPlaced, best-placed}
@@ -22,7 +22,7 @@ module _ (c : tie.After-search) where
   abbrev s : Shot
   s = shot (start .args .bytes .now)
 
-  passed : Passed s
+  passed : PassedShot s
   passed = start .pre .ready .passed
 
 -- a best placement
@@ -42,7 +42,7 @@ module _ (c : tie.After-best) where
 capacity-requires : tie.Need-capacity-requires
 capacity-requires c κs =
     let p = placed (c .before) in
-    (start (found (c .before)) .pre .ready, omega (arith, p .tx), omega (arith, p .ty))
+    (start (found (c .before)) .pre .ready, (omega (arith, p .tx), omega (arith, p .ty)))
 
 returns : tie.Need-returns
 returns c =

@@ -9,20 +9,21 @@ use borrow.Author.Needs.{needs}
 use Rattle.integers.proofs.Words.{word, word-is}
 use Rattle.board.specs.declared.Board.{Board}
 use Rattle.shot_record.specs.Shots.{Shot, shot}
+use Rattle.hypothesis.specs.declared.Inputs.{Inputs}
 use Rattle.hypothesis.specs.declared.Frame.{Frame}
 use Rattle.hypothesis.specs.declared.fill.Turn.{Turn}
-use Rattle.hypothesis.specs.Placements.{frame, across, down}
+use Rattle.hypothesis.specs.Placements.{frame, movesAcross, movesDown}
 use Rattle.hypothesis.specs.Inputs.{Ready}
 use Rattle.hypothesis.proofs.Turned.{across-small, down-small, total-small, turn-ranked, no-placement-ranked}
 use Rattle.hypothesis.proofs.Summed.{no-cells}
 use Rattle.hypothesis.proofs.search.search_turn.Statement.{statement}
 use Rattle.hypothesis.proofs.search.search_turn.Tie as tie
 
-abbrev with : ℕ → ℤ → ℤ → ℕ → ℕ → Turn
-with r u v n d = record { turn = r; u = u; v = v; across = n; down = d }
+abbrev with : Inputs → ℕ → ℤ → ℤ → ℕ → ℕ → Turn
+with i r u v n d = record { inputs = i; turn = r; u = u; v = v; across = n; down = d }
 
-same : (r : ℕ) (u v x y : ℤ) (n d m e : ℕ) → u ≡ x → v ≡ y → n ≡ m → d ≡ e → with r u v n d ≡ with r x y m e
-same r u v x y n d m e p q a b = cc
+same : (i : Inputs) (r : ℕ) (u v x y : ℤ) (n d m e : ℕ) → u ≡ x → v ≡ y → n ≡ m → d ≡ e → with i r u v n d ≡ with i r x y m e
+same i r u v x y n d m e p q a b = cc
 
 module _ (c : tie.After-moves2) where
   abbrev start : tie.Start
@@ -49,16 +50,16 @@ module _ (c : tie.After-moves2) where
   near-v : natAbs (found .v) ≤ 4096
   near-v = c .before .before .before .frame .ensures .1 .1
 
-  across-is : c .before .moves .result ≡ across s r
+  across-is : c .before .moves .result ≡ movesAcross s r
   across-is = c .before .moves .ensures ∙ ap₂ (λ (x y : ℕ). x + 1 - y) (ap (λ (b : Board). b .cols) (ready .board)) (ap (λ (f : Frame). f .width) frame-is)
 
-  down-is : c .moves2 .result ≡ down s r
+  down-is : c .moves2 .result ≡ movesDown s r
   down-is = c .moves2 .ensures ∙ ap₂ (λ (x y : ℕ). x + 1 - y) (ap (λ (b : Board). b .rows) (ready .board)) (ap (λ (f : Frame). f .height) frame-is)
 
-  wide : across s r ≤ 32
+  wide : movesAcross s r ≤ 32
   wide = across-small s (ready .passed .cols) (ready .passed .rows) r
 
-  high : down s r ≤ 32
+  high : movesDown s r ≤ 32
   high = down-small s (ready .passed .cols) (ready .passed .rows) r
 
   u-is : word (found .u) ≡ found .u
@@ -70,12 +71,14 @@ module _ (c : tie.After-moves2) where
 returns : tie.Need-returns
 returns c =
     let m = c .before in
-    start m .pre .2 ∙ no-placement-ranked (s m) (r m) (ap (λ (n : ℕ). n * down (s m) (r m)) (sym (across-is m) ∙ c .if1 .taken) ∙ zero-mul (down (s m) (r m)))
+    start m .pre .2 ∙ no-placement-ranked (s m) (r m) (ap (λ (n : ℕ). n * movesDown (s m) (r m)) (sym (across-is m) ∙ c .if1 .taken)
+    ∙ zero-mul (movesDown (s m) (r m)))
 
 returns-2 : tie.Need-returns-2
 returns-2 c =
     let m = c .before .before in
-    start m .pre .2 ∙ no-placement-ranked (s m) (r m) (ap (λ (n : ℕ). across (s m) (r m) * n) (sym (down-is m) ∙ c .if2 .taken) ∙ mul-zero (across (s m) (r m)))
+    start m .pre .2 ∙ no-placement-ranked (s m) (r m) (ap (λ (n : ℕ). movesAcross (s m) (r m) * n) (sym (down-is m) ∙ c .if2 .taken)
+    ∙ mul-zero (movesAcross (s m) (r m)))
 
 source-bits-requires : tie.Need-source-bits-requires
 source-bits-requires c κs =
@@ -87,19 +90,20 @@ fill-requires c κs =
     let e = c .before .before .before .before in
     let m = e .before .before in
     let f = frame-is m in (
-      start m .pre .0,
-      same (r m) (word (found m .u)) (word (found m .v)) (frame (s m) (r m) .u) (frame (s m) (r m) .v) (m .before .moves .result) (m .moves2 .result) (across (s m) (r m)) (down (s m) (r m))
-          (u-is m ∙ ap (λ (x : Frame). x .u) f)
-          (v-is m ∙ ap (λ (x : Frame). x .v) f)
-          (across-is m)
-          (down-is m),
-      start m .pre .1,
-      c .before .before .source-bits .ensures,
+      record {
+        loaded = start m .pre .0;
+        is =
+            same (start m .args .inputs) (r m) (word (found m .u)) (word (found m .v)) (frame (s m) (r m) .u) (frame (s m) (r m) .v)
+            (m .before .moves .result) (m .moves2 .result) (movesAcross (s m) (r m)) (movesDown (s m) (r m))
+            (u-is m ∙ ap (λ (x : Frame). x .u) f)
+            (v-is m ∙ ap (λ (x : Frame). x .v) f)
+            (across-is m)
+            (down-is m);
+        sources-are = c .before .before .source-bits .ensures;
+        fits = (omega (arith, e .before .if1 .left), omega (arith, e .if2 .left));
+        near = (subst (λ (z : ℤ). natAbs z ≤ 4096) (sym (u-is m)) (near-u m), subst (λ (z : ℤ). natAbs z ≤ 4096) (sym (v-is m)) (near-v m));
+      },
       no-cells (s m) (r m) (wide m) (high m),
-      omega (arith, e .before .if1 .left),
-      omega (arith, e .if2 .left),
-      subst (λ (z : ℤ). natAbs z ≤ 4096) (sym (u-is m)) (near-u m),
-      subst (λ (z : ℤ). natAbs z ≤ 4096) (sym (v-is m)) (near-v m),
     )
 
 rank-turn-requires : tie.Need-rank-turn-requires
@@ -118,18 +122,10 @@ returns-3 c =
     let m = c .before .before .before .before .before .before .before .before .before in
     let f = c .before .before .fill in
     c .rank-turn .ensures
-    ∙ turn-ranked (s m) (ready m .passed .checked) (r m) (f .last .0) (f .result) (f .ensures) (start m .args .ranking) (found m) (m .before .moves .result) (m .moves2 .result) (frame-is m) (across-is m) (down-is m) (start m .pre .2)
+    ∙ turn-ranked (s m) (ready m .passed .checked) (r m) (f .last .0) (f .result) (f .ensures) (start m .args .ranking) (found m) (m .before .moves .result)
+    (m .moves2 .result) (frame-is m) (across-is m) (down-is m) (start m .pre .2)
 
 pub search-turn-spec : {M : Type 1} → statement M
 search-turn-spec =
-    tie.close
-    (tie.spec
-    (λ c κs. search needs)
-    (λ c κs. search needs)
-    (λ c κs. search needs)
-    returns
-    returns-2
-    source-bits-requires
-    fill-requires
-    rank-turn-requires
-    returns-3)
+    tie.close (tie.spec (λ c κs. search needs) (λ c κs. search needs) (λ c κs. search needs) returns returns-2 source-bits-requires
+    fill-requires rank-turn-requires returns-3)

@@ -16,17 +16,10 @@ returns c =
     let s = first .before .before .args in
     let w : ℕ → Float → List Float → List Float = withScore (s .weight) (s .null) in
     c .add4 .ensures
-    ∙ ap (w (s .at + 6) (s .scores .d)) (third .add3 .ensures ∙ ap (w (s .at + 4) (s .scores .c)) (second .add2 .ensures ∙ ap (w (s .at + 2) (s .scores .b)) (first .add .ensures)))
+    ∙ ap (w (s .at + 6) (s .scores .d)) (third .add3 .ensures ∙ ap (w (s .at + 4) (s .scores .c)) (second .add2 .ensures
+    ∙ ap (w (s .at + 2) (s .scores .b)) (first .add .ensures)))
 
 pub add-four-spec : {M : Type 1} → statement M
 add-four-spec =
-    tie.close
-    (tie.spec
-    (λ c κs. search needs)
-    (λ c. search needs)
-    (λ c κs. search needs)
-    (λ c. search needs)
-    (λ c κs. search needs)
-    (λ c. search needs)
-    (λ c κs. search needs)
-    returns)
+    tie.close (tie.spec (λ c κs. search needs) (λ c. search needs) (λ c κs. search needs) (λ c. search needs) (λ c κs. search needs)
+    (λ c. search needs) (λ c κs. search needs) returns)

@@ -40,12 +40,12 @@ module _ (sums : List Float) (seen : Seen) (d a b : ℕ) where
   not-told e = rw e
 
 returns : tie.Need-returns
-returns c = let s = c .before .before .before .args in told (s .sums .now) (s .seen) (s .down) (s .a) (s .b) (sym (c .before .before .seen-at .ensures) ∙ c .before .if1 .taken)
+returns c = let s = c .before .before .before .args in
+    told (s .sums .now) (s .seen) (s .down) (s .a) (s .b) (sym (c .before .before .seen-at .ensures) ∙ c .before .if1 .taken)
 
 returns-2 : tie.Need-returns-2
 returns-2 c = let s = c .before .before .args in not-told (s .sums .now) (s .seen) (s .down) (s .a) (s .b) (sym (c .before .seen-at .ensures) ∙ c .if1 .left)
 
 pub placement-sum-spec : {M : Type 1} → statement M
 placement-sum-spec =
-    tie.close
-    (tie.spec (λ c. search needs) (λ c κs. search needs) mul-at add-at mul-sum element-copy-out-sum returns returns-2)
+    tie.close (tie.spec (λ c. search needs) (λ c κs. search needs) mul-at add-at mul-sum element-copy-out-sum returns returns-2)

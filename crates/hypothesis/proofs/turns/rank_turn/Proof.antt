@@ -42,8 +42,13 @@ module _ (c : tie.In-loop Inv-loop μ-loop) where
 
   few : c .before .loop .held .total ≤ 4096
   few =
-      omega
-      (arith, start .pre .4, ap (λ (k : Ranking). k .total) (c .before .loop .inv .1), ranked-total (start .args .ranking) (in-order start) (a * start .args .down), mul-le-mul {n₁ = a} {m₁ = start .args .down} {n₂ = 31} {m₂ = 32} (omega (arith, below)) (start .pre .1))
+      omega (
+        arith,
+        start .pre .4,
+        ap (λ (k : Ranking). k .total) (c .before .loop .inv .1),
+        ranked-total (start .args .ranking) (in-order start) (a * start .args .down),
+        mul-le-mul {n₁ = a} {m₁ = start .args .down} {n₂ = 31} {m₂ = 32} (omega (arith, below)) (start .pre .1),
+      )
 
 rank-column-requires : tie.Need-rank-column-requires Inv-loop μ-loop
 rank-column-requires c κs = let p = start c .pre in (below c, p .1, p .2, p .3, few c)
@@ -57,8 +62,12 @@ loop-less c = let l = c .before in omega (arith, l .loop-test .taken)
 loop-again : tie.Need-loop-again Inv-loop μ-loop
 loop-again c =
     let l = c .before in
-    let s = start l in
-    (omega (arith, l .loop-test .taken), c .rank-column .ensures ∙ ap (λ (k : Ranking). rankedTo k (by-move s (a l)) (s .args .down)) (l .before .loop .inv .1) ∙ next-column (s .args .ranking) (by-move s) (s .args .down) (a l))
+    let s = start l in (
+      omega (arith, l .loop-test .taken),
+      c .rank-column .ensures
+          ∙ ap (λ (k : Ranking). rankedTo k (by-move s (a l)) (s .args .down)) (l .before .loop .inv .1)
+          ∙ next-column (s .args .ranking) (by-move s) (s .args .down) (a l),
+    )
 
 returns : tie.Need-returns Inv-loop μ-loop
 returns c =

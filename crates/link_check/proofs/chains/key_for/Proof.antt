@@ -13,9 +13,5 @@ product s =
 
 pub key-for-spec : {M : Type 1} → statement M
 key-for-spec =
-    tie.close
-    (tie.spec
-    (λ c. search needs)
-    (λ c. record { fits = omega (arith, product c) })
-    (λ c. record { fits = omega (arith, product c, c .fits .marker .fits) })
-    (λ c. search needs))
+    tie.close (tie.spec (λ c. search needs) (λ c. record { fits = omega (arith, product c) })
+    (λ c. record { fits = omega (arith, product c, c .fits .marker .fits) }) (λ c. search needs))

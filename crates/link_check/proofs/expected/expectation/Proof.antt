@@ -2,7 +2,7 @@
 use mathlib.Core.Path.{sym, ap, _∙_}
 use borrow.Author.Needs.{needs}
 use Rattle.board.specs.declared.Located.{Located}
-use Rattle.board.specs.Layout.{odd, fourCorners}
+use Rattle.board.specs.Layout.{surroundingCorners}
 use Rattle.link_check.specs.Violations.{expectation, onSquare, ofCorners}
 use Rattle.link_check.proofs.expected.expectation.Statement.{statement}
 use Rattle.link_check.proofs.expected.expectation.Tie as tie
@@ -11,7 +11,7 @@ returns : tie.Need-returns
 unfolding expectation
 returns c =
     let x = c .before .before .before .before .args in
-    ap (λ (s : Located). onSquare s (fourCorners odd (x .board .rows) (x .board .cols) (x .marker)))
+    ap (λ (s : Located). onSquare s (surroundingCorners (x .board) (x .marker)))
     (sym (c .enum-told .given .1) ∙ c .before .before .before .marker-position .ensures)
 
 returns-2 : tie.Need-returns-2
@@ -20,17 +20,10 @@ returns-2 c =
     let t = c .before in
     let x = t .before .before .before .before .args in
     c .of-corners .ensures ∙ ap ofCorners (t .before .before .marker-surrounding-charuco-corners .ensures)
-    ∙ ap (λ (s : Located). onSquare s (fourCorners odd (x .board .rows) (x .board .cols) (x .marker)))
+    ∙ ap (λ (s : Located). onSquare s (surroundingCorners (x .board) (x .marker)))
     (sym (t .enum-told2 .given .1) ∙ t .before .before .before .marker-position .ensures)
 
 pub expectation-spec : {M : Type 1} → statement M
 expectation-spec =
-    tie.close
-    (tie.spec
-    (λ c κs. search needs)
-    (λ c κs. search needs)
-    (λ c. search needs)
-    (λ c. search needs)
-    (λ c κs. search needs)
-    returns
+    tie.close (tie.spec (λ c κs. search needs) (λ c κs. search needs) (λ c. search needs) (λ c. search needs) (λ c κs. search needs) returns
     returns-2)

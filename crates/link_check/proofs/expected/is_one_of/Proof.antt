@@ -17,7 +17,11 @@ returns-2 c =
 returns-3 : tie.Need-returns-3
 returns-3 c =
     let x = c .before .before .before .args in
-    rw (ne-eqb (x .a) (x .corner) (c .before .before .if1 .left), ne-eqb (x .b) (x .corner) (c .before .if2 .left), eq-eqb (x .c) (x .corner) (c .if3 .taken)) refl
+    rw (
+      ne-eqb (x .a) (x .corner) (c .before .before .if1 .left),
+      ne-eqb (x .b) (x .corner) (c .before .if2 .left),
+      eq-eqb (x .c) (x .corner) (c .if3 .taken),
+    ) refl
 
 returns-4 : tie.Need-returns-4
 returns-4 c =

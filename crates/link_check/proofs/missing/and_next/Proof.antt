@@ -22,11 +22,13 @@ added (x ∷ y ∷ []) corner h = refl
 added (x ∷ y ∷ z ∷ []) corner h = refl
 added (x ∷ y ∷ z ∷ u ∷ ms) corner h = absurd (omega (arith, h))
 
-left-out : (missing : Missing) (reported : Bool) (corner : ℕ) (ms : List ℕ) → reported ≡ true → missing ≡ padded ms → missing ≡ padded (ms ++ unless reported corner)
+left-out : (missing : Missing) (reported : Bool) (corner : ℕ) (ms : List ℕ) → reported ≡ true → missing ≡ padded ms
+    → missing ≡ padded (ms ++ unless reported corner)
 left-out missing reported corner ms t e =
     e ∙ ap padded (sym (append-nil ms)) ∙ ap (λ (b : Bool). padded (ms ++ unless b corner)) (sym t)
 
-taken-in : (missing : Missing) (reported : Bool) (corner : ℕ) (ms : List ℕ) → reported ≡ false → missing .count < 4 → missing ≡ padded ms → with missing corner ≡ padded (ms ++ unless reported corner)
+taken-in : (missing : Missing) (reported : Bool) (corner : ℕ) (ms : List ℕ) → reported ≡ false → missing .count < 4 → missing ≡ padded ms
+    → with missing corner ≡ padded (ms ++ unless reported corner)
 taken-in missing reported corner ms f h e =
     ap (λ (m : Missing). with m corner) e ∙ added ms corner (subst (λ (m : Missing). m .count < 4) e h)
     ∙ ap (λ (b : Bool). padded (ms ++ unless b corner)) (sym f)
@@ -43,12 +45,4 @@ returns-2 c =
     ((λ ms e. taken-in (x .missing) (x .reported) (x .corner) ms (i .if1 .left) (i .before .pre) e), omega arith)
 
 pub and-next-spec : {M : Type 1} → statement M
-and-next-spec =
-    tie.close
-    (tie.spec
-    returns
-    (λ c. search needs)
-    (λ c. search needs)
-    (λ c. search needs)
-    (λ c. search needs)
-    returns-2)
+and-next-spec = tie.close (tie.spec returns (λ c. search needs) (λ c. search needs) (λ c. search needs) (λ c. search needs) returns-2)

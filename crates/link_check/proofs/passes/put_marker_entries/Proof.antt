@@ -5,28 +5,27 @@ use mathlib.Core.List.{List}
 use Prim.Native.Nat.{ℕ, _-_, _≤_, _<_}
 use native.Mathlib.Omega.{arith}
 use Rattle.lent_list.specs.Front.{upTo, Put}
-use Rattle.board.specs.Layout.{odd}
-use Rattle.link_check.specs.Violations.{Violation, expectation, ofFirst, wordsOf}
-use Rattle.link_check.proofs.Writing.{So, none-so, so-length, so-room, so-more}
+use Rattle.lent_list.proofs.Loops.{PutTo, none-to, to-length, to-room, to-more}
+use Rattle.link_check.specs.Violations.{Violation, expectation, ofFirst, violationWords, wordsOfViolations}
 use Rattle.link_check.proofs.passes.put_marker_entries.Statement.{statement}
 use Rattle.link_check.proofs.passes.put_marker_entries.Tie as tie
 
 abbrev Inv-loop : tie.InvT-loop
-Inv-loop board links n mode markers-first markers-next first next violations₀ at end₀ k₀ violations end k =
-    (k ≤ n) × Put violations₀ violations at end (wordsOf (upTo (ofFirst links n mode (expectation odd (board .rows) (board .cols))) k))
+Inv-loop standard links n marker-chain chain violations₀ at end₀ k₀ violations end k =
+    (k ≤ n) × Put violations₀ violations at end (wordsOfViolations (upTo (ofFirst links n (standard .mode) (expectation (standard .board))) k))
 
 abbrev μ-loop : tie.MeasureT-loop
-μ-loop board links n mode markers-first markers-next first next violations₀ at end₀ k₀ violations end k = n - k
+μ-loop standard links n marker-chain chain violations₀ at end₀ k₀ violations end k = n - k
 
 module _ (s : tie.Start Inv-loop μ-loop) where
   abbrev entry : ℕ → List Violation
-  entry = ofFirst (s .args .links .now) (s .args .n) (s .args .mode) (expectation odd (s .args .board .rows) (s .args .board .cols))
+  entry = ofFirst (s .args .links .now) (s .args .n) (s .args .standard .mode) (expectation (s .args .standard .board))
 
 loop-holds : tie.Need-loop-holds Inv-loop μ-loop
 loop-holds c =
     let s = c .before .before in
     let x = s .args in
-    (omega arith, none-so (entry s) (x .violations .now) (x .at) (x .n) (s .pre .1))
+    (omega arith, none-to violationWords (entry s) (x .violations .now) (x .at) (x .n) (s .pre .1))
 
 module _ (c : tie.In-loop Inv-loop μ-loop) where
   abbrev start : tie.Start Inv-loop μ-loop
@@ -45,7 +44,7 @@ put-of-first-requires c κs =
     let x = s .args in
     let p = s .pre .0 in (
       (p .0, inside l, p .1, p .2),
-      so-room (entry s) (x .violations .now) (x .at) (x .n) (s .pre .1) (l .before .loop .violations) (l .before .loop .end) (k l) (l .before .loop .inv .1) (inside l),
+      to-room violationWords (entry s) (x .violations .now) (x .at) (x .n) (s .pre .1) (k l) (l .before .loop .inv .1) (inside l),
     )
 
 loop-again : tie.Need-loop-again Inv-loop μ-loop
@@ -55,7 +54,7 @@ loop-again c =
     let s = start l in
     let x = s .args in (
       omega (arith, inside l),
-      so-more (entry s) (x .violations .now) (x .at) (x .n) (s .pre .1) (l .before .loop .violations) _ (l .before .loop .end) (p .put-of-first .result) (k l) (l .before .loop .inv .1) (p .put-of-first .ensures),
+      to-more violationWords (entry s) (x .violations .now) (x .at) (x .n) (s .pre .1) (k l) (l .before .loop .inv .1) (p .put-of-first .ensures),
     )
 
 same-length : tie.Need-same-length Inv-loop μ-loop
@@ -63,7 +62,7 @@ same-length c =
     let s = c .before .before .before .before in
     let x = s .args in
     let l = c .before .loop in
-    so-length (entry s) (x .violations .now) (x .at) (x .n) (s .pre .1) (l .violations) (l .end) (l .k) (l .inv .1) (l .inv .0)
+    to-length violationWords (entry s) (x .violations .now) (x .at) (x .n) (s .pre .1) (l .k) (l .inv .1) (l .inv .0)
 
 returns : tie.Need-returns Inv-loop μ-loop
 returns c =
@@ -71,18 +70,10 @@ returns c =
     let x = s .args in
     let l = c .before .loop in
     let all : l .k ≡ x .n = omega (arith, c .loop-test .left, l .inv .0) in
-    subst (So (entry s) (x .violations .now) (x .at) (x .n) (s .pre .1) (l .violations) (l .end)) all (l .inv .1)
+    subst (PutTo violationWords (entry s) (x .violations .now) (x .at) (x .n) (s .pre .1) (l .violations) (l .end)) all (l .inv .1)
 
 pub put-marker-entries-spec : {M : Type 1} → statement M
 put-marker-entries-spec =
-    tie.close
-    (tie.spec
-    Inv-loop
-    μ-loop
-    loop-holds
-    put-of-first-requires
+    tie.close (tie.spec Inv-loop μ-loop loop-holds put-of-first-requires
     (λ c. let l = c .before .before .before .before in record { fits = omega (arith, inside l, start l .pre .0 .0) })
-    (λ c. let l = c .before .before .before .before in omega (arith, inside l))
-    loop-again
-    same-length
-    returns)
+    (λ c. let l = c .before .before .before .before in omega (arith, inside l)) loop-again same-length returns)

@@ -1,7 +1,7 @@
 -- `marker_sampling::corner_map::build_corner_map` meets its contract: the words of the inliers, sorted, are the map. Assumes nothing.
 use lib.ListN.{length}
 use borrow.Author.Needs.{needs}
-use Rattle.marker_sampling.specs.Keys.{cornersOf}
+use Rattle.marker_sampling.specs.Cells.{cornersOf}
 use Rattle.marker_sampling.proofs.Ordered.{sorted-map}
 use Rattle.marker_sampling.proofs.corner_map.build_corner_map.Statement.{statement}
 use Rattle.marker_sampling.proofs.corner_map.build_corner_map.Tie as tie

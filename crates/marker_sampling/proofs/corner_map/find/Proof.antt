@@ -2,7 +2,7 @@
 use mathlib.Core.Path.{sym, ap}
 use native.Mathlib.Omega.{arith}
 use borrow.Author.Needs.{needs}
-use Rattle.marker_sampling.specs.Keys.{gridPoint, indexOrMinusOne}
+use Rattle.marker_sampling.specs.Keys.{rangePoint, indexOrMinusOne}
 use Rattle.marker_sampling.proofs.Holders.{nobody}
 use Rattle.marker_sampling.proofs.Searched.{still-below, searched-below}
 use Rattle.marker_sampling.proofs.corner_map.find.Statement.{statement}
@@ -12,7 +12,8 @@ returns : tie.Need-returns
 returns c =
     let b = c .before .before in
     let s = b .args in (
-      λ a k. sym (ap indexOrMinusOne (nobody a (gridPoint 4096 (s .u) (s .v)) (s .inliers .now) (λ i l. k .has i l .2 .key .right (s .u) (s .v) (omega (arith, c .if1 .taken))))),
+      λ a k. sym (ap indexOrMinusOne (nobody a (rangePoint 4096 (s .u) (s .v)) (s .inliers .now)
+          (λ i l. k .has i l .2 .key .right (s .u) (s .v) (omega (arith, c .if1 .taken))))),
       still-below (omega arith) (b .pre .1),
     )
 
@@ -20,7 +21,8 @@ returns-2 : tie.Need-returns-2
 returns-2 c =
     let b = c .before .before .before in
     let s = b .args in (
-      λ a k. sym (ap indexOrMinusOne (nobody a (gridPoint 4096 (s .u) (s .v)) (s .inliers .now) (λ i l. k .has i l .2 .key .under (s .u) (s .v) (omega (arith, c .if2 .taken))))),
+      λ a k. sym (ap indexOrMinusOne (nobody a (rangePoint 4096 (s .u) (s .v)) (s .inliers .now)
+          (λ i l. k .has i l .2 .key .under (s .u) (s .v) (omega (arith, c .if2 .taken))))),
       still-below (omega arith) (b .pre .1),
     )
 

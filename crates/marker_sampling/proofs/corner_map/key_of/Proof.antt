@@ -5,9 +5,8 @@ use mathlib.Core.Bool.{Bool, true, false}
 use borrow.Author.Needs.{needs}
 use borrow.Author.Tests.{not-true, not-false, lt-ltb, le-ltb}
 use Rattle.integers.proofs.Words.{word as read}
-use Rattle.marker_sampling.specs.Cells.{Corners, word, labelled}
-use Rattle.integers.specs.Distance.{within}
-use Rattle.marker_sampling.specs.Keys.{cornersOf}
+use Rattle.marker_sampling.specs.Cells.{Corners, word, labelled, cornersOf}
+use Rattle.integers.specs.Distance.{isWithin}
 use Rattle.marker_sampling.proofs.Keyed.{passed-over, keyed}
 use Rattle.marker_sampling.proofs.Placing.{both-within}
 use Rattle.marker_sampling.proofs.Tests.{read-back}
@@ -43,7 +42,7 @@ module _ (c : tie.Else2) where
   has-point : labelled (corners at) (at .args .k) ≡ true
   has-point = label (c .before) true (not-false _ (c .if2 .left))
 
-  ranged : (within 4096 (word (corners at) (at .args .k) 1) ≡ true) × (within 4096 (word (corners at) (at .args .k) 2) ≡ true)
+  ranged : (isWithin 4096 (word (corners at) (at .args .k) 1) ≡ true) × (isWithin 4096 (word (corners at) (at .args .k) 2) ≡ true)
   ranged = both-within 4096 (corners at) (at .args .count) (at .args .k) (c .before .before .if1 .left) (at .pre .1) has-point
 
 u-read : (c : tie.After-word) → read (c .word .result) ≡ word (corners (at (c .before))) (at (c .before) .args .k) 1
@@ -63,19 +62,6 @@ returns-3 c =
 
 pub key-of-spec : {M : Type 1} → statement M
 key-of-spec =
-    tie.close
-    (tie.spec
-    returns
-    (λ c κs. search needs)
-    returns-2
-    (λ c. search needs)
-    (λ c. search needs)
-    (λ c κs. search needs)
-    (λ c κs. ap (within 4096) (u-read c) ∙ ranged (c .before) .0)
-    (λ c. search needs)
-    (λ c. search needs)
-    (λ c κs. search needs)
-    (λ c κs. ap (within 4096) (v-read c) ∙ ranged (c .before .before .before) .1)
-    (λ c. search needs)
-    (λ c. search needs)
-    returns-3)
+    tie.close (tie.spec returns (λ c κs. search needs) returns-2 (λ c. search needs) (λ c. search needs) (λ c κs. search needs)
+    (λ c κs. ap (isWithin 4096) (u-read c) ∙ ranged (c .before) .0) (λ c. search needs) (λ c. search needs) (λ c κs. search needs)
+    (λ c κs. ap (isWithin 4096) (v-read c) ∙ ranged (c .before .before .before) .1) (λ c. search needs) (λ c. search needs) returns-3)

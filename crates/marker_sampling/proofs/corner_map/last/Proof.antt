@@ -56,7 +56,8 @@ returns c = (
   λ a k.
       let b = c .before in
       let s = start b .pre .1 .0 in
-      sym (ap indexOrMinusOne (none-there 4096 a (inliers b) (map b) k (u b) (v b) (s .0) (s .1) (first b) (end b) (b .before .seek .ensures) (b .seek2 .ensures) (c .if1 .taken))),
+      sym (ap indexOrMinusOne (none-there 4096 a (inliers b) (map b) k (u b) (v b) (s .0) (s .1) (first b) (end b) (b .before .seek .ensures)
+      (b .seek2 .ensures) (c .if1 .taken))),
   c .before .seek2 .ensures,
 )
 
@@ -93,20 +94,6 @@ returns-2 c = (
 
 pub last-spec : {M : Type 1} → statement M
 last-spec =
-    tie.close
-    (tie.spec
-    (λ c. search needs)
-    (λ c. search needs)
-    (λ c. search needs)
-    seek-requires
-    (λ c. search needs)
-    (λ c. search needs)
-    seek-requires-2
-    returns
-    (λ c. search needs)
-    (λ c. search needs)
-    (λ c. search needs)
-    (λ c. search needs)
-    (λ c. place (c .before .before))
-    (λ c. found-fits (c .before .before))
-    returns-2)
+    tie.close (tie.spec (λ c. search needs) (λ c. search needs) (λ c. search needs) seek-requires (λ c. search needs) (λ c. search needs)
+    seek-requires-2 returns (λ c. search needs) (λ c. search needs) (λ c. search needs) (λ c. search needs) (λ c. place (c .before .before))
+    (λ c. found-fits (c .before .before)) returns-2)

@@ -2,12 +2,12 @@
 use Prim.Native.Nat.{_-_, _<_}
 use native.Mathlib.Omega.{arith}
 use borrow.Author.Count.{below-more}
-use Rattle.marker_sampling.specs.Keys.{Below}
+use Rattle.marker_sampling.specs.Keys.{FirstBelow}
 use Rattle.marker_sampling.proofs.corner_map.seek.Statement.{statement}
 use Rattle.marker_sampling.proofs.corner_map.seek.Tie as tie
 
 abbrev Inv-loop : tie.InvT-loop
-Inv-loop map n from x p₀ p = Below map n x p
+Inv-loop map n from x p₀ p = FirstBelow map n x p
 
 abbrev μ-loop : tie.MeasureT-loop
 μ-loop map n from x p₀ p = n - p
@@ -42,15 +42,5 @@ returns-2 c =
 
 pub seek-spec : {M : Type 1} → statement M
 seek-spec =
-    tie.close
-    (tie.spec
-    Inv-loop
-    μ-loop
-    (λ c. c .pre .1)
-    (λ c. omega (arith, inside c))
-    (λ c. omega (arith, inside c))
-    returns
-    (λ c. omega (arith, inside (c .before .before)))
-    (λ c. omega (arith, c .before .before .loop-test .taken))
-    loop-again
-    returns-2)
+    tie.close (tie.spec Inv-loop μ-loop (λ c. c .pre .1) (λ c. omega (arith, inside c)) (λ c. omega (arith, inside c)) returns
+    (λ c. omega (arith, inside (c .before .before))) (λ c. omega (arith, c .before .before .loop-test .taken)) loop-again returns-2)

@@ -5,7 +5,8 @@ use Prim.Native.Nat.{ℕ, _+_, _-_, _*_, _^_, _≤_, _<_}
 use native.Mathlib.Omega.{arith}
 use lib.ListN.{length, length-set}
 use borrow.Author.Needs.{needs}
-use Rattle.marker_sampling.specs.Keys.{cornersOf, Filled}
+use Rattle.marker_sampling.specs.Keys.{Filled}
+use Rattle.marker_sampling.specs.Cells.{cornersOf}
 use Rattle.marker_sampling.proofs.Ordered.{word-of, filled-more}
 use Rattle.marker_sampling.proofs.corner_map.words.Statement.{statement}
 use Rattle.marker_sampling.proofs.corner_map.words.Tie as tie
@@ -54,19 +55,7 @@ returns c k l = let h = c .before .loop .inv in h .2 k (omega (arith, c .loop-te
 
 pub words-spec : {M : Type 1} → statement M
 words-spec =
-    tie.close
-    (tie.spec
-    Inv-loop
-    μ-loop
-    loop-holds
-    (λ c. search needs)
-    (λ c. search needs)
-    (λ c κs. (c .before .before .before .before .pre .0, c .before .before .before .before .pre .1 .0))
-    (λ c. omega (arith, fits c))
-    (λ c. record { fits = fits c })
-    (λ c. search needs)
-    (λ c. omega (arith, small c))
-    (λ c. search needs)
-    (λ c. search needs)
-    loop-again
+    tie.close (tie.spec Inv-loop μ-loop loop-holds (λ c. search needs) (λ c. search needs)
+    (λ c κs. (c .before .before .before .before .pre .0, c .before .before .before .before .pre .1 .0)) (λ c. omega (arith, fits c))
+    (λ c. record { fits = fits c }) (λ c. search needs) (λ c. omega (arith, small c)) (λ c. search needs) (λ c. search needs) loop-again
     returns)

@@ -6,7 +6,7 @@ use native.Mathlib.Omega.{arith}
 use borrow.Author.Needs.{needs}
 use borrow.Author.Tests.{not-true, not-false}
 use Rattle.marker_sampling.specs.Entry.{allPlaced}
-use Rattle.marker_sampling.specs.Keys.{cornersOf}
+use Rattle.marker_sampling.specs.Cells.{cornersOf}
 use Rattle.marker_sampling.proofs.Placing.{one-out, one-more-in}
 use Rattle.marker_sampling.proofs.questions.all_placed.Statement.{statement}
 use Rattle.marker_sampling.proofs.questions.all_placed.Tie as tie
@@ -21,13 +21,17 @@ returns : tie.Need-returns Inv-loop μ-loop
 returns c =
     let l = c .before .before in
     let s = l .before .before .args in
-    sym (one-out 4096 (cornersOf (s .count) (s .grid .now)) (s .count) (l .before .loop .k) (l .loop-test .taken) (sym (c .before .placed .ensures) ∙ not-true _ (c .if1 .taken)))
+    sym (one-out 4096 (cornersOf (s .count) (s .grid .now)) (s .count) (l .before .loop .k) (l .loop-test .taken)
+    (sym (c .before .placed .ensures) ∙ not-true _ (c .if1 .taken)))
 
 loop-again : tie.Need-loop-again Inv-loop μ-loop
 loop-again c =
     let l = c .before .before in
-    let s = l .before .before .args in
-    (search needs, one-more-in 4096 (cornersOf (s .count) (s .grid .now)) (l .before .loop .k) (l .before .loop .inv .1) (sym (c .before .placed .ensures) ∙ not-false _ (c .if1 .left)))
+    let s = l .before .before .args in (
+      search needs,
+      one-more-in 4096 (cornersOf (s .count) (s .grid .now)) (l .before .loop .k) (l .before .loop .inv .1)
+          (sym (c .before .placed .ensures) ∙ not-false _ (c .if1 .left)),
+    )
 
 returns-2 : tie.Need-returns-2 Inv-loop μ-loop
 returns-2 c =
@@ -37,14 +41,5 @@ returns-2 c =
 
 pub all-placed-spec : {M : Type 1} → statement M
 all-placed-spec =
-    tie.close
-    (tie.spec
-    Inv-loop
-    μ-loop
-    (λ c. (search needs, refl))
-    (λ c κs. search needs)
-    returns
-    (λ c. search needs)
-    (λ c. search needs)
-    loop-again
-    returns-2)
+    tie.close (tie.spec Inv-loop μ-loop (λ c. (search needs, refl)) (λ c κs. search needs) returns (λ c. search needs) (λ c. search needs)
+    loop-again returns-2)

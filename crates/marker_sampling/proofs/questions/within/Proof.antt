@@ -11,7 +11,7 @@ use mir.ValLaws.{toZ-ofZ}
 use borrow.Author.Needs.{needs}
 use Rattle.integers.proofs.Words.{word, word-is}
 use Rattle.integers.proofs.Parts.{small-fits, abs-neg}
-use Rattle.integers.specs.Distance.{within}
+use Rattle.integers.specs.Distance.{isWithin}
 use Rattle.marker_sampling.proofs.questions.within.Statement.{statement}
 use Rattle.marker_sampling.proofs.questions.within.Tie as tie
 
@@ -30,7 +30,7 @@ module _ (m : ℕ) (h : m < 65536) where
   least = word-is (negℤ (pos m)) negative (omega (arith, abs-neg (pos m)))
 
   -- by the outcome of the first test on the bits
-  first : (z : ℤ) (b : Bool) → word z ≡ z → leZ (word (pos 0 -ℤ word (pos m))) (word z) ≡ b → within m z ≡ (b && leZ z (pos m))
+  first : (z : ℤ) (b : Bool) → word z ≡ z → leZ (word (pos 0 -ℤ word (pos m))) (word z) ≡ b → isWithin m z ≡ (b && leZ z (pos m))
   first z b e t = ap (λ (d : Bool). d && leZ z (pos m)) (sym (ap₂ leZ least e) ∙ t)
 
 returns : tie.Need-returns

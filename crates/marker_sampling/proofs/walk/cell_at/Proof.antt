@@ -35,7 +35,8 @@ find-requires-3 c κs =
     (c .before .before .before .before .pre .0, still-below (omega arith) (c .find2 .ensures .1))
 
 -- the index that a search has found at a corner
-at-corner : (a : Corners) (inliers : List ℕ) {z : ℤ} {p : Coord} (q : Coord) → mag z < 2 ^ 31 → z ≡ indexOrMinusOne (holder a inliers p) → p ≡ q → word z ≡ indexOrMinusOne (holder a inliers q)
+at-corner : (a : Corners) (inliers : List ℕ) {z : ℤ} {p : Coord} (q : Coord) → mag z < 2 ^ 31 → z ≡ indexOrMinusOne (holder a inliers p) → p ≡ q
+    → word z ≡ indexOrMinusOne (holder a inliers q)
 at-corner a inliers {z} q h e f = read-back z h ∙ e ∙ ap (λ (p : Coord). indexOrMinusOne (holder a inliers p)) f
 
 returns : tie.Need-returns
@@ -62,21 +63,13 @@ returns c =
           let e4 = at-corner a l (corner 2 p) (t3 .struct-told3 .given .0 .1) (f4 .find3 .ensures .0 a k) (sym (corner-2 4096 u v)) in
           let e5 = at-corner a l (corner 3 p) (c .struct-told4 .given .0 .1) (f3 .find2 .ensures .0 a k) (sym (corner-3 4096 u v)) in
           λ i. e0 i ∷ e1 i ∷ e2 i ∷ e3 i ∷ e4 i ∷ e5 i ∷ [],
-      (subst (λ (x : ℕ). LowerBound (s .map .now) (length l) x (f1 .last .result .end)) (omega arith) (f1 .last .ensures .1), still-below (omega arith) (f3 .find2 .ensures .1)),
+      (
+        subst (λ (x : ℕ). LowerBound (s .map .now) (length l) x (f1 .last .result .end)) (omega arith) (f1 .last .ensures .1),
+        still-below (omega arith) (f3 .find2 .ensures .1),
+      ),
     )
 
 pub cell-at-spec : {M : Type 1} → statement M
 cell-at-spec =
-    tie.close
-    (tie.spec
-    last-requires
-    (λ c. search needs)
-    find-requires
-    (λ c. search needs)
-    find-requires-2
-    (λ c. search needs)
-    (λ c. search needs)
-    find-requires-3
-    (λ c κs. search needs)
-    (λ c κs. search needs)
-    returns)
+    tie.close (tie.spec last-requires (λ c. search needs) find-requires (λ c. search needs) find-requires-2 (λ c. search needs)
+    (λ c. search needs) find-requires-3 (λ c κs. search needs) (λ c κs. search needs) returns)

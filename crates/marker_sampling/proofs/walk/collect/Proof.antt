@@ -6,22 +6,26 @@ use Prim.Native.Nat.{ℕ, _+_, _-_, _*_, _≤_}
 use native.Mathlib.Omega.{arith}
 use lib.ListN.{length}
 use borrow.Author.Needs.{needs}
-use Rattle.marker_sampling.specs.Cells.{Corners, cellsBefore}
-use Rattle.marker_sampling.specs.Keys.{MapOf, Below, Next, Collected}
+use Rattle.lent_list.specs.Front.{upTo}
+use Rattle.marker_sampling.specs.Cells.{Corners, wholeAt}
+use Rattle.marker_sampling.specs.Keys.{MapOf, FirstBelow, Next, Collected}
 use Rattle.marker_sampling.proofs.Searched.{still-below, searched-below, none-before, at-start}
-use Rattle.marker_sampling.proofs.Passing.{passes, collect-first, collect-on, collect-next, put-most}
+use Rattle.marker_sampling.proofs.Passing.{passes, collect-first, collect-on, collect-next, added-most}
 use Rattle.marker_sampling.proofs.walk.collect.Statement.{statement}
 use Rattle.marker_sampling.proofs.walk.collect.Tie as tie
 
 abbrev Inv-loop : tie.InvT-loop
 Inv-loop map inliers results₀ n₀ here₀ under₀ key₀ results n here under key =
-    (key ≤ 67125249) × (n ≤ key) × (length results ≡ 1536) × ((c : Corners) → MapOf 4096 c inliers (length inliers) map → Collected 4096 c inliers key results n) × Below map (length inliers) (key * 1024) here × Below map (length inliers) ((key + 8193) * 1024) under
+    (key ≤ 67125249) × (n ≤ key) × (length results ≡ 1536)
+    × ((c : Corners) → MapOf 4096 c inliers (length inliers) map → Collected 4096 c inliers key results₀ results n)
+    × FirstBelow map (length inliers) (key * 1024) here × FirstBelow map (length inliers) ((key + 8193) * 1024) under
 
 abbrev μ-loop : tie.MeasureT-loop
 μ-loop map inliers results₀ n₀ here₀ under₀ key₀ results n here under key = 67125249 - key
 
 -- the first key
-first-key : (c : tie.After-next Inv-loop μ-loop) → Next (c .before .before .args .map .now) (length (c .before .before .args .inliers .now)) 67125249 0 (c .next .result)
+first-key : (c : tie.After-next Inv-loop μ-loop)
+    → Next (c .before .before .args .map .now) (length (c .before .before .args .inliers .now)) 67125249 0 (c .next .result)
 first-key c = c .next .ensures 0 (omega arith) (at-start _ _)
 
 loop-holds : tie.Need-loop-holds Inv-loop μ-loop
@@ -30,7 +34,8 @@ loop-holds c =
       first-key c .most,
       search needs,
       s .pre .1,
-      λ a k. collect-on 4096 a (s .args .inliers .now) (passes 4096 a (s .args .inliers .now) (s .args .map .now) k 0 (c .next .result) (first-key c)) (collect-first 4096 a (s .args .inliers .now) (s .args .results .now)),
+      λ a k. collect-on 4096 a (s .args .inliers .now) (passes 4096 a (s .args .inliers .now) (s .args .map .now) k 0 (c .next .result)
+          (first-key c)) (collect-first 4096 a (s .args .inliers .now) (s .args .results .now)),
       none-before _ _ _,
       none-before _ _ _,
     )
@@ -84,11 +89,11 @@ loop-again c =
     let l = loop c in
     let r = next-key c in (
       r .most,
-      omega (arith, put-most (p .put .ensures), l .before .loop .inv .1, r .least),
+      omega (arith, added-most (p .put .ensures), l .before .loop .inv .1, r .least),
       p .put .kept .0 ∙ l .before .loop .inv .2,
       λ a k.
           collect-on 4096 a (inliers l) (passes 4096 a (inliers l) (map l) k (key l + 1) (c .next2 .result) r)
-          (collect-next 4096 a (inliers l) (key l) (n l) (p .put .result) (q .cell-at .result .words) (l .before .loop .results) (p .put .last .0) (q .cell-at .ensures .0 a k) (l .before .loop .inv .3 a k) (p .put .ensures)),
+          (collect-next 4096 a (inliers l) (key l) (start l .pre .1) (q .cell-at .ensures .0 a k) (l .before .loop .inv .3 a k) (p .put .ensures)),
       searched-below (omega (arith, r .least)) (q .cell-at .ensures .1 .0),
       still-below (omega (arith, r .least)) (q .cell-at .ensures .1 .1),
     )
@@ -100,20 +105,10 @@ returns : tie.Need-returns Inv-loop μ-loop
 returns c a k =
     let l = c .before .before .before .before .args .inliers .now in
     let e : 67125249 ≡ c .before .loop .key = omega (arith, c .before .loop .inv .0, c .loop-test .left) in
-    collect-on 4096 a l (ap (cellsBefore 4096 a l) e) (c .before .loop .inv .3 a k)
+    collect-on 4096 a l (ap (upTo (wholeAt 4096 a l)) e) (c .before .loop .inv .3 a k)
 
 pub collect-spec : {M : Type 1} → statement M
 collect-spec =
-    tie.close
-    (tie.spec
-    Inv-loop
-    μ-loop
-    (λ c κs. let m = c .before .pre .0 in (m .short, m .rising, m .bounded))
-    loop-holds
-    cell-at-requires
-    put-requires
-    (λ c κs. let m = start (c .before .before .before .before .before .before) .pre .0 in (m .short, m .rising, m .bounded))
-    loop-less
-    loop-again
-    same-length
-    returns)
+    tie.close (tie.spec Inv-loop μ-loop (λ c κs. let m = c .before .pre .0 in (m .short, m .rising, m .bounded)) loop-holds cell-at-requires
+    put-requires (λ c κs. let m = start (c .before .before .before .before .before .before) .pre .0 in (m .short, m .rising, m .bounded))
+    loop-less loop-again same-length returns)

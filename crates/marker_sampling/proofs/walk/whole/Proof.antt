@@ -35,7 +35,8 @@ module _ (c : tie.Else1) where
 returns-2 : tie.Need-returns-2
 returns-2 c =
     let e = c .before .before in
-    sym (ap₂ (λ (a b : Bool). a && (b && (present (cell e) 4 && present (cell e) 5))) (first e) (tested (cell e) 3 true (c .before .if22 .given) (c .if2 .taken)))
+    sym (ap₂ (λ (a b : Bool). a && (b && (present (cell e) 4 && present (cell e) 5))) (first e)
+    (tested (cell e) 3 true (c .before .if22 .given) (c .if2 .taken)))
 
 second : (c : tie.Else2) → wholeWords (cell (c .before .before)) ≡ (present (cell (c .before .before)) 4 && present (cell (c .before .before)) 5)
 second c =
@@ -56,13 +57,5 @@ returns-4 c =
 
 pub whole-spec : {M : Type 1} → statement M
 whole-spec =
-    tie.close
-    (tie.spec
-    (λ c. search needs)
-    returns
-    (λ c. search needs)
-    returns-2
-    (λ c. search needs)
-    returns-3
-    (λ c. search needs)
+    tie.close (tie.spec (λ c. search needs) returns (λ c. search needs) returns-2 (λ c. search needs) returns-3 (λ c. search needs)
     returns-4)

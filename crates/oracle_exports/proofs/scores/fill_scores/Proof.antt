@@ -24,9 +24,11 @@ abbrev μ-loop : tie.MeasureT-loop
 μ-loop likelihoods bits codes out₀ i₀ out i = length codes - i
 
 -- one place more
-next : (out : List Float) (f : ℕ → Float) (i : ℕ) (x : Float) → i < length out → x ≡ f i → ((j : ℕ) → j < i → getD out j nan ≡ f j) → (j : ℕ) → j < i + 1 → getD (set out i x) j nan ≡ f j
+next : (out : List Float) (f : ℕ → Float) (i : ℕ) (x : Float) → i < length out → x ≡ f i → ((j : ℕ) → j < i → getD out j nan ≡ f j) → (j : ℕ)
+    → j < i + 1 → getD (set out i x) j nan ≡ f j
 next out f i x h e before =
-    below-more (λ j. getD (set out i x) j nan ≡ f j) i (λ j l. getD-set-other out i j x nan (λ d. absurd (omega (arith, d))) ∙ before j l) (getD-set-same out i x nan h ∙ e)
+    below-more (λ j. getD (set out i x) j nan ≡ f j) i (λ j l. getD-set-other out i j x nan (λ d. absurd (omega (arith, d))) ∙ before j l)
+    (getD-set-same out i x nan h ∙ e)
 
 loop-holds : tie.Need-loop-holds Inv-loop μ-loop
 loop-holds c = (omega arith, refl, below-none _)
@@ -48,7 +50,8 @@ loop-again c =
     let a = l .before .before .before .args in (
       omega (arith, c .before .before .before .loop-test .taken),
       length-set (l .loop .out) (l .loop .i) (c .sum .result) ∙ l .loop .inv .1,
-      next (l .loop .out) (λ j. sumOf (a .likelihoods .now) (a .bits) (getD (a .codes .now) j 0)) (l .loop .i) (c .sum .result) (c .before .before .if1 .left) (c .sum .ensures) (l .loop .inv .2),
+      next (l .loop .out) (λ j. sumOf (a .likelihoods .now) (a .bits) (getD (a .codes .now) j 0)) (l .loop .i) (c .sum .result)
+          (c .before .before .if1 .left) (c .sum .ensures) (l .loop .inv .2),
     )
 
 returns-2 : tie.Need-returns-2 Inv-loop μ-loop
@@ -58,20 +61,5 @@ returns-2 c =
 
 pub fill-scores-spec : {M : Type 1} → statement M
 fill-scores-spec =
-    tie.close
-    (tie.spec
-    Inv-loop
-    μ-loop
-    loop-holds
-    same-length
-    returns
-    (λ c. search needs)
-    (λ c. search needs)
-    (λ c κs. search needs)
-    (λ c. search needs)
-    slice-write-out
-    (λ c. search needs)
-    (λ c. search needs)
-    loop-again
-    (λ c. c .before .loop .inv .1)
-    returns-2)
+    tie.close (tie.spec Inv-loop μ-loop loop-holds same-length returns (λ c. search needs) (λ c. search needs) (λ c κs. search needs)
+    (λ c. search needs) slice-write-out (λ c. search needs) (λ c. search needs) loop-again (λ c. c .before .loop .inv .1) returns-2)

@@ -29,7 +29,8 @@ returns c t =
     let w = f .fill-scores .ensures in
     record {
       long = w .long;
-      holds = λ i h k. w .holds i h k ∙ picked-score (s .table .now) (samples (s .bits) (s .border) (s .threshold) (s .grid .now)) (s .bits * s .bits) (l .bit-likelihoods .result) (getD (s .codes .now) i 0) (l .bit-likelihoods .ensures);
+      holds = λ i h k. w .holds i h k ∙ picked-score (s .table .now) (samples (s .bits) (s .border) (s .threshold) (s .grid .now))
+          (s .bits * s .bits) (l .bit-likelihoods .result) (getD (s .codes .now) i 0) (l .bit-likelihoods .ensures);
     }
 
 returns-2 : tie.Need-returns-2
@@ -37,11 +38,4 @@ returns-2 c t = absurd (subst T (sym (c .before .is-whole .ensures) ∙ c .if1 .
 
 pub oracle-cell-scores-spec : {M : Type 1} → statement M
 oracle-cell-scores-spec =
-    tie.close
-    (tie.spec
-    (λ c κs. tt)
-    bit-likelihoods-requires
-    fill-scores-requires
-    (λ c. search needs)
-    returns
-    returns-2)
+    tie.close (tie.spec (λ c κs. tt) bit-likelihoods-requires fill-scores-requires (λ c. search needs) returns returns-2)

@@ -4,7 +4,7 @@ use mathlib.Core.List.{_∷_}
 use Prim.Native.Nat.{ℕ}
 use borrow.Author.Needs.{needs}
 use Rattle.place_text.specs.Numerals.{hex8}
-use Rattle.place_text.proofs.Puts.{then, said}
+use Rattle.place_text.proofs.Printing.{then, said}
 use Rattle.place_text.proofs.lines.put_float.Statement.{statement}
 use Rattle.place_text.proofs.lines.put_float.Tie as tie
 
@@ -18,5 +18,4 @@ returns c =
 
 pub put-float-spec : {M : Type 1} → statement M
 put-float-spec =
-    tie.close
-    (tie.spec (λ c κs. tt) (λ c κs. search needs) (λ c κs. search needs) (λ c κs. search needs) (λ c. search needs) returns)
+    tie.close (tie.spec (λ c κs. tt) (λ c κs. search needs) (λ c κs. search needs) (λ c κs. search needs) (λ c. search needs) returns)

@@ -3,7 +3,7 @@ use mathlib.Core.Path.{sym, ap, _∙_}
 use mathlib.Core.List.{[], _∷_}
 use borrow.Author.Needs.{needs}
 use Rattle.place_text.specs.Text.{the-next, evidenceWord, nextLine}
-use Rattle.place_text.proofs.Puts.{said}
+use Rattle.place_text.proofs.Printing.{said}
 use Rattle.place_text.proofs.Translations.{read-back}
 use Rattle.place_text.proofs.lines.put_next.Statement.{statement}
 use Rattle.place_text.proofs.lines.put_next.Tie as tie
@@ -26,15 +26,5 @@ returns-2 c =
 
 pub put-next-spec : {M : Type 1} → statement M
 put-next-spec =
-    tie.close
-    (tie.spec
-    (λ c. search needs)
-    (λ c. search needs)
-    (λ c κs. tt)
-    (λ c. search needs)
-    (λ c. search needs)
-    (λ c κs. tt)
-    (λ c. search needs)
-    returns
-    (λ c. search needs)
-    returns-2)
+    tie.close (tie.spec (λ c. search needs) (λ c. search needs) (λ c κs. tt) (λ c. search needs) (λ c. search needs) (λ c κs. tt)
+    (λ c. search needs) returns (λ c. search needs) returns-2)

@@ -1,6 +1,6 @@
 -- `place_text::lines::put_number` meets its contract. Assumes nothing.
 use borrow.Author.Needs.{needs}
-use Rattle.place_text.proofs.Puts.{then}
+use Rattle.place_text.proofs.Printing.{then}
 use Rattle.place_text.proofs.lines.put_number.Statement.{statement}
 use Rattle.place_text.proofs.lines.put_number.Tie as tie
 

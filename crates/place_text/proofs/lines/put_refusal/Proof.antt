@@ -10,7 +10,7 @@ use Rattle.refusal.specs.declared.Refusal.{Refusal}
 use Rattle.refusal.specs.Numbers.{numberOf, valuesOf}
 use Rattle.place_text.specs.Numerals.{hex8, decimal}
 use Rattle.place_text.specs.Text.{line, the-refused, refusalLine}
-use Rattle.place_text.proofs.Puts.{then, said}
+use Rattle.place_text.proofs.Printing.{then, said}
 use Rattle.place_text.proofs.lines.put_refusal.Statement.{statement}
 use Rattle.place_text.proofs.lines.put_refusal.Tie as tie
 
@@ -48,20 +48,5 @@ returns-2 c =
 
 pub put-refusal-spec : {M : Type 1} → statement M
 put-refusal-spec =
-    tie.close
-    (tie.spec
-    (λ c κs. tt)
-    (λ c. search needs)
-    (λ c. search needs)
-    (λ c κs. tt)
-    (λ c. search needs)
-    returns
-    (λ c. search needs)
-    (λ c κs. tt)
-    (λ c. search needs)
-    (λ c κs. tt)
-    (λ c κs. tt)
-    (λ c κs. tt)
-    (λ c κs. tt)
-    (λ c. search needs)
-    returns-2)
+    tie.close (tie.spec (λ c κs. tt) (λ c. search needs) (λ c. search needs) (λ c κs. tt) (λ c. search needs) returns (λ c. search needs)
+    (λ c κs. tt) (λ c. search needs) (λ c κs. tt) (λ c κs. tt) (λ c κs. tt) (λ c κs. tt) (λ c. search needs) returns-2)

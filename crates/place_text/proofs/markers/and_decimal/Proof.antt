@@ -4,7 +4,7 @@ use mathlib.Core.List.{_∷_}
 use Prim.Native.Nat.{ℕ}
 use borrow.Author.Needs.{needs}
 use Rattle.place_text.specs.Numerals.{decimal}
-use Rattle.place_text.proofs.Puts.{said}
+use Rattle.place_text.proofs.Printing.{said}
 use Rattle.place_text.proofs.markers.and_decimal.Statement.{statement}
 use Rattle.place_text.proofs.markers.and_decimal.Tie as tie
 

@@ -1,7 +1,7 @@
 -- `place_text::markers::and_reading` meets its contract: word by word. Assumes nothing.
 use borrow.Author.Needs.{needs}
 use Rattle.place_text.specs.Text.{reading}
-use Rattle.place_text.proofs.Puts.{then}
+use Rattle.place_text.proofs.Printing.{then}
 use Rattle.place_text.proofs.markers.and_reading.Statement.{statement}
 use Rattle.place_text.proofs.markers.and_reading.Tie as tie
 

@@ -1,7 +1,7 @@
 -- `place_text::markers::put_marker` meets its contract: word by word. Assumes nothing.
 use borrow.Author.Needs.{needs}
 use Rattle.place_text.specs.Text.{markerLine}
-use Rattle.place_text.proofs.Puts.{then}
+use Rattle.place_text.proofs.Printing.{then}
 use Rattle.place_text.proofs.markers.put_marker.Statement.{statement}
 use Rattle.place_text.proofs.markers.put_marker.Tie as tie
 
@@ -23,15 +23,5 @@ returns c =
 
 pub put-marker-spec : {M : Type 1} → statement M
 put-marker-spec =
-    tie.close
-    (tie.spec
-    (λ c. search needs)
-    (λ c κs. tt)
-    (λ c κs. tt)
-    (λ c κs. tt)
-    (λ c κs. tt)
-    (λ c κs. tt)
-    (λ c κs. tt)
-    (λ c κs. tt)
-    (λ c. search needs)
-    returns)
+    tie.close (tie.spec (λ c. search needs) (λ c κs. tt) (λ c κs. tt) (λ c κs. tt) (λ c κs. tt) (λ c κs. tt) (λ c κs. tt) (λ c κs. tt)
+    (λ c. search needs) returns)

@@ -1,6 +1,6 @@
 -- `place_text::words::and_decimal` meets its contract. Assumes nothing.
 use borrow.Author.Needs.{needs}
-use Rattle.place_text.proofs.Puts.{then}
+use Rattle.place_text.proofs.Printing.{then}
 use Rattle.place_text.proofs.words.and_decimal.Statement.{statement}
 use Rattle.place_text.proofs.words.and_decimal.Tie as tie
 

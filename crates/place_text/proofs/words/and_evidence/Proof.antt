@@ -6,7 +6,7 @@ use borrow.Author.Needs.{needs}
 use Rattle.ranking.specs.declared.Evidence.{Evidence}
 use Rattle.place_text.specs.Numerals.{hex8}
 use Rattle.place_text.specs.Text.{evidenceWord}
-use Rattle.place_text.proofs.Puts.{said}
+use Rattle.place_text.proofs.Printing.{said}
 use Rattle.place_text.proofs.words.and_evidence.Statement.{statement}
 use Rattle.place_text.proofs.words.and_evidence.Tie as tie
 
@@ -23,15 +23,5 @@ returns-2 c =
 
 pub and-evidence-spec : {M : Type 1} → statement M
 and-evidence-spec =
-    tie.close
-    (tie.spec
-    (λ c. search needs)
-    (λ c κs. tt)
-    (λ c κs. tt)
-    (λ c. search needs)
-    (λ c. search needs)
-    (λ c κs. tt)
-    (λ c. search needs)
-    returns
-    (λ c. search needs)
-    returns-2)
+    tie.close (tie.spec (λ c. search needs) (λ c κs. tt) (λ c κs. tt) (λ c. search needs) (λ c. search needs) (λ c κs. tt)
+    (λ c. search needs) returns (λ c. search needs) returns-2)

@@ -1,6 +1,6 @@
 -- `place_text::words::and_signed_word` meets its contract. Assumes nothing.
 use borrow.Author.Needs.{needs}
-use Rattle.place_text.proofs.Puts.{then}
+use Rattle.place_text.proofs.Printing.{then}
 use Rattle.place_text.proofs.words.and_signed_word.Statement.{statement}
 use Rattle.place_text.proofs.words.and_signed_word.Tie as tie
 

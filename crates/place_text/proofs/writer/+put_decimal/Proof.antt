@@ -1,7 +1,7 @@
 -- The proof of the cycle of calls {put_decimal}: the digits of the tenth, then the last one. The measure is the number. Assumes nothing.
 use mathlib.Core.Path.{sym}
 use borrow.Author.Needs.{needs}
-use Rattle.place_text.proofs.Puts.{then, said, byte}
+use Rattle.place_text.proofs.Printing.{then, said, byte}
 use Rattle.place_text.proofs.Numerals.{decimal-short, decimal-long}
 use Prim.Native.Nat.{ℕ, _<_}
 use borrow.Fn.Kinds.{In}
@@ -50,7 +50,8 @@ put-decimal-returns-2 t c =
     let last = c .before .before in
     let front = last .before .before .before .before .before in
     let n = front .before .before .before .before .args .n in
-    said (sym (decimal-long n (front .before .before .if1 .left))) (then (front .put-decimal .ensures) (byte (last .before .digit2 .ensures) (last .put2 .ensures)))
+    said (sym (decimal-long n (front .before .before .if1 .left)))
+    (then (front .put-decimal .ensures) (byte (last .before .digit2 .ensures) (last .put2 .ensures)))
 
 pub +put-decimal-spec : {M : Type 1} → statement M
 +put-decimal-spec = close μ-put-decimal λ t. put-decimal-lts.spec (

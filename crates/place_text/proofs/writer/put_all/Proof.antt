@@ -4,13 +4,13 @@ use native.Mathlib.Numerals.{add-one}
 use lib.ListN.{length, take}
 use lib.Seq.{take-suc, take-all}
 use borrow.Author.Needs.{needs}
-use Rattle.place_text.specs.Writing.{Put}
-use Rattle.place_text.proofs.Puts.{then, nothing, kept}
+use Rattle.place_text.specs.Writing.{Printed}
+use Rattle.place_text.proofs.Printing.{then, nothing, printed-length}
 use Rattle.place_text.proofs.writer.put_all.Statement.{statement}
 use Rattle.place_text.proofs.writer.put_all.Tie as tie
 
 abbrev Inv-loop : tie.InvT-loop
-Inv-loop text₀ at bytes next₀ i₀ text next i = (i ≤ length bytes) × Put (take i bytes) at next text₀ text
+Inv-loop text₀ at bytes next₀ i₀ text next i = (i ≤ length bytes) × Printed (take i bytes) at next text₀ text
 
 abbrev μ-loop : tie.MeasureT-loop
 μ-loop text₀ at bytes next₀ i₀ text next i = length bytes - i
@@ -22,10 +22,11 @@ loop-again : tie.Need-loop-again Inv-loop μ-loop
 loop-again c =
     let l = c .before .before .before .before .before in
     let bytes = l .before .before .before .before .before .args .bytes .now in
-    (search needs, rw (add-one (l .before .loop .i), take-suc bytes (l .before .loop .i) 0 (l .loop-test .taken)) (then (l .before .loop .inv .1) (c .before .before .put .ensures)))
+    let i = l .before .loop .i in
+    (search needs, rw (add-one i, take-suc bytes i 0 (l .loop-test .taken)) (then (l .before .loop .inv .1) (c .before .before .put .ensures)))
 
 same-length : tie.Need-same-length Inv-loop μ-loop
-same-length c = kept (c .before .loop .inv .1)
+same-length c = printed-length (c .before .loop .inv .1)
 
 returns : tie.Need-returns Inv-loop μ-loop
 returns c =
@@ -34,16 +35,5 @@ returns c =
 
 pub put-all-spec : {M : Type 1} → statement M
 put-all-spec =
-    tie.close
-    (tie.spec
-    Inv-loop
-    μ-loop
-    (λ c κs. tt)
-    loop-holds
-    (λ c. search needs)
-    (λ c κs. tt)
-    (λ c. search needs)
-    (λ c. search needs)
-    loop-again
-    same-length
-    returns)
+    tie.close (tie.spec Inv-loop μ-loop (λ c κs. tt) loop-holds (λ c. search needs) (λ c κs. tt) (λ c. search needs) (λ c. search needs)
+    loop-again same-length returns)

@@ -1,7 +1,7 @@
 -- `place_text::writer::put_hex2` meets its contract: the high digit, then the low one. Assumes nothing.
 use borrow.Author.Needs.{needs}
 use Rattle.place_text.specs.Numerals.{hex2}
-use Rattle.place_text.proofs.Puts.{then, byte}
+use Rattle.place_text.proofs.Printing.{then, byte}
 use Rattle.place_text.proofs.writer.put_hex2.Statement.{statement}
 use Rattle.place_text.proofs.writer.put_hex2.Tie as tie
 
@@ -14,5 +14,4 @@ returns c =
 
 pub put-hex2-spec : {M : Type 1} → statement M
 put-hex2-spec =
-    tie.close
-    (tie.spec (λ c κs. search needs) (λ c κs. search needs) (λ c κs. search needs) (λ c κs. search needs) (λ c. search needs) returns)
+    tie.close (tie.spec (λ c κs. search needs) (λ c κs. search needs) (λ c κs. search needs) (λ c κs. search needs) (λ c. search needs) returns)

@@ -14,8 +14,8 @@ use mir.Val.{SFits, Fits, toZ, ofZ}
 use mir.ValLaws.{toZ-ofZ, toZ-pos}
 use borrow.Author.Needs.{needs}
 use borrow.Author.Tests.{ltb-true}
-use Rattle.place_text.specs.Numerals.{decimal, signed}
-use Rattle.place_text.proofs.Puts.{then, said}
+use Rattle.place_text.specs.Numerals.{decimal, signedDecimal}
+use Rattle.place_text.proofs.Printing.{then, said}
 use Rattle.place_text.proofs.writer.put_signed.Statement.{statement}
 use Rattle.place_text.proofs.writer.put_signed.Tie as tie
 
@@ -37,17 +37,17 @@ complement-is (negsuc k) f e =
     let same : 4294967295 - (4294967296 - suc k) ≡ k = omega (arith, f .sfits) in
     ap (toZ w32) same ∙ toZ-pos w32 k (f .sfits)
 
-minus : (z : ℤ) → SFits w32 z → ltZ z (pos 0) ≡ true → 45 ∷ decimal (natAbs (complement z) + 1) ≡ signed z
+minus : (z : ℤ) → SFits w32 z → ltZ z (pos 0) ≡ true → 45 ∷ decimal (natAbs (complement z) + 1) ≡ signedDecimal z
 minus (pos n) f e = absurd (omega (arith, ltb-true n 0 e))
 minus (negsuc k) f e =
     ap (λ (y : ℤ). 45 ∷ decimal (natAbs y + 1)) (complement-is (negsuc k) f e) ∙ ap (λ (n : ℕ). 45 ∷ decimal n) (add-one k)
 
 -- of another
-kept : (z : ℤ) → SFits w32 z → ltZ z (pos 0) ≡ false → Casts z
-kept (pos n) f e = small n (f .sfits)
-kept (negsuc k) f e = let w : _≡_ {A = ℕ} 0 1 = cc in absurd (omega arith)
+other-casts : (z : ℤ) → SFits w32 z → ltZ z (pos 0) ≡ false → Casts z
+other-casts (pos n) f e = small n (f .sfits)
+other-casts (negsuc k) f e = let w : _≡_ {A = ℕ} 0 1 = cc in absurd (omega arith)
 
-plain : (z : ℤ) → ltZ z (pos 0) ≡ false → decimal (natAbs z) ≡ signed z
+plain : (z : ℤ) → ltZ z (pos 0) ≡ false → decimal (natAbs z) ≡ signedDecimal z
 plain (pos n) e = refl
 plain (negsuc k) e = let w : _≡_ {A = ℕ} 0 1 = cc in absurd (omega arith)
 
@@ -94,7 +94,7 @@ module _ (c : tie.Else1) where
 
 cast-put-decimal-2 : tie.Need-cast-put-decimal-2
 cast-put-decimal-2 c =
-    let e = c .before in subst Casts (sym (back e)) (kept (y e) (e .before .before .fits .z) (other e))
+    let e = c .before in subst Casts (sym (back e)) (other-casts (y e) (e .before .before .fits .z) (other e))
 
 returns-2 : tie.Need-returns-2
 returns-2 c =
@@ -104,15 +104,5 @@ returns-2 c =
 
 pub put-signed-spec : {M : Type 1} → statement M
 put-signed-spec =
-    tie.close
-    (tie.spec
-    (λ c κs. tt)
-    cast-put-decimal
-    add-put-decimal
-    (λ c κs. tt)
-    (λ c. search needs)
-    returns
-    cast-put-decimal-2
-    (λ c κs. tt)
-    (λ c. search needs)
-    returns-2)
+    tie.close (tie.spec (λ c κs. tt) cast-put-decimal add-put-decimal (λ c κs. tt) (λ c. search needs) returns cast-put-decimal-2
+    (λ c κs. tt) (λ c. search needs) returns-2)

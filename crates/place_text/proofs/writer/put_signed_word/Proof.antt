@@ -6,7 +6,7 @@ use Prim.Native.Nat.{ℕ, _-_}
 use borrow.Author.Needs.{needs}
 use borrow.Author.Tests.{lt-ltb, le-ltb}
 use Rattle.place_text.specs.Numerals.{decimal}
-use Rattle.place_text.proofs.Puts.{then, said}
+use Rattle.place_text.proofs.Printing.{then, said}
 use Rattle.place_text.proofs.writer.put_signed_word.Statement.{statement}
 use Rattle.place_text.proofs.writer.put_signed_word.Tie as tie
 
@@ -31,13 +31,5 @@ returns-2 c =
 
 pub put-signed-word-spec : {M : Type 1} → statement M
 put-signed-word-spec =
-    tie.close
-    (tie.spec
-    (λ c κs. tt)
-    (λ c. search needs)
-    returns
-    (λ c κs. tt)
-    (λ c. search needs)
-    (λ c κs. tt)
-    (λ c. search needs)
+    tie.close (tie.spec (λ c κs. tt) (λ c. search needs) returns (λ c κs. tt) (λ c. search needs) (λ c κs. tt) (λ c. search needs)
     returns-2)

@@ -82,14 +82,4 @@ returns-6 c = sym (ap (λ (vs : List ℕ). getD vs (c .before .args .k) 0) (noth
 
 pub value-spec : {M : Type 1} → statement M
 value-spec =
-    tie.close
-    (tie.spec
-    (λ c. search needs)
-    returns
-    returns-2
-    (λ c. search needs)
-    (λ c κs. tt)
-    returns-3
-    returns-4
-    returns-5
-    returns-6)
+    tie.close (tie.spec (λ c. search needs) returns returns-2 (λ c. search needs) (λ c κs. tt) returns-3 returns-4 returns-5 returns-6)

@@ -16,14 +16,7 @@ module _ (c : tie.After-known-told) where
 
 pub corner-translation-spec : {M : Type 1} → statement M
 corner-translation-spec =
-    tie.close
-    (tie.spec
-    (λ c κs. tt)
-    (λ c. search needs)
-    (λ c. search needs)
-    (λ c. tt)
-    (λ c. widened-fits _ (u-fits c))
+    tie.close (tie.spec (λ c κs. tt) (λ c. search needs) (λ c. search needs) (λ c. tt) (λ c. widened-fits _ (u-fits c))
     (λ c. widened-fits _ (v-fits c))
     (λ c κs. omega (arith, widened-small (c .before .turn .given .0 .1 .0) (u-fits c), widened-small (c .before .turn .given .0 .1 .1 .0) (v-fits c)))
-    (λ c κs. tt)
-    (λ c. tt))
+    (λ c κs. tt) (λ c. tt))

@@ -8,17 +8,5 @@ use Rattle.replay.proofs.kinds.new_board.Tie as tie
 
 pub new-board-spec : {M : Type 1} → statement M
 new-board-spec =
-    tie.close
-    (tie.spec
-    (λ c κs. tt)
-    (λ c. tt)
-    (λ c κs. tt)
-    (λ c κs. tt)
-    (λ c κs. tt)
-    (λ c. search needs)
-    (λ c. sym (length-take-le _ _ (omega arith)))
-    (λ c κs. tt)
-    (λ c κs. tt)
-    (λ c. search needs)
-    (λ c κs. search needs)
-    (λ c. tt))
+    tie.close (tie.spec (λ c κs. tt) (λ c. tt) (λ c κs. tt) (λ c κs. tt) (λ c κs. tt) (λ c. search needs)
+    (λ c. sym (length-take-le _ _ (omega arith))) (λ c κs. tt) (λ c κs. tt) (λ c. search needs) (λ c κs. search needs) (λ c. tt))

@@ -9,21 +9,7 @@ use Rattle.replay_corners_links.proofs.corners.same_corners.Tie as tie
 
 pub same-corners-spec : {M : Type 1} → statement M
 same-corners-spec =
-    tie.close
-    (tie.spec
-    (λ c. search needs)
-    (λ c. search needs)
-    (λ c κs. tt)
-    (λ c. search needs)
-    (λ c. search needs)
-    (λ c. search needs)
-    (λ c. search needs)
-    (λ c. search needs)
-    (λ c. search needs)
-    (λ c. sym (length-take-le _ _ (omega (arith, ltb-false))))
-    (λ c. sym (length-take-le _ _ (omega (arith, ltb-false))))
-    (λ c. search needs)
-    (λ c. sym (length-take-le _ _ (omega (arith, ltb-false))))
-    (λ c κs. tt)
-    (λ c. search needs)
-    (λ c. tt))
+    tie.close (tie.spec (λ c. search needs) (λ c. search needs) (λ c κs. tt) (λ c. search needs) (λ c. search needs) (λ c. search needs)
+    (λ c. search needs) (λ c. search needs) (λ c. search needs) (λ c. sym (length-take-le _ _ (omega (arith, ltb-false))))
+    (λ c. sym (length-take-le _ _ (omega (arith, ltb-false)))) (λ c. search needs)
+    (λ c. sym (length-take-le _ _ (omega (arith, ltb-false)))) (λ c κs. tt) (λ c. search needs) (λ c. tt))

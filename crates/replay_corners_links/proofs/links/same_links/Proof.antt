@@ -9,18 +9,6 @@ use Rattle.replay_corners_links.proofs.links.same_links.Tie as tie
 
 pub same-links-spec : {M : Type 1} → statement M
 same-links-spec =
-    tie.close
-    (tie.spec
-    (λ c. search needs)
-    (λ c κs. tt)
-    (λ c. search needs)
-    (λ c. search needs)
-    (λ c. search needs)
-    (λ c. search needs)
-    (λ c. search needs)
-    (λ c. sym (length-take-le _ _ (omega (arith, ltb-false))))
-    (λ c. search needs)
-    (λ c. sym (length-take-le _ _ (omega (arith, ltb-false))))
-    (λ c κs. tt)
-    (λ c. search needs)
-    (λ c. tt))
+    tie.close (tie.spec (λ c. search needs) (λ c κs. tt) (λ c. search needs) (λ c. search needs) (λ c. search needs) (λ c. search needs)
+    (λ c. search needs) (λ c. sym (length-take-le _ _ (omega (arith, ltb-false)))) (λ c. search needs)
+    (λ c. sym (length-take-le _ _ (omega (arith, ltb-false)))) (λ c κs. tt) (λ c. search needs) (λ c. tt))

@@ -9,12 +9,5 @@ use Rattle.replay_matches.proofs.matches.same_match.Tie as tie
 
 pub same-match-spec : {M : Type 1} → statement M
 same-match-spec =
-    tie.close
-    (tie.spec
-    (λ c. search needs)
-    (λ c. tt)
-    (λ c. search needs)
-    (λ c. sym (length-take-le _ _ (omega (arith, ltb-false))))
-    (λ c κs. tt)
-    (λ c. search needs)
-    (λ c. tt))
+    tie.close (tie.spec (λ c. search needs) (λ c. tt) (λ c. search needs) (λ c. sym (length-take-le _ _ (omega (arith, ltb-false))))
+    (λ c κs. tt) (λ c. search needs) (λ c. tt))

@@ -9,12 +9,5 @@ use Rattle.replay_matches.proofs.rows.asked.Tie as tie
 
 pub asked-spec : {M : Type 1} → statement M
 asked-spec =
-    tie.close
-    (tie.spec
-    (λ c. search needs)
-    (λ c. search needs)
-    (λ c. search needs)
-    (λ c. sym (length-take-le _ _ (omega (arith, ltb-false))))
-    (λ c κs. tt)
-    (λ c. search needs)
-    (λ c. search needs))
+    tie.close (tie.spec (λ c. search needs) (λ c. search needs) (λ c. search needs)
+    (λ c. sym (length-take-le _ _ (omega (arith, ltb-false)))) (λ c κs. tt) (λ c. search needs) (λ c. search needs))

@@ -9,14 +9,6 @@ use Rattle.replay_shots.proofs.markers.same_cells.Tie as tie
 
 pub same-cells-spec : {M : Type 1} → statement M
 same-cells-spec =
-    tie.close
-    (tie.spec
-    (λ c. tt)
-    (λ c. tt)
-    (λ c. tt)
-    (λ c. sym (length-take-le _ _ (omega (arith, ltb-false))))
-    (λ c. search needs)
-    (λ c. sym (length-take-le _ _ (omega (arith, ltb-false))))
-    (λ c. sym (length-take-le _ _ (omega (arith, ltb-false))))
-    (λ c κs. tt)
+    tie.close (tie.spec (λ c. tt) (λ c. tt) (λ c. tt) (λ c. sym (length-take-le _ _ (omega (arith, ltb-false)))) (λ c. search needs)
+    (λ c. sym (length-take-le _ _ (omega (arith, ltb-false)))) (λ c. sym (length-take-le _ _ (omega (arith, ltb-false)))) (λ c κs. tt)
     (λ c. tt))

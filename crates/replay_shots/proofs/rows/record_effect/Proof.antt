@@ -9,21 +9,6 @@ use Rattle.replay_shots.proofs.rows.record_effect.Tie as tie
 
 pub record-effect-spec : {M : Type 1} → statement M
 record-effect-spec =
-    tie.close
-    (tie.spec
-    (λ c. search needs)
-    (λ c κs. tt)
-    (λ c. tt)
-    (λ c. search needs)
-    (λ c κs. tt)
-    (λ c. search needs)
-    (λ c. tt)
-    (λ c. search needs)
-    (λ c κs. tt)
-    (λ c. tt)
-    (λ c. tt)
-    (λ c. search needs)
-    (λ c. sym (length-take-le _ _ (omega (arith, ltb-false))))
-    (λ c κs. tt)
-    (λ c. search needs)
-    (λ c. tt))
+    tie.close (tie.spec (λ c. search needs) (λ c κs. tt) (λ c. tt) (λ c. search needs) (λ c κs. tt) (λ c. search needs) (λ c. tt)
+    (λ c. search needs) (λ c κs. tt) (λ c. tt) (λ c. tt) (λ c. search needs) (λ c. sym (length-take-le _ _ (omega (arith, ltb-false))))
+    (λ c κs. tt) (λ c. search needs) (λ c. tt))

@@ -7,10 +7,10 @@ use native.Mathlib.Omega.{arith}
 use lib.ListN.{length, getD, set, length-set}
 use lib.Ieee.{Float}
 use borrow.Author.Count.{below-none}
-use Rattle.matcher.specs.Codes.{placeOf}
+use Rattle.matcher.specs.Codes.{bitPlace}
 use Rattle.score_matrix.specs.Table.{entry}
 use Rattle.score_matrix.specs.Scores.{Samples, samples, grey, likelihood}
-use Rattle.score_matrix.specs.Likelihoods.{Holds}
+use Rattle.score_matrix.specs.Likelihoods.{HoldsLikelihoods}
 use Rattle.score_matrix.proofs.Places.{Here, here, area, first-place, index-inside, read-grey}
 use Rattle.score_matrix.proofs.Likelihoods.{holds-next}
 use Rattle.score_matrix.proofs.cell.bit_likelihoods.Statement.{statement}
@@ -18,7 +18,7 @@ use Rattle.score_matrix.proofs.cell.bit_likelihoods.Tie as tie
 
 abbrev Inv-loop : tie.InvT-loop
 Inv-loop table grid threshold bits border n rim count likelihoods₀ p₀ k₀ likelihoods p k =
-    (k ≤ count) × (p ≡ placeOf bits k) × (length likelihoods ≡ 128) × Holds table (samples bits border threshold grid) k likelihoods
+    (k ≤ count) × (p ≡ bitPlace bits k) × (length likelihoods ≡ 128) × HoldsLikelihoods table (samples bits border threshold grid) k likelihoods
 
 abbrev μ-loop : tie.MeasureT-loop
 μ-loop table grid threshold bits border n rim count likelihoods₀ p₀ k₀ likelihoods p k = count - k
@@ -45,7 +45,8 @@ module _ (c : tie.In-loop Inv-loop μ-loop) where
 
 -- after the grey is read
 read : (c : tie.After-grid-index Inv-loop μ-loop) → getD (cell (c .before) .grid) (c .grid-index .result) 0 ≡ grey (cell (c .before)) (k (c .before))
-read c = read-grey (cell (c .before)) (k (c .before)) (c .grid-index .result) (c .before .before .loop .p) (c .grid-index .ensures) (c .before .before .loop .inv .1)
+read c = read-grey (cell (c .before)) (k (c .before)) (c .grid-index .result) (c .before .before .loop .p) (c .grid-index .ensures)
+    (c .before .before .loop .inv .1)
 
 -- after both parts are looked up
 module _ (c : tie.After-entry2 Inv-loop μ-loop) where
@@ -106,8 +107,10 @@ loop-again c =
     let l = loop e in (
       omega (arith, l .loop-test .taken),
       c .next-place .ensures (k l) (l .before .loop .inv .1),
-      length-set (set (l .before .loop .likelihoods) (2 * k l) (e .before .entry .result)) (2 * k l + 1) (e .entry2 .result) ∙ length-set (l .before .loop .likelihoods) (2 * k l) (e .before .entry .result) ∙ l .before .loop .inv .2,
-      holds-next (table e) (cell l) (k l) (l .before .loop .likelihoods) (e .before .entry .result) (e .entry2 .result) (l .before .loop .inv .3) (rw (l .before .loop .inv .2) (omega (arith, at l .small))) (zeros e) (ones e),
+      length-set (set (l .before .loop .likelihoods) (2 * k l) (e .before .entry .result)) (2 * k l + 1) (e .entry2 .result)
+          ∙ length-set (l .before .loop .likelihoods) (2 * k l) (e .before .entry .result) ∙ l .before .loop .inv .2,
+      holds-next (table e) (cell l) (k l) (l .before .loop .likelihoods) (e .before .entry .result) (e .entry2 .result) (l .before .loop .inv .3)
+          (rw (l .before .loop .inv .2) (omega (arith, at l .small))) (zeros e) (ones e),
     )
 
 returns : tie.Need-returns Inv-loop μ-loop
@@ -115,25 +118,6 @@ returns c k h = c .before .loop .inv .3 k (omega (arith, h, c .before .loop .inv
 
 pub bit-likelihoods-spec : {M : Type 1} → statement M
 bit-likelihoods-spec =
-    tie.close
-    (tie.spec
-    Inv-loop
-    μ-loop
-    mul-count
-    loop-holds
-    grid-index-requires
-    shared-slice-read-grey
-    (λ c κs. tt)
-    mul-likelihoods
-    mul-likelihoods-2
-    array-write-likelihoods
-    (λ c κs. tt)
-    mul-likelihoods-3
-    add-likelihoods
-    mul-likelihoods-4
-    array-write-likelihoods-2
-    next-place-requires
-    add-k
-    loop-less
-    loop-again
-    returns)
+    tie.close (tie.spec Inv-loop μ-loop mul-count loop-holds grid-index-requires shared-slice-read-grey (λ c κs. tt) mul-likelihoods
+    mul-likelihoods-2 array-write-likelihoods (λ c κs. tt) mul-likelihoods-3 add-likelihoods mul-likelihoods-4 array-write-likelihoods-2
+    next-place-requires add-k loop-less loop-again returns)

@@ -17,5 +17,4 @@ add-result-4 c = let s = c .before .before in omega (arith, small (s .args .bits
 
 pub grid-index-spec : {M : Type 1} → statement M
 grid-index-spec =
-    tie.close
-    (tie.spec (λ c. search needs) (λ c. search needs) (λ c. search needs) mul-result-2 (λ c. search needs) add-result-4 (λ c. search needs))
+    tie.close (tie.spec (λ c. search needs) (λ c. search needs) (λ c. search needs) mul-result-2 (λ c. search needs) add-result-4 (λ c. search needs))

@@ -1,11 +1,11 @@
 -- `score_matrix::cell::read_code` meets its contract. The loop's invariant: `code` has the first k bits, and `p` is the place of the next.
 -- Assumes nothing.
 use mathlib.Core.Path.{_≡_, refl, ap, ap₂, _∙_}
-use mathlib.Core.Bool.{Bool, true, false}
+use mathlib.Core.Bool.{Bool, true, false, cond}
 use Prim.Native.Nat.{ℕ, _+_, _-_, _*_, _%_, _^_, _≤_, _<_}
 use native.Mathlib.Omega.{arith}
 use lib.Dec.{ltb}
-use Rattle.matcher.specs.Codes.{fromBits, placeOf, pick}
+use Rattle.matcher.specs.Codes.{fromBits, bitPlace}
 use Rattle.matcher.proofs.Bits.{Bits, next-bit, word-below}
 use Rattle.score_matrix.specs.Scores.{Samples, samples, grey, readBit}
 use Rattle.score_matrix.proofs.Places.{Here, here, area, first-place, index-inside, read-grey}
@@ -14,7 +14,7 @@ use Rattle.score_matrix.proofs.cell.read_code.Tie as tie
 
 abbrev Inv-loop : tie.InvT-loop
 Inv-loop grid threshold bits border n rim code₀ p₀ k₀ code p k =
-    (k ≤ n * n) × (p ≡ placeOf bits k) × (code ≡ fromBits (readBit (samples bits border threshold grid)) k)
+    (k ≤ n * n) × (p ≡ bitPlace bits k) × (code ≡ fromBits (readBit (samples bits border threshold grid)) k)
 
 abbrev μ-loop : tie.MeasureT-loop
 μ-loop grid threshold bits border n rim code₀ p₀ k₀ code p k = n * n - k
@@ -22,7 +22,7 @@ abbrev μ-loop : tie.MeasureT-loop
 read-bits : (s : Samples) → Bits (readBit s)
 read-bits s k = go (ltb (grey s k) (s .threshold))
   where
-    go : (b : Bool) → pick b 1 0 < 2
+    go : (b : Bool) → cond b 1 0 < 2
     go true = omega arith
     go false = omega arith
 
@@ -55,8 +55,9 @@ module _ (c : tie.After-below Inv-loop μ-loop) where
   bit : c .below .result ≡ readBit (cell loop) (k loop)
   bit =
       c .below .ensures
-      ∙ ap (λ (g : ℕ). pick (ltb g (cell loop .threshold)) 1 0)
-      (read-grey (cell loop) (k loop) (c .before .before .grid-index .result) (loop .before .loop .p) (c .before .before .grid-index .ensures) (loop .before .loop .inv .1))
+      ∙ ap (λ (g : ℕ). cond (ltb g (cell loop .threshold)) 1 0)
+      (read-grey (cell loop) (k loop) (c .before .before .grid-index .result) (loop .before .loop .p) (c .before .before .grid-index .ensures)
+      (loop .before .loop .inv .1))
 
   code : loop .before .loop .code + c .below .result * 2 ^ k loop % 2 ^ 64 ≡ fromBits (readBit (cell loop)) (k loop + 1)
   code =
@@ -103,19 +104,5 @@ returns c =
 
 pub read-code-spec : {M : Type 1} → statement M
 read-code-spec =
-    tie.close
-    (tie.spec
-    Inv-loop
-    μ-loop
-    loop-holds
-    mul-loop
-    grid-index-requires
-    shared-slice-read-below
-    (λ c κs. tt)
-    shl-code
-    add-code
-    next-place-requires
-    add-k
-    loop-less
-    loop-again
-    returns)
+    tie.close (tie.spec Inv-loop μ-loop loop-holds mul-loop grid-index-requires shared-slice-read-below (λ c κs. tt) shl-code add-code
+    next-place-requires add-k loop-less loop-again returns)

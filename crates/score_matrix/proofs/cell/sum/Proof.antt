@@ -56,8 +56,10 @@ loop-again c =
     let l = s .before .args .likelihoods .now in
     let k = s .loop .k in (
       omega (arith, c .before .loop-test .taken),
-      ap₂ (λ (t : Float) (r : ℕ). add binary32 t (getD l (2 * k + r % 2) nan)) (s .loop .inv .1) (s .loop .inv .2) ∙ ap (sumTo (picked l code)) (sym (add-one k)),
-      ap (λ (r : ℕ). r / 2) (s .loop .inv .2) ∙ div-div-eq-div-mul code (2 ^ k) 2 ∙ ap (λ (d : ℕ). code / d) (sym (pow-suc 2 k) ∙ ap (λ (n : ℕ). 2 ^ n) (sym (add-one k))),
+      ap₂ (λ (t : Float) (r : ℕ). add binary32 t (getD l (2 * k + r % 2) nan)) (s .loop .inv .1) (s .loop .inv .2)
+          ∙ ap (sumTo (picked l code)) (sym (add-one k)),
+      ap (λ (r : ℕ). r / 2) (s .loop .inv .2) ∙ div-div-eq-div-mul code (2 ^ k) 2
+          ∙ ap (λ (d : ℕ). code / d) (sym (pow-suc 2 k) ∙ ap (λ (n : ℕ). 2 ^ n) (sym (add-one k))),
     )
 
 returns : tie.Need-returns Inv-loop μ-loop
@@ -68,17 +70,5 @@ returns c =
 
 pub sum-spec : {M : Type 1} → statement M
 sum-spec =
-    tie.close
-    (tie.spec
-    Inv-loop
-    μ-loop
-    mul-n
-    loop-holds
-    mul-total
-    add-total
-    mul-total-2
-    element-copy-out-total
-    add-k
-    loop-less
-    loop-again
+    tie.close (tie.spec Inv-loop μ-loop mul-n loop-holds mul-total add-total mul-total-2 element-copy-out-total add-k loop-less loop-again
     returns)

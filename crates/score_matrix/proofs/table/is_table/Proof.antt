@@ -12,22 +12,24 @@ use lib.Dec.{eqb}
 use lib.Ieee.{Float, nan}
 use borrow.Author.Needs.{needs}
 use borrow.Author.Tests.{eq-eqb, ne-eqb, not-true, not-false}
-use Rattle.score_matrix.specs.Table.{ranged, allRanged}
+use Rattle.score_matrix.specs.Table.{entryInRange, entriesInRange}
 use Rattle.score_matrix.proofs.table.is_table.Statement.{statement}
 use Rattle.score_matrix.proofs.table.is_table.Tie as tie
 
 abbrev Inv-loop : tie.InvT-loop
-Inv-loop table i₀ i = (i ≤ length table) × (eqb (length table) 511 ≡ true) × (allRanged (drop i table) ≡ allRanged table)
+Inv-loop table i₀ i = (i ≤ length table) × (eqb (length table) 511 ≡ true) × (entriesInRange (drop i table) ≡ entriesInRange table)
 
 abbrev μ-loop : tie.MeasureT-loop
 μ-loop table i₀ i = length table - i
 
 -- the answer at one entry
-here : (table : List Float) (i : ℕ) (b : Bool) → i < length table → ranged (getD table i nan) ≡ b → allRanged (drop i table) ≡ (b && allRanged (drop (i + 1) table))
+here : (table : List Float) (i : ℕ) (b : Bool) → i < length table → entryInRange (getD table i nan) ≡ b
+    → entriesInRange (drop i table) ≡ (b && entriesInRange (drop (i + 1) table))
 here table i b l e = rw (drop-cons table i nan l, add-one, e)
 
 returns : tie.Need-returns Inv-loop μ-loop
-returns c = ap (λ (b : Bool). b && allRanged (c .before .before .args .table .now)) (sym (ne-eqb (length (c .before .before .args .table .now)) 511 (c .if1 .taken)))
+returns c = ap (λ (b : Bool). b && entriesInRange (c .before .before .args .table .now))
+    (sym (ne-eqb (length (c .before .before .args .table .now)) 511 (c .if1 .taken)))
 
 loop-holds : tie.Need-loop-holds Inv-loop μ-loop
 loop-holds c = (omega arith, eq-eqb (length (c .before .before .args .table .now)) 511 (c .if1 .left), refl)
@@ -40,7 +42,7 @@ module _ (c : tie.After-ranged Inv-loop μ-loop) (b : Bool) where
   abbrev table : List Float
   table = loop .before .before .before .args .table .now
 
-  next : c .ranged .result ≡ b → (b && allRanged (drop (loop .loop .i + 1) table)) ≡ allRanged table
+  next : c .ranged .result ≡ b → (b && entriesInRange (drop (loop .loop .i + 1) table)) ≡ entriesInRange table
   next e = sym (here table (loop .loop .i) b (c .before .before .loop-test .taken) (sym (c .ranged .ensures) ∙ e)) ∙ loop .loop .inv .2
 
 returns-2 : tie.Need-returns-2 Inv-loop μ-loop
@@ -56,21 +58,9 @@ loop-again c =
 returns-3 : tie.Need-returns-3 Inv-loop μ-loop
 returns-3 c =
     let table = c .before .before .before .before .args .table .now in
-    ap₂ _&&_ (sym (c .before .loop .inv .1)) (sym (ap allRanged (drop-of-length-le table (c .loop-test .left))) ∙ c .before .loop .inv .2)
+    ap₂ _&&_ (sym (c .before .loop .inv .1)) (sym (ap entriesInRange (drop-of-length-le table (c .loop-test .left))) ∙ c .before .loop .inv .2)
 
 pub is-table-spec : {M : Type 1} → statement M
 is-table-spec =
-    tie.close
-    (tie.spec
-    Inv-loop
-    μ-loop
-    returns
-    loop-holds
-    (λ c. search needs)
-    (λ c. search needs)
-    (λ c κs. tt)
-    returns-2
-    (λ c. search needs)
-    (λ c. search needs)
-    loop-again
-    returns-3)
+    tie.close (tie.spec Inv-loop μ-loop returns loop-holds (λ c. search needs) (λ c. search needs) (λ c κs. tt) returns-2
+    (λ c. search needs) (λ c. search needs) loop-again returns-3)

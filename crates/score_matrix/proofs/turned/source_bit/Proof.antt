@@ -1,6 +1,6 @@
 -- `score_matrix::turned::source_bit` meets its contract. Assumes nothing.
 use mathlib.Core.Path.{ap, sym, subst}
-use Prim.Native.Nat.{_%_, _<_}
+use Prim.Native.Nat.{_<_}
 use native.Mathlib.Omega.{arith}
 use borrow.Author.Needs.{needs}
 use Rattle.matcher.specs.Codes.{indexOf}
@@ -15,7 +15,7 @@ module _ (c : tie.After-source-place) where
   found =
       let a = c .before .args in
       let p = c .before .pre in
-      subst (Inside (a .n)) (sym (c .source-place .ensures)) (source-inside (a .n) (a .turn % 4) (a .p) (record { column = p .1; row = p .2 }))
+      subst (Inside (a .n)) (sym (c .source-place .ensures)) (source-inside (a .n) (a .turn) (a .p) (record { column = p .1; row = p .2 }))
 
   small : indexOf (c .before .args .n) (c .source-place .result) < 64
   small = omega (arith, index-below (c .before .args .n) (c .source-place .result) found, area (c .before .args .n) (c .before .pre .0))

@@ -1,19 +1,19 @@
 -- `score_matrix::turned::source_bits` meets its contract. The loop's invariant: the list holds the sources of the first k bits, and `p` is the place of
 -- the next. Assumes nothing.
 use mathlib.Core.Path.{_≡_, refl, ap, _∙_}
-use Prim.Native.Nat.{ℕ, _-_, _%_, _≤_}
+use Prim.Native.Nat.{ℕ, _-_, _≤_}
 use native.Mathlib.Omega.{arith}
 use lib.ListN.{length, getD, set, length-set}
 use lib.Seq.{getD-set-same, getD-set-other}
 use borrow.Author.Count.{below-none, below-more}
-use Rattle.matcher.specs.Codes.{placeOf, indexOf, source, sourceBit}
+use Rattle.matcher.specs.Codes.{bitPlace, indexOf, source, sourceBit}
 use Rattle.score_matrix.specs.Likelihoods.{Sources}
 use Rattle.score_matrix.proofs.Places.{Here, here, area, first-place}
 use Rattle.score_matrix.proofs.turned.source_bits.Statement.{statement}
 use Rattle.score_matrix.proofs.turned.source_bits.Tie as tie
 
 abbrev Inv-loop : tie.InvT-loop
-Inv-loop bits turn n count sources₀ p₀ k₀ sources p k = (k ≤ count) × (p ≡ placeOf bits k) × (length sources ≡ 64) × Sources bits turn k sources
+Inv-loop bits turn n count sources₀ p₀ k₀ sources p k = (k ≤ count) × (p ≡ bitPlace bits k) × (length sources ≡ 64) × Sources bits turn k sources
 
 abbrev μ-loop : tie.MeasureT-loop
 μ-loop bits turn n count sources₀ p₀ k₀ sources p k = count - k
@@ -54,7 +54,7 @@ loop-again : tie.Need-loop-again Inv-loop μ-loop
 loop-again c =
     let l = c .before .before in
     let b = start l .args .bits in
-    let r = start l .args .turn % 4 in
+    let r = start l .args .turn in
     let before = l .before .loop .sources in
     let x = c .before .source-bit .result in
     let held = l .before .loop .inv in (
@@ -71,16 +71,5 @@ returns c k h = c .before .loop .inv .3 k (omega (arith, h, c .before .loop .inv
 
 pub source-bits-spec : {M : Type 1} → statement M
 source-bits-spec =
-    tie.close
-    (tie.spec
-    Inv-loop
-    μ-loop
-    mul-count
-    loop-holds
-    source-bit-requires
-    array-write-sources
-    next-place-requires
-    add-k
-    loop-less
-    loop-again
-    returns)
+    tie.close (tie.spec Inv-loop μ-loop mul-count loop-holds source-bit-requires array-write-sources next-place-requires add-k loop-less
+    loop-again returns)

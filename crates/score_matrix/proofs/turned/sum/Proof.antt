@@ -43,8 +43,11 @@ loop-again : tie.Need-loop-again Inv-loop μ-loop
 unfolding sumTo
 loop-again c =
     let s = c .before .before .before in
-    let a = s .before .args in
-    (omega (arith, c .before .before .loop-test .taken), ap₂ (add binary32) (s .loop .inv .1) (c .pick .ensures) ∙ ap (sumTo (pickedFrom (a .likelihoods .now) (a .sources .now) (a .code))) (sym (add-one (s .loop .k))))
+    let a = s .before .args in (
+      omega (arith, c .before .before .loop-test .taken),
+      ap₂ (add binary32) (s .loop .inv .1) (c .pick .ensures)
+          ∙ ap (sumTo (pickedFrom (a .likelihoods .now) (a .sources .now) (a .code))) (sym (add-one (s .loop .k))),
+    )
 
 returns : tie.Need-returns Inv-loop μ-loop
 returns c =

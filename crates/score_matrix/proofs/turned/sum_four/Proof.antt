@@ -89,23 +89,11 @@ returns : tie.Need-returns Inv-loop μ-loop
 returns c =
     let l = c .before .loop in
     let s = c .before .before .args in
-    all (pickedFrom (s .likelihoods .now) (s .sources .now)) (s .bits * s .bits) (l .k) (s .first) (s .second) (s .third) (s .fourth) (l .a) (l .b) (l .c) (l .d)
+    all (pickedFrom (s .likelihoods .now) (s .sources .now)) (s .bits * s .bits) (l .k) (s .first) (s .second) (s .third) (s .fourth) (l .a) (l .b)
+    (l .c) (l .d)
     (omega (arith, l .inv .0, c .loop-test .left)) (l .inv .1) (l .inv .2) (l .inv .3) (l .inv .4)
 
 pub sum-four-spec : {M : Type 1} → statement M
 sum-four-spec =
-    tie.close
-    (tie.spec
-    Inv-loop
-    μ-loop
-    mul-n
-    loop-holds
-    element-copy-out-s
-    pick-requires
-    pick-requires-2
-    pick-requires-3
-    pick-requires-4
-    add-k
-    loop-less
-    loop-again
-    returns)
+    tie.close (tie.spec Inv-loop μ-loop mul-n loop-holds element-copy-out-s pick-requires pick-requires-2 pick-requires-3 pick-requires-4
+    add-k loop-less loop-again returns)

@@ -24,8 +24,11 @@ loop-holds c = (omega arith, record { size = length-replicate {A = ℕ} 512 0; b
 loop-again : tie.Need-loop-again Inv-loop μ-loop
 loop-again c =
     let l = c .before .before in
-    let x = l .before .before .before .args in
-    (omega (arith, c .before .loop-test .taken), one-more (code-of (x .bytes .now)) 0 (l .loop .codes) 512 (l .loop .k) (c .code-or-0 .result) (c .before .loop-test .taken) (l .loop .inv .1) (c .code-or-0 .ensures))
+    let x = l .before .before .before .args in (
+      omega (arith, c .before .loop-test .taken),
+      one-more (code-of (x .bytes .now)) 0 (l .loop .codes) 512 (l .loop .k) (c .code-or-0 .result) (c .before .loop-test .taken) (l .loop .inv .1)
+          (c .code-or-0 .ensures),
+    )
 
 returns : tie.Need-returns Inv-loop μ-loop
 returns c =
@@ -35,16 +38,5 @@ returns c =
 
 pub codes-spec : {M : Type 1} → statement M
 codes-spec =
-    tie.close
-    (tie.spec
-    Inv-loop
-    μ-loop
-    (λ c κs. search needs)
-    loop-holds
-    (λ c κs. search needs)
-    (λ c. search needs)
-    (λ c. search needs)
-    (λ c. search needs)
-    (λ c. search needs)
-    loop-again
-    returns)
+    tie.close (tie.spec Inv-loop μ-loop (λ c κs. search needs) loop-holds (λ c κs. search needs) (λ c. search needs) (λ c. search needs)
+    (λ c. search needs) (λ c. search needs) loop-again returns)

@@ -8,7 +8,7 @@ use mathlib.Core.List.{List}
 use lib.ListN.{length, drop, drop-of-length-le}
 use borrow.Author.Needs.{needs}
 use borrow.Author.Tests.{not-true, not-false}
-use Rattle.board.specs.Questions.{codeAnswer, codesAnswer}
+use Rattle.board.specs.Questions.{codeInRange, codesAnswer}
 use Rattle.board.proofs.Asked.{codes-step}
 use Rattle.shot_record.specs.Fields.{number, codesAt, codeCount}
 use Rattle.shot_record.specs.Shots.{shot}
@@ -21,10 +21,10 @@ abbrev codes : List ℕ → List ℕ
 codes bytes = shot bytes .codes
 
 abbrev Inv-loop : tie.InvT-loop
-Inv-loop bytes bits f count k₀ k = (k ≤ count) × (codesAnswer bits (drop k (codes bytes)) ≡ codesAnswer bits (codes bytes))
+Inv-loop bytes first bits f count k₀ k = (k ≤ count) × (codesAnswer bits (drop k (codes bytes)) ≡ codesAnswer bits (codes bytes))
 
 abbrev μ-loop : tie.MeasureT-loop
-μ-loop bytes bits f count k₀ k = count - k
+μ-loop bytes first bits f count k₀ k = count - k
 
 loop-holds : tie.Need-loop-holds Inv-loop μ-loop
 loop-holds c = (omega arith, refl)
@@ -46,9 +46,10 @@ module _ (c : tie.After-code Inv-loop μ-loop) where
   abbrev l : tie.At-loop Inv-loop μ-loop
   l = c .before .before .before
 
-  next : (b : Bool) → c .code .result ≡ b → (b && codesAnswer (x l .args .bits) (drop (l .loop .k + 1) (codes (bytes l)))) ≡ codesAnswer (x l .args .bits) (codes (bytes l))
+  next : (b : Bool) → c .code .result ≡ b → (b
+      && codesAnswer (x l .args .bits) (drop (l .loop .k + 1) (codes (bytes l)))) ≡ codesAnswer (x l .args .bits) (codes (bytes l))
   next b e =
-      let answer = sym (c .code .ensures ∙ ap (codeAnswer (x l .args .bits)) (c .before .code-or-0 .ensures)) ∙ e in
+      let answer = sym (c .code .ensures ∙ ap (codeInRange (x l .args .bits)) (c .before .code-by .ensures)) ∙ e in
       sym (codes-step (x l .args .bits) (codes (bytes l)) (l .loop .k) b (omega (arith, count l, c .before .before .loop-test .taken)) answer)
       ∙ l .loop .inv .1
 
@@ -66,16 +67,5 @@ returns-2 c =
 
 pub codes-below-spec : {M : Type 1} → statement M
 codes-below-spec =
-    tie.close
-    (tie.spec
-    Inv-loop
-    μ-loop
-    (λ c κs. search needs)
-    loop-holds
-    (λ c κs. search needs)
-    (λ c κs. search needs)
-    returns
-    (λ c. search needs)
-    (λ c. search needs)
-    loop-again
-    returns-2)
+    tie.close (tie.spec Inv-loop μ-loop (λ c κs. search needs) loop-holds (λ c κs. search needs) (λ c κs. search needs) returns
+    (λ c. search needs) (λ c. search needs) loop-again returns-2)

@@ -8,7 +8,7 @@ use Rattle.matcher.specs.Codes.{bit}
 use Rattle.score_matrix.specs.Table.{patterns, builtIn}
 use Rattle.shot_record.specs.Fields.{mapByte, tableAt}
 use Rattle.shot_record.specs.Shots.{setting, numbers}
-use Rattle.shot_record.specs.Answers.{float}
+use Rattle.shot_record.specs.Answers.{ofPattern}
 use Rattle.shot_record.proofs.Reading.{Found, found, head-reach, setting-set}
 use Rattle.shot_record.proofs.bulk.table.Statement.{statement}
 use Rattle.shot_record.proofs.bulk.table.Tie as tie
@@ -39,7 +39,7 @@ own bytes b at set e h = rw (h, sym e) (setting-set b (numbers 4 511 (tableAt by
 returns-2 : tie.Need-returns-2
 returns-2 c =
     let t = c .before .before in
-    c .table-at .ensures ∙ ap (map float) (own (bytes t) _ _ (c .before .if1 .left) (flag t) (f t .table-at))
+    c .table-at .ensures ∙ ap (map ofPattern) (own (bytes t) _ _ (c .before .if1 .left) (flag t) (f t .table-at))
 
 pub table-spec : {M : Type 1} → statement M
 table-spec = tie.close (tie.spec (λ c κs. search needs) (λ c κs. search needs) (λ c κs. search needs) returns table-at-requires returns-2)

@@ -7,7 +7,7 @@ use lib.ListN.{length-replicate}
 use lib.Ieee.{Float, nan, binary32, ofBits}
 use borrow.Author.Needs.{needs}
 use Rattle.shot_record.specs.Fields.{number}
-use Rattle.shot_record.specs.Answers.{float}
+use Rattle.shot_record.specs.Answers.{ofPattern}
 use Rattle.shot_record.proofs.Filling.{Filled, one-more, all-filled, map-list}
 use Rattle.shot_record.proofs.bulk.table_at.Statement.{statement}
 use Rattle.shot_record.proofs.bulk.table_at.Tie as tie
@@ -16,7 +16,7 @@ abbrev pattern : List ℕ → ℕ → ℕ → ℕ
 pattern bytes at k = number 4 (at + 4 * k) bytes
 
 abbrev entry : List ℕ → ℕ → ℕ → Float
-entry bytes at k = float (pattern bytes at k)
+entry bytes at k = ofPattern (pattern bytes at k)
 
 abbrev Inv-loop : tie.InvT-loop
 Inv-loop bytes at entries₀ k₀ entries k = (k ≤ 511) × Filled (entry bytes at) nan entries 511 k
@@ -30,29 +30,20 @@ loop-holds c = (omega arith, record { size = length-replicate {A = Float} 511 (o
 loop-again : tie.Need-loop-again Inv-loop μ-loop
 loop-again c =
     let l = c .before .before in
-    let x = l .before .before .args in
-    (omega (arith, c .before .loop-test .taken), one-more (entry (x .bytes .now) (x .at)) nan (l .loop .entries) 511 (l .loop .k) (c .float-at .result) (c .before .loop-test .taken) (l .loop .inv .1) (c .float-at .ensures))
+    let x = l .before .before .args in (
+      omega (arith, c .before .loop-test .taken),
+      one-more (entry (x .bytes .now) (x .at)) nan (l .loop .entries) 511 (l .loop .k) (c .float-at .result) (c .before .loop-test .taken)
+          (l .loop .inv .1) (c .float-at .ensures),
+    )
 
 returns : tie.Need-returns Inv-loop μ-loop
 returns c =
     let l = c .before in
     let x = l .before .before .args in
     all-filled (entry (x .bytes .now) (x .at)) nan (l .loop .entries) 511 (l .loop .k) (l .loop .inv .1) (omega (arith, l .loop .inv .0, c .loop-test .left))
-    ∙ sym (map-list float (pattern (x .bytes .now) (x .at)) 511)
+    ∙ sym (map-list ofPattern (pattern (x .bytes .now) (x .at)) 511)
 
 pub table-at-spec : {M : Type 1} → statement M
 table-at-spec =
-    tie.close
-    (tie.spec
-    Inv-loop
-    μ-loop
-    loop-holds
-    (λ c. search needs)
-    (λ c. search needs)
-    (λ c κs. search needs)
-    (λ c. search needs)
-    (λ c. search needs)
-    (λ c. search needs)
-    (λ c. search needs)
-    loop-again
-    returns)
+    tie.close (tie.spec Inv-loop μ-loop loop-holds (λ c. search needs) (λ c. search needs) (λ c κs. search needs) (λ c. search needs)
+    (λ c. search needs) (λ c. search needs) (λ c. search needs) loop-again returns)

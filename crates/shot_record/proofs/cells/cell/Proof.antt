@@ -12,7 +12,7 @@ use borrow.Author.Needs.{needs}
 use Rattle.shot_record.specs.declared.ReadCell.the-variants as cell
 use Rattle.shot_record.specs.Fields.{byte, number}
 use Rattle.shot_record.specs.Shots.{cellFrom}
-use Rattle.shot_record.specs.Answers.{float, cellRead}
+use Rattle.shot_record.specs.Answers.{ofPattern, cellRead}
 use Rattle.shot_record.proofs.cells.cell.Statement.{statement}
 use Rattle.shot_record.proofs.cells.cell.Tie as tie
 
@@ -27,7 +27,7 @@ module _ (bytes : List ℕ) (start : ℕ) where
   without b grid e = rw e refl
 
   with-sample : (b grid : ℕ) → (b ≡ 0 → ⊥)
-      → cell.Sampled u v (float (number 4 (start + 4) bytes)) (byte (start + 8) bytes) ≡ cellRead (some (cellFrom b grid start bytes))
+      → cell.Sampled u v (ofPattern (number 4 (start + 4) bytes)) (byte (start + 8) bytes) ≡ cellRead (some (cellFrom b grid start bytes))
   with-sample zero grid h = absurd (h refl)
   with-sample (suc b) grid h = refl
 
@@ -38,7 +38,8 @@ sampled-alike p q r s = cc
 read-u : (c : tie.After-coordinate-at) → toZ w16 (ofZ w16 (c .coordinate-at .result)) ≡ u (c .before .before .args .bytes .now) (c .before .before .args .start)
 read-u c = toZ-ofZ w16 (c .coordinate-at .result) (record { sfits = c .coordinate-at .ok }) ∙ c .coordinate-at .ensures
 
-read-v : (c : tie.After-coordinate-at2) → toZ w16 (ofZ w16 (c .coordinate-at2 .result)) ≡ v (c .before .before .before .args .bytes .now) (c .before .before .before .args .start)
+read-v : (c : tie.After-coordinate-at2)
+    → toZ w16 (ofZ w16 (c .coordinate-at2 .result)) ≡ v (c .before .before .before .args .bytes .now) (c .before .before .before .args .start)
 read-v c = toZ-ofZ w16 (c .coordinate-at2 .result) (record { sfits = c .coordinate-at2 .ok }) ∙ c .coordinate-at2 .ensures
 
 returns : tie.Need-returns
@@ -55,14 +56,5 @@ returns-2 c grid =
 
 pub cell-spec : {M : Type 1} → statement M
 cell-spec =
-    tie.close
-    (tie.spec
-    (λ c κs. search needs)
-    (λ c. search needs)
-    (λ c κs. search needs)
-    returns
-    (λ c. search needs)
-    (λ c κs. search needs)
-    (λ c. search needs)
-    (λ c κs. search needs)
-    returns-2)
+    tie.close (tie.spec (λ c κs. search needs) (λ c. search needs) (λ c κs. search needs) returns (λ c. search needs) (λ c κs. search needs)
+    (λ c. search needs) (λ c κs. search needs) returns-2)

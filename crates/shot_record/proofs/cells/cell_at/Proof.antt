@@ -47,6 +47,4 @@ returns c =
     c .cell .ensures grid ∙ ap₂ (λ (b at : ℕ). cellRead (some (cellFrom b grid at (bytes s)))) (c .before .sampled .ensures) (start s)
 
 pub cell-at-spec : {M : Type 1} → statement M
-cell-at-spec =
-    tie.close
-    (tie.spec (λ c. search needs) (λ c. search needs) cast-cell (λ c κs. search needs) cell-requires returns)
+cell-at-spec = tie.close (tie.spec (λ c. search needs) (λ c. search needs) cast-cell (λ c κs. search needs) cell-requires returns)

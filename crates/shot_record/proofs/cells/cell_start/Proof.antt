@@ -36,5 +36,4 @@ returns c =
 
 pub cell-start-spec : {M : Type 1} → statement M
 cell-start-spec =
-    tie.close
-    (tie.spec Inv-loop μ-loop loop-holds next-start-requires (λ c. search needs) (λ c. search needs) loop-again returns)
+    tie.close (tie.spec Inv-loop μ-loop loop-holds next-start-requires (λ c. search needs) (λ c. search needs) loop-again returns)

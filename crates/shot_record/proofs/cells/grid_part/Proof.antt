@@ -9,7 +9,7 @@ use borrow.Author.Needs.{needs}
 use Rattle.shot_record.specs.declared.cells.Part.{Part}
 use Rattle.shot_record.specs.Fields.{bitsOf, borderOf, gridSize, cellCount, sampled, cellAt}
 use Rattle.shot_record.specs.Shots.{cellOf}
-use Rattle.shot_record.proofs.Lists.{nth-list, nth-list-past}
+use Rattle.shot_record.proofs.Lists.{getElem?-list, getElem?-list-past}
 use Rattle.shot_record.proofs.Reading.{Found, found}
 use Rattle.shot_record.proofs.CellReads.{without-grid, with-grid, without-part, with-part, grid-lies}
 use Rattle.shot_record.proofs.Whole.{Whole, whole-if, refused-if, parse-whole}
@@ -48,7 +48,7 @@ returns-2 : tie.Need-returns-2
 returns-2 c =
     let e = c .before .before in
     let p = parse-whole _ (is-whole e) in
-    let n = nth-list-past (cellOf (bytes e)) (cellCount (bytes e)) (k e) (omega (arith, f e .cell-count, c .if2 .taken)) in
+    let n = getElem?-list-past (cellOf (bytes e)) (cellCount (bytes e)) (k e) (omega (arith, f e .cell-count, c .if2 .taken)) in
     ((le-refl 0, zero-le), (rw (p, n) refl, rw (p, n) refl))
 
 -- a cell of the list
@@ -64,7 +64,7 @@ returns-3 c =
     let d = c .before .before in
     let e = there d in
     let p = parse-whole _ (is-whole e) in
-    let n = nth-list (cellOf (bytes e)) (cellCount (bytes e)) (k e) (inside d) in
+    let n = getElem?-list (cellOf (bytes e)) (cellCount (bytes e)) (k e) (inside d) in
     let z = sym (c .before .sampled .ensures) ∙ c .if3 .taken in (
       (le-refl 0, zero-le),
       (
@@ -102,25 +102,16 @@ returns-4 c =
     let first : s .cell-start .result ≡ cellAt (bytes e) (k e) = s .cell-start .ensures in
     let length : s .cell-start .result + 9 + f-size e - (s .cell-start .result + 9) ≡ size e = omega (arith, f e .grid-size) in
     let p = parse-whole _ (is-whole e) in
-    let n = nth-list (cellOf (bytes e)) (cellCount (bytes e)) (k e) (inside (cell s)) in (
+    let n = getElem?-list (cellOf (bytes e)) (cellCount (bytes e)) (k e) (inside (cell s)) in (
       (omega arith, omega (arith, first, lies s, f e .grid-size)),
       (
-        rw (p, n) (ap₂ (λ (n at : ℕ). take n (drop (at + 9) (bytes e))) length first ∙ with-grid (sampled (bytes e) (k e)) (size e) (cellAt (bytes e) (k e)) (bytes e) (marked s)),
+        rw (p, n) (ap₂ (λ (n at : ℕ). take n (drop (at + 9) (bytes e))) length first
+            ∙ with-grid (sampled (bytes e) (k e)) (size e) (cellAt (bytes e) (k e)) (bytes e) (marked s)),
         rw (p, n) (ap₂ part first (f e .grid-size) ∙ with-part (sampled (bytes e) (k e)) (size e) (cellAt (bytes e) (k e)) (bytes e) (marked s)),
       ),
     )
 
 pub grid-part-spec : {M : Type 1} → statement M
 grid-part-spec =
-    tie.close
-    (tie.spec
-    (λ c κs. search needs)
-    (λ c κs. search needs)
-    returns
-    returns-2
-    (λ c κs. search needs)
-    returns-3
-    (λ c κs. search needs)
-    add-first
-    add-t7
-    returns-4)
+    tie.close (tie.spec (λ c κs. search needs) (λ c κs. search needs) returns returns-2 (λ c κs. search needs) returns-3
+    (λ c κs. search needs) add-first add-t7 returns-4)

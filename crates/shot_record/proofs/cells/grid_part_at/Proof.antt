@@ -37,8 +37,11 @@ module _ (c : tie.Start) where
 
 returns : tie.Need-returns
 returns c =
-    let s = c .before .before .before in
-    ((le-refl 0, zero-le), without-grid (sampled (bytes s) (k s)) (size s) (cellAt (bytes s) (k s)) (bytes s) (sym (c .before .sampled .ensures) ∙ c .if1 .taken))
+    let s = c .before .before .before in (
+      (le-refl 0, zero-le),
+      without-grid (sampled (bytes s) (k s)) (size s) (cellAt (bytes s) (k s)) (bytes s)
+          (sym (c .before .sampled .ensures) ∙ c .if1 .taken),
+    )
 
 -- a sampled cell
 module _ (c : tie.Else1) where
@@ -69,10 +72,10 @@ returns-2 c =
     let at = getD (x .args .starts .now) (k x) 0 in
     let length : at + 9 + x .args .f .«grid_size» - (at + 9) ≡ size x = omega (arith, f x .grid-size) in (
       (omega arith, omega (arith, start x, lies e, f x .grid-size)),
-      ap₂ (λ (n at : ℕ). take n (drop (at + 9) (bytes x))) length (start x) ∙ with-grid (sampled (bytes x) (k x)) (size x) (cellAt (bytes x) (k x)) (bytes x) (marked e),
+      ap₂ (λ (n at : ℕ). take n (drop (at + 9) (bytes x))) length (start x)
+          ∙ with-grid (sampled (bytes x) (k x)) (size x) (cellAt (bytes x) (k x)) (bytes x) (marked e),
     )
 
 pub grid-part-at-spec : {M : Type 1} → statement M
 grid-part-at-spec =
-    tie.close
-    (tie.spec (λ c κs. search needs) returns (λ c. search needs) (λ c. search needs) cast-first add-first add-t6 returns-2)
+    tie.close (tie.spec (λ c κs. search needs) returns (λ c. search needs) (λ c. search needs) cast-first add-first add-t6 returns-2)

@@ -9,7 +9,7 @@ use lib.ListN.{length}
 use borrow.Author.Needs.{needs}
 use borrow.Author.Tests.{le-leb, lt-leb, lt-ltb, le-ltb, ne-eqb, not-true, not-false}
 use Rattle.shot_record.specs.Fields.{mapByte, cellCount, cellMap, cellsAt, cellAt}
-use Rattle.shot_record.specs.Shots.{whole}
+use Rattle.shot_record.specs.Shots.{wholeRecord}
 use Rattle.shot_record.proofs.Reading.{Found, found, starts-rise}
 use Rattle.shot_record.proofs.cells.is_whole.Statement.{statement}
 use Rattle.shot_record.proofs.cells.is_whole.Tie as tie
@@ -30,21 +30,22 @@ known c =
     let x = c .before .before .before in
     lt-ltb (mapByte (bytes x)) 16 (omega (arith, f x .map, c .if2 .left))
 
-clear : (c : tie.Else3) → ltb (cellMap (bytes (c .before .before .before .before .before))) (2 ^ cellCount (bytes (c .before .before .before .before .before))) ≡ true
+clear : (c : tie.Else3) → ltb (cellMap (bytes (c .before .before .before .before .before)))
+    (2 ^ cellCount (bytes (c .before .before .before .before .before))) ≡ true
 clear c = sym (c .before .has-clear-map .ensures) ∙ not-false (c .before .has-clear-map .result) (c .if3 .left)
 
 returns : tie.Need-returns
-unfolding whole
+unfolding wholeRecord
 returns c = rw (lt-leb (length (bytes (c .before))) 65535 (c .if1 .taken))
 
 returns-2 : tie.Need-returns-2
-unfolding whole
+unfolding wholeRecord
 returns-2 c =
     let x = c .before .before .before in
     rw (short (c .before .before), le-ltb (mapByte (bytes x)) 16 (omega (arith, f x .map, c .if2 .taken)))
 
 returns-3 : tie.Need-returns-3
-unfolding whole
+unfolding wholeRecord
 returns-3 c =
     let last = c .before in
     rw (short (last .before .before .before), known (last .before), sym (last .has-clear-map .ensures) ∙ not-true (last .has-clear-map .result) (c .if3 .taken))
@@ -56,14 +57,14 @@ cut bytes h =
     ne-eqb (cellAt bytes (cellCount bytes)) (length bytes) (λ e. absurd (omega (arith, h, e, starts-rise bytes 0 (cellCount bytes) zero-le)))
 
 returns-4 : tie.Need-returns-4
-unfolding whole
+unfolding wholeRecord
 returns-4 c =
     let e = c .before .before in
     let x = e .before .before .before .before .before in
     rw (short (e .before .before .before .before), known (e .before .before), clear e, cut (bytes x) (omega (arith, f x .cells-at, c .if4 .taken)))
 
 returns-5 : tie.Need-returns-5
-unfolding whole
+unfolding wholeRecord
 returns-5 c =
     let e = c .before .before .before in
     let x = e .before .before .before .before .before in

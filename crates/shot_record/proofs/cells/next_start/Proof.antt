@@ -29,7 +29,8 @@ cell-length-requires c κs =
     omega (arith, f x .grid-size, grid-reach (bytes x) (small x))
 
 -- the next cell's start
-ends : (c : tie.After-cell-length) → c .before .before .before .args .start + c .cell-length .result ≡ cellAt (bytes (c .before .before)) (suc (k (c .before .before)))
+ends : (c : tie.After-cell-length) → c .before .before .before .args .start + c .cell-length .result
+    ≡ cellAt (bytes (c .before .before)) (suc (k (c .before .before)))
 unfolding cellAt
 ends c =
     let x = c .before .before in

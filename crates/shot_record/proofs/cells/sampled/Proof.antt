@@ -34,7 +34,8 @@ add-at c =
 returns : tie.Need-returns
 returns c =
     let x = c .before .before .before in
-    c .bit .ensures .0 ∙ ap (λ (b : ℕ). bit b (k x % 8)) (c .before .byte-at .ensures ∙ ap (λ (n : ℕ). byte (n + k x / 8) (bytes x)) (f x .cell-map-at)) ∙ sym (map-bit (bytes x) (small x) (k x) (inside x))
+    c .bit .ensures .0 ∙ ap (λ (b : ℕ). bit b (k x % 8)) (c .before .byte-at .ensures
+    ∙ ap (λ (n : ℕ). byte (n + k x / 8) (bytes x)) (f x .cell-map-at)) ∙ sym (map-bit (bytes x) (small x) (k x) (inside x))
 
 pub sampled-spec : {M : Type 1} → statement M
 sampled-spec = tie.close (tie.spec add-at (λ c κs. search needs) (λ c κs. search needs) returns)

@@ -42,9 +42,11 @@ one-more bytes list k x h l e =
     go i (inl z) = rw z (getD-set-same list k x 0 (omega (arith, l .size)) ∙ e)
     go i (inr b) = getD-set-other list k i x 0 (λ z. absurd (omega arith)) ∙ l .before i b
 
-all-filled : (bytes list : List ℕ) (count k : ℕ) → Filled bytes list k → k ≡ count → count ≤ cellCount bytes → ((i : ℕ) → i < 256 → i < cellCount bytes → i < count) → list ≡ starts bytes
+all-filled : (bytes list : List ℕ) (count k : ℕ) → Filled bytes list k → k ≡ count → count ≤ cellCount bytes
+    → ((i : ℕ) → i < 256 → i < cellCount bytes → i < count) → list ≡ starts bytes
 all-filled bytes list count k l e low high =
-    ext-getD 0 list (starts bytes) (l .size ∙ sym (length-list (startOf bytes) 256)) (λ i h. same i (omega (arith, h, l .size)) ∙ sym (getD-list (startOf bytes) 256 i 0 (omega (arith, h, l .size))))
+    ext-getD 0 list (starts bytes) (l .size ∙ sym (length-list (startOf bytes) 256))
+    (λ i h. same i (omega (arith, h, l .size)) ∙ sym (getD-list (startOf bytes) 256 i 0 (omega (arith, h, l .size))))
   where
     same : (i : ℕ) → i < 256 → getD list i 0 ≡ startOf bytes i
     same i h = go (ltb i (cellCount bytes)) (ltb→lt i (cellCount bytes)) (nltb→le i (cellCount bytes))
@@ -57,7 +59,8 @@ loop-holds : tie.Need-loop-holds Inv-loop μ-loop
 unfolding cellAt
 loop-holds c =
     let x = c .before .before in
-    let zeros : Filled (x .args .bytes .now) (replicate 256 0) 0 = record { size = length-replicate {A = ℕ} 256 0; before = λ i b. absurd (omega arith); after = λ i b s. getD-replicate {A = ℕ} 256 i 0 0 s } in
+    let zeros : Filled (x .args .bytes .now) (replicate 256 0) 0 =
+    record { size = length-replicate {A = ℕ} 256 0; before = λ i b. absurd (omega arith); after = λ i b s. getD-replicate {A = ℕ} 256 i 0 0 s } in
     (omega arith, found (x .args .f) (x .args .bytes .now) (x .pre) .cells-at, zeros)
 
 array-write-starts : tie.Need-array-write-starts Inv-loop μ-loop
@@ -83,21 +86,10 @@ returns c =
     let x = s .before .before .before in
     let count = found (x .args .f) (x .args .bytes .now) (x .pre) .cell-count in
     let n = s .before .at-most-256 in
-    all-filled (x .args .bytes .now) (s .loop .starts) (n .result) (s .loop .k) (s .loop .inv .2) (omega (arith, s .loop .inv .0, c .loop-test .left)) (omega (arith, n .ensures .0, count)) (λ i h l. n .ensures .1 i h (omega (arith, l, count)))
+    all-filled (x .args .bytes .now) (s .loop .starts) (n .result) (s .loop .k) (s .loop .inv .2)
+    (omega (arith, s .loop .inv .0, c .loop-test .left)) (omega (arith, n .ensures .0, count)) (λ i h l. n .ensures .1 i h (omega (arith, l, count)))
 
 pub starts-spec : {M : Type 1} → statement M
 starts-spec =
-    tie.close
-    (tie.spec
-    Inv-loop
-    μ-loop
-    (λ c κs. tt)
-    loop-holds
-    (λ c κs. tt)
-    (λ c. omega (arith, array-write-starts c))
-    array-write-starts
-    next-start-requires
-    (λ c. search needs)
-    (λ c. search needs)
-    loop-again
-    returns)
+    tie.close (tie.spec Inv-loop μ-loop (λ c κs. tt) loop-holds (λ c κs. tt) (λ c. omega (arith, array-write-starts c)) array-write-starts
+    next-start-requires (λ c. search needs) (λ c. search needs) loop-again returns)

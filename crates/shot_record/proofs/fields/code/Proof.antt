@@ -28,10 +28,5 @@ returns c =
 
 pub code-spec : {M : Type 1} → statement M
 code-spec =
-    tie.close
-    (tie.spec
-    (λ c. omega (arith, reach (c .before)))
-    (λ c. omega (arith, reach (c .before)))
-    (λ c. omega (arith, reach (c .before)))
-    (λ c κs. (omega arith, omega (arith, reach (c .before))))
-    returns)
+    tie.close (tie.spec (λ c. omega (arith, reach (c .before))) (λ c. omega (arith, reach (c .before)))
+    (λ c. omega (arith, reach (c .before))) (λ c κs. (omega arith, omega (arith, reach (c .before)))) returns)

@@ -9,7 +9,7 @@ use Rattle.matcher.specs.Codes.{bit}
 use Rattle.score_matrix.specs.declared.BoardMatchConfig.{BoardMatchConfig}
 use Rattle.shot_record.specs.Fields.{number}
 use Rattle.shot_record.specs.Shots.{setting}
-use Rattle.shot_record.specs.Answers.{float}
+use Rattle.shot_record.specs.Answers.{ofPattern}
 use Rattle.shot_record.proofs.Reading.{Found, found, head-reach}
 use Rattle.shot_record.proofs.fields.config.Statement.{statement}
 use Rattle.shot_record.proofs.fields.config.Tie as tie
@@ -33,7 +33,7 @@ setting-requires-3 c κs =
 
 -- a setting, by the map's bit and its place as they were found
 value : (bytes : List ℕ) (k default b m map p at : ℕ) → b ≡ bit m k → m ≡ map → p ≡ at
-    → float (setting b (number 4 p bytes) default) ≡ float (setting (bit map k) (number 4 at bytes) default)
+    → ofPattern (setting b (number 4 p bytes) default) ≡ ofPattern (setting (bit map k) (number 4 at bytes) default)
 value bytes k default b m map p at e h g = cc
 
 config : Float → Float → Float → BoardMatchConfig
@@ -56,12 +56,5 @@ returns c =
 
 pub config-spec : {M : Type 1} → statement M
 config-spec =
-    tie.close
-    (tie.spec
-    (λ c κs. search needs)
-    setting-requires
-    (λ c κs. search needs)
-    (λ c κs. search needs)
-    (λ c κs. search needs)
-    setting-requires-3
-    returns)
+    tie.close (tie.spec (λ c κs. search needs) setting-requires (λ c κs. search needs) (λ c κs. search needs) (λ c κs. search needs)
+    setting-requires-3 returns)

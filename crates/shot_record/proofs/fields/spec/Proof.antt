@@ -22,26 +22,21 @@ returns : tie.Need-returns
 returns c =
     let sizes = c .before .before in
     let first = sizes .before .before .before in
-    rw (c .float-at2 .ensures, c .before .float-at .ensures, sizes .byte-at4 .ensures, sizes .before .byte-at3 .ensures, sizes .before .before .byte-at2 .ensures, first .byte-at .ensures)
+    rw (
+      c .float-at2 .ensures,
+      c .before .float-at .ensures,
+      sizes .byte-at4 .ensures,
+      sizes .before .byte-at3 .ensures,
+      sizes .before .before .byte-at2 .ensures,
+      first .byte-at .ensures,
+    )
     (rw (f (first .before) .rows-at) refl)
 
 pub spec-spec : {M : Type 1} → statement M
 spec-spec =
-    tie.close
-    (tie.spec
-    (λ c κs. search needs)
-    (λ c. search needs)
-    (λ c. omega (arith, reach (c .before)))
-    (λ c κs. search needs)
-    (λ c. search needs)
-    (λ c. omega (arith, reach (c .before .before)))
-    (λ c κs. search needs)
-    (λ c. search needs)
-    (λ c. omega (arith, reach (c .before .before .before)))
-    (λ c κs. search needs)
-    (λ c. search needs)
-    (λ c. omega (arith, reach (c .before .before .before .before)))
-    (λ c κs. omega (arith, reach (c .before .before .before .before)))
+    tie.close (tie.spec (λ c κs. search needs) (λ c. search needs) (λ c. omega (arith, reach (c .before))) (λ c κs. search needs)
+    (λ c. search needs) (λ c. omega (arith, reach (c .before .before))) (λ c κs. search needs) (λ c. search needs)
+    (λ c. omega (arith, reach (c .before .before .before))) (λ c κs. search needs) (λ c. search needs)
+    (λ c. omega (arith, reach (c .before .before .before .before))) (λ c κs. omega (arith, reach (c .before .before .before .before)))
     (λ c. omega (arith, reach (c .before .before .before .before .before)))
-    (λ c κs. omega (arith, reach (c .before .before .before .before .before)))
-    returns)
+    (λ c κs. omega (arith, reach (c .before .before .before .before .before))) returns)

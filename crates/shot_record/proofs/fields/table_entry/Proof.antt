@@ -11,7 +11,7 @@ use Rattle.matcher.specs.Codes.{bit}
 use Rattle.score_matrix.specs.Table.{patterns, builtIn}
 use Rattle.shot_record.specs.Fields.{number, mapByte, tableAt}
 use Rattle.shot_record.specs.Shots.{setting, numbers}
-use Rattle.shot_record.specs.Answers.{float}
+use Rattle.shot_record.specs.Answers.{ofPattern}
 use Rattle.shot_record.proofs.Lists.{getD-list}
 use Rattle.shot_record.proofs.Reading.{Found, found, head-reach, setting-set, pattern-count}
 use Rattle.shot_record.proofs.fields.table_entry.Statement.{statement}
@@ -27,12 +27,12 @@ module _ (c : tie.After-shared-slice-known) where
   reach : c .before .args .f .«table_at» + 4 * c .before .args .k ≤ 5000
   reach = omega (arith, f .table-at, head-reach bytes, c .before .pre .1)
 
-getD-float : (xs : List ℕ) (k : ℕ) → k < length xs → getD (map float xs) k nan ≡ float (getD xs k 0)
+getD-float : (xs : List ℕ) (k : ℕ) → k < length xs → getD (map ofPattern xs) k nan ≡ ofPattern (getD xs k 0)
 getD-float [] k h = absurd (omega arith)
 getD-float (x ∷ xs) zero h = refl
 getD-float (x ∷ xs) (suc k) h = getD-float xs k (le-of-suc-le-suc h)
 
-built-in-entry : (k : ℕ) → k < 511 → getD builtIn k nan ≡ float (getD patterns k 0)
+built-in-entry : (k : ℕ) → k < 511 → getD builtIn k nan ≡ ofPattern (getD patterns k 0)
 unfolding builtIn
 built-in-entry k h = getD-float patterns k (omega (arith, h, pattern-count))
 
@@ -62,18 +62,10 @@ returns-2 c =
     let known = e .before .before in
     let x = known .before in
     c .float-at .ensures
-    ∙ ap float (own-entry (bytes known) (e .before .bit .result) (x .args .f .«table_at») (x .args .k) (e .if1 .left) (flag (e .before)) (f known .table-at) (x .pre .1))
+    ∙ ap ofPattern (own-entry (bytes known) (e .before .bit .result) (x .args .f .«table_at») (x .args .k) (e .if1 .left) (flag (e .before))
+    (f known .table-at) (x .pre .1))
 
 pub table-entry-spec : {M : Type 1} → statement M
 table-entry-spec =
-    tie.close
-    (tie.spec
-    (λ c κs. search needs)
-    (λ c κs. search needs)
-    (λ c. search needs)
-    (λ c. search needs)
-    returns
-    (λ c. search needs)
-    (λ c. omega (arith, reach (c .before .before .before)))
-    (λ c κs. omega (arith, reach (c .before .before .before)))
-    returns-2)
+    tie.close (tie.spec (λ c κs. search needs) (λ c κs. search needs) (λ c. search needs) (λ c. search needs) returns (λ c. search needs)
+    (λ c. omega (arith, reach (c .before .before .before))) (λ c κs. omega (arith, reach (c .before .before .before))) returns-2)

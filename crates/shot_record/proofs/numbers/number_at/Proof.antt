@@ -62,8 +62,13 @@ loop-again c =
     let x = s .before .before .args in
     let l = s .loop in
     let e : l .x * 256 + c .byte-at .result ≡ number (x .n - (l .k - 1)) (x .at + (l .k - 1)) (x .bytes .now)
-    = ap (λ (b : ℕ). l .x * 256 + b) (c .byte-at .ensures) ∙ grown (x .bytes .now) (x .at) (x .n) (l .k) (l .x) (c .before .loop-test .taken) (l .inv .0) (l .inv .1) in
-    (omega (arith, l .inv .0), e, below (x .n) (l .k) (l .x) (c .byte-at .result) (c .before .loop-test .taken) (l .inv .0) (l .inv .2) (omega (arith, c .byte-at .ok)))
+    = ap (λ (b : ℕ). l .x * 256 + b) (c .byte-at .ensures)
+    ∙ grown (x .bytes .now) (x .at) (x .n) (l .k) (l .x) (c .before .loop-test .taken) (l .inv .0) (l .inv .1) in (
+      omega (arith, l .inv .0),
+      e,
+      below (x .n) (l .k) (l .x) (c .byte-at .result) (c .before .loop-test .taken) (l .inv .0) (l .inv .2)
+          (omega (arith, c .byte-at .ok)),
+    )
 
 returns : tie.Need-returns Inv-loop μ-loop
 returns c =
@@ -76,17 +81,5 @@ returns c =
 
 pub number-at-spec : {M : Type 1} → statement M
 number-at-spec =
-    tie.close
-    (tie.spec
-    Inv-loop
-    μ-loop
-    loop-holds
-    (λ c. search needs)
-    mul-x
-    add-byte-at
-    (λ c κs. tt)
-    (λ c. search needs)
-    add-x
-    (λ c. search needs)
-    loop-again
-    returns)
+    tie.close (tie.spec Inv-loop μ-loop loop-holds (λ c. search needs) mul-x add-byte-at (λ c κs. tt) (λ c. search needs) add-x
+    (λ c. search needs) loop-again returns)

@@ -12,15 +12,5 @@ abbrev μ-loop : tie.MeasureT-loop
 
 pub all-short-spec : {M : Type 1} → statement M
 all-short-spec =
-    tie.close
-    (tie.spec
-    Inv-loop
-    μ-loop
-    (λ c. tt)
-    (λ c. search needs)
-    (λ c. search needs)
-    (λ c. tt)
-    (λ c. search needs)
-    (λ c. search needs)
-    (λ c. tt)
-    (λ c. tt))
+    tie.close (tie.spec Inv-loop μ-loop (λ c. tt) (λ c. search needs) (λ c. search needs) (λ c. tt) (λ c. search needs) (λ c. search needs)
+    (λ c. tt) (λ c. tt))

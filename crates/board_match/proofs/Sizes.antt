@@ -1,0 +1,69 @@
+-- The numbers of every answer of Match are small: there is at most one marker for each cell. Assumes nothing.
+use mathlib.Core.Path.{_≡_, refl, ap}
+use mathlib.Core.List.{map}
+use Prim.Native.Nat.{_≤_}
+use native.Mathlib.Omega.{arith}
+use lib.ListN.{length, length-map}
+use Rattle.integers.proofs.Parts.{abs-sub}
+use Rattle.grid_alignment.specs.declared.GridAlignment.{GridAlignment}
+use Rattle.grid_alignment.specs.Alignment.{lowestPoint}
+use Rattle.grid_alignment.proofs.Entries.{lowest-small}
+use Rattle.shot_record.specs.Shots.{Shot, shot}
+use Rattle.ranking.specs.declared.Hypothesis.{Hypothesis}
+use Rattle.ranking.specs.declared.Choice.{Choice}
+use Rattle.ranking.specs.declared.Choice.the-variants as choice
+use Rattle.ranking.specs.Ranking.{rankingOf}
+use Rattle.hypothesis.specs.Placements.{cellTotal, withTurnsBelow, placements}
+use Rattle.hypothesis.specs.Search.{hypothesis, best, runnerUp}
+use Rattle.hypothesis.specs.Accuracy.{Placement}
+use Rattle.hypothesis.specs.Inputs.{PassedShot}
+use Rattle.hypothesis.proofs.Best.{small-translation, best-placed, runner-up-placed}
+use Rattle.hypothesis.proofs.Places.{stands}
+use Rattle.hypothesis.proofs.Turned.{total-small}
+use Rattle.emit.proofs.Laws.{one-per-cell}
+use Rattle.board_match.specs.Match.{matchOf}
+use Rattle.board_match.specs.Sizes.{SmallAlignment, SmallRunnerUp, SmallMatch, SmallAnswer, SizesRule}
+use Rattle.board_match.proofs.Accurately.{of-answer}
+
+module _ (s : Shot) (p : PassedShot s) where
+  small-placement : (q : GridAlignment) → Placement s q → SmallAlignment 4127 q
+  unfolding placements
+  small-placement q (k, e) =
+      let o = stands s 4 k q e in
+      let t = small-translation s p k q o in
+      record { turn = omega (arith, ap (λ (a : GridAlignment). a .turn) (o .is), o .turn); tx = t .0; ty = t .1 }
+
+  few-placements : length (placements s) ≤ 4096
+  unfolding placements
+  few-placements =
+      let t = total-small s (p .cols) (p .rows) 4 (rankingOf (map (hypothesis s) (withTurnsBelow s 4))) refl in
+      omega (arith, t, length-map (withTurnsBelow s 4) (hypothesis s))
+
+  module _ (b : Hypothesis) (is : best s ≡ choice.Placement b) where
+    small-next : (c : Choice) → runnerUp s ≡ c → SmallRunnerUp c
+    small-next choice.Absent e = tt
+    small-next (choice.Placement g) e = small-placement (g .alignment) (runner-up-placed s (p .checked) b g is e .placed)
+
+    small-match : SmallMatch (cellTotal s) (matchOf s b)
+    small-match =
+        let a = b .alignment in
+        let low = lowestPoint 1 (a .turn) in
+        let l = lowest-small (a .turn) in
+        let small = small-placement a (best-placed s p b is .placement) in
+        record {
+          best = small;
+          runner-up = small-next (runnerUp s) refl;
+          corners =
+              record {
+                turn = small .turn;
+                tx = omega (arith, small .tx, l .0, abs-sub (a .tx) (low .u));
+                ty = omega (arith, small .ty, l .1, abs-sub (a .ty) (low .v));
+              };
+          placements = few-placements;
+          markers = one-per-cell s a;
+          few-cells = p .checked .few;
+        }
+
+pub small-answer : SizesRule
+small-answer bytes lent small =
+    of-answer bytes lent small (SmallAnswer bytes) (λ r. tt) (λ b p is n. small-match (shot bytes) p b is)

@@ -1,0 +1,41 @@
+-- How large the numbers of a match are.
+use Prim.Native.Nat.{ℕ, _≤_, _<_}
+use mathlib.Core.List.{List}
+use lib.IntN.{natAbs}
+use lib.ListN.{getD}
+use Rattle.grid_alignment.specs.declared.GridAlignment.{GridAlignment}
+use Rattle.shot_record.specs.Shots.{shot}
+use Rattle.ranking.specs.declared.Choice.{Choice}
+use Rattle.ranking.specs.declared.Choice.the-variants as choice
+use Rattle.hypothesis.specs.Placements.{cellTotal}
+use Rattle.board_match.specs.declared.Match.{Match}
+use Rattle.board_match.specs.declared.Matched.{Matched}
+use Rattle.board_match.specs.declared.Matched.the-variants as matched
+use Rattle.board_match.specs.Match.{matchAnswer}
+
+-- a translation of at most n on each axis
+pub record SmallAlignment (n : ℕ) (a : GridAlignment) : Type 0 where
+  pub turn : a .turn < 4
+  pub tx : natAbs (a .tx) ≤ n
+  pub ty : natAbs (a .ty) ≤ n
+
+abbrev pub SmallRunnerUp : Choice → Type 0
+SmallRunnerUp (choice.Placement h) = SmallAlignment 4127 (h .alignment)
+SmallRunnerUp choice.Absent = Unit {0}
+
+-- at most one marker for each of at most 256 cells
+pub record SmallMatch (cells : ℕ) (m : Match) : Type 0 where
+  pub best : SmallAlignment 4127 (m .best .alignment)
+  pub runner-up : SmallRunnerUp (m .«runner_up»)
+  pub corners : SmallAlignment 4128 (m .corners)
+  pub placements : m .placements ≤ 4096
+  pub markers : m .markers ≤ cells
+  pub few-cells : cells ≤ 256
+
+abbrev pub SmallAnswer : List ℕ → Matched → Type 0
+SmallAnswer bytes (matched.Placed m) = SmallMatch (cellTotal (shot bytes)) m
+SmallAnswer bytes (matched.Refused refused) = Unit {0}
+
+-- of the answer to every record
+abbrev pub SizesRule : Type 0
+SizesRule = (bytes lent : List ℕ) → ((i : ℕ) → getD bytes i 0 < 256) → SmallAnswer bytes (matchAnswer bytes lent)

@@ -1,0 +1,114 @@
+-- The contributing cells of a placement: what stands in their list comes from a cell that contributes, and each such cell stands in it. So
+-- evidence is none exactly if no cell contributes. Assumes nothing.
+use mathlib.Core.Path.{_≡_, refl, sym, ap, ap₂, subst, _∙_}
+use mathlib.Core.Logic.{_⊎_, inl, inr}
+use mathlib.Core.Bool.{Bool, true, false, cond}
+use mathlib.Core.List.{List, [], _∷_, _++_, List·Memᴰ, List·Memᴰ·head, List·Memᴰ·not-nil, List·Memᴰ·append-cases, Memᴰ·append-left, Memᴰ·append-right}
+use mathlib.Core.Option.{none, Option·some-ne-none}
+use Prim.Native.Nat.{ℕ, zero, suc, _≤_, _<_}
+use native.Mathlib.Nat.{eq-or-lt-of-le, le-of-suc-le-suc, le-step}
+use native.Mathlib.Omega.{arith}
+use lib.ListN.{length, length-append}
+use lib.Ieee.{Float, lt}
+use Rattle.floats.specs.Units.{nought}
+use Rattle.grid_alignment.specs.declared.GridAlignment.{GridAlignment}
+use Rattle.board.specs.declared.Numbered.{Numbered}
+use Rattle.board.specs.declared.Numbered.the-variants as numbered
+use Rattle.score_matrix.specs.Scores.{Samples}
+use Rattle.lent_list.specs.Front.{upTo}
+use Rattle.shot_record.specs.Shots.{Shot}
+use Rattle.ranking.specs.declared.Evidence.the-variants as evidence
+use Rattle.hypothesis.specs.Placements.{cellTotal}
+use Rattle.hypothesis.specs.Evidence.{weightOf, samplesOf, expected, Contribution, contributedWith, contributed, contributionsTo, contributions}
+use Rattle.hypothesis.specs.Evidence.{reportedOver, reported, exactOver, exact}
+use Rattle.hypothesis.specs.Rules.{Contributes, NoneRule}
+
+-- ---- what f gives for 0 to n − 1
+module _ {A : Type 0} (f : ℕ → List A) (x : A) where
+  given-by : (n : ℕ) → List·Memᴰ x (upTo f n) → (k : ℕ) × (k < n) × List·Memᴰ x (f k)
+  unfolding upTo
+  given-by zero i = absurd (List·Memᴰ·not-nil i)
+  given-by (suc n) i = go (given-by n) (List·Memᴰ·append-cases (upTo f n) i)
+    where
+      go : (List·Memᴰ x (upTo f n) → (k : ℕ) × (k < n) × List·Memᴰ x (f k)) → List·Memᴰ x (upTo f n) ⊎ List·Memᴰ x (f n) → (k : ℕ) × (k < suc n)
+          × List·Memᴰ x (f k)
+      go earlier (inl i) = let k = earlier i in (k .0, le-step (k .1), k .2)
+      go earlier (inr i) = (n, omega arith, i)
+
+  given : (n k : ℕ) → k < n → List·Memᴰ x (f k) → List·Memᴰ x (upTo f n)
+  unfolding upTo
+  given zero k l i = absurd (omega (arith, l))
+  given (suc n) k l i = go (λ m. given n k m i) (eq-or-lt-of-le (le-of-suc-le-suc l))
+    where
+      go : (k < n → List·Memᴰ x (upTo f n)) → (k ≡ n) ⊎ (k < n) → List·Memᴰ x (upTo f n ++ f n)
+      go earlier (inl e) = Memᴰ·append-right (upTo f n) (subst (λ (j : ℕ). List·Memᴰ x (f j)) e i)
+      go earlier (inr m) = Memᴰ·append-left (f n) (earlier m)
+
+-- ---- a cell contributes at most once
+at-most-one : (w : Float) (x : Samples) (m : Numbered) → length (contributedWith w x m) ≤ 1
+at-most-one w x numbered.Absent = omega arith
+at-most-one w x (numbered.Id m) = go (lt nought w)
+  where
+    go : (t : Bool) → length {A = Contribution} (cond t (record { weight = w; samples = x; id = m } ∷ []) []) ≤ 1
+    go true = omega arith
+    go false = omega arith
+
+module _ (s : Shot) (p : GridAlignment) where
+  pub at-most : (n : ℕ) → length (contributionsTo s p n) ≤ n
+  unfolding upTo contributed
+  at-most zero = omega arith
+  at-most (suc n) = omega (
+    arith,
+    at-most n,
+    at-most-one (weightOf s n) (samplesOf s n) (expected s p n),
+    length-append (contributionsTo s p n)
+        (contributed s p n),
+  )
+
+  -- ---- a cell that contributes, and what stands in the list
+  pub of-some-cell : (c : Contribution) → List·Memᴰ c (contributions s p) → (k : ℕ) × (k < cellTotal s) × List·Memᴰ c (contributed s p k)
+  of-some-cell c i = given-by (contributed s p) c (cellTotal s) i
+
+  contributes : (c : Contribution) (k : ℕ) → k < cellTotal s → List·Memᴰ c (contributed s p k) → Contributes s p k
+  unfolding contributed
+  contributes c k inside i = go (expected s p k) refl (lt nought (weightOf s k)) refl i
+    where
+      go : (m : Numbered) → expected s p k ≡ m → (t : Bool) → lt nought (weightOf s k) ≡ t → List·Memᴰ c (contributedWith (weightOf s k) (samplesOf s k) m)
+          → Contributes s p k
+      go numbered.Absent e t h i = absurd (List·Memᴰ·not-nil i)
+      go (numbered.Id m) e true h i = record { inside = inside; id = m; marker = e; weight = h }
+      go (numbered.Id m) e false h i = absurd (List·Memᴰ·not-nil (rw h at i))
+
+  stands : (k : ℕ) → Contributes s p k → (c : Contribution) × List·Memᴰ c (contributions s p)
+  unfolding contributed
+  stands k h =
+      let c : Contribution = record { weight = weightOf s k; samples = samplesOf s k; id = h .id } in
+      let one : contributed s p k ≡ c ∷ [] = ap (contributedWith (weightOf s k) (samplesOf s k)) (h .marker)
+      ∙ ap (λ (t : Bool). cond t (c ∷ []) []) (h .weight) in
+      (c, given (contributed s p) c (cellTotal s) k (h .inside) (subst (List·Memᴰ c) (sym one) (List·Memᴰ·head refl)))
+
+-- ---- none exactly if no cell contributes
+pub none-rule : NoneRule
+unfolding reported exact
+none-rule s p =
+    record {
+      reported-if = λ h. ap (reportedOver s (p .turn)) (none-if h);
+      reported-only-if = λ e k h. reported-none (contributions s p) e (stands s p k h);
+      exact-if = λ h. ap (exactOver s (p .turn)) (none-if h);
+      exact-only-if = λ e k h. exact-none (contributions s p) e (stands s p k h);
+    }
+  where
+    none-if : ((k : ℕ) → Contributes s p k → ⊥) → contributions s p ≡ []
+    none-if h = go (contributions s p) (λ c i. let k = of-some-cell s p c i in h (k .0) (contributes s p c (k .0) (k .1) (k .2)))
+      where
+        go : (cs : List Contribution) → ((c : Contribution) → List·Memᴰ c cs → ⊥) → cs ≡ []
+        go [] f = refl
+        go (c ∷ cs) f = absurd (f c (List·Memᴰ·head refl))
+
+    reported-none : (cs : List Contribution) → reportedOver s (p .turn) cs ≡ evidence.Absent → (c : Contribution) × List·Memᴰ c cs → ⊥
+    reported-none [] e c = List·Memᴰ·not-nil (c .1)
+    reported-none (d ∷ cs) e c = let z : _≡_ {A = ℕ} 0 1 = cc in omega arith
+
+    exact-none : (cs : List Contribution) → exactOver s (p .turn) cs ≡ none → (c : Contribution) × List·Memᴰ c cs → ⊥
+    exact-none [] e c = List·Memᴰ·not-nil (c .1)
+    exact-none (d ∷ cs) e c = Option·some-ne-none _ e

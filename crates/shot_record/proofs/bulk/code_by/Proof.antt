@@ -1,0 +1,20 @@
+-- `shot_record::bulk::code_by` meets its contract. Assumes nothing.
+use mathlib.Core.Path.{ap, _∙_}
+use mathlib.Core.List.{List}
+use Prim.Native.Nat.{ℕ}
+use lib.ListN.{getD}
+use borrow.Author.Needs.{needs}
+use Rattle.shot_record.specs.Shots.{shot}
+use Rattle.shot_record.proofs.Lists.{getD-list}
+use Rattle.shot_record.proofs.bulk.code_by.Statement.{statement}
+use Rattle.shot_record.proofs.bulk.code_by.Tie as tie
+
+returns : tie.Need-returns
+returns c =
+    let b = c .before .before .before in
+    let x = b .args in
+    ap (λ (l : List ℕ). getD l (x .k) 0) (b .pre .1)
+    ∙ getD-list (λ (k : ℕ). getD (shot (x .bytes .now) .codes) k 0) 512 (x .k) 0 (c .before .if1 .taken)
+
+pub code-by-spec : {M : Type 1} → statement M
+code-by-spec = tie.close (tie.spec (λ c. search needs) (λ c. search needs) returns (λ c κs. search needs) (λ c. search needs))
