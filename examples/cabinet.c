@@ -3,6 +3,8 @@
  * detected corner; a marker found is linked with the corners of its cell, and the links are checked.
  *
  *     cabinet FILE...
+ *
+ * Exit status: 0 every record was answered, 2 a file cannot be read, 3 the answers cannot be written.
  */
 #include <stdio.h>
 #include <string.h>
@@ -11,11 +13,11 @@
 
 /* One byte more than a record may have, so that a longer file is refused. */
 static uint8_t record[CHARUCO_MAX_RECORD_BYTES + 1];
-static uint64_t codes[65535];
+static uint64_t codes[CHARUCO_MAX_CODES];
 static uint32_t markers[CHARUCO_MAX_CELLS * CHARUCO_MARKER_WORDS];
 static float scores[4 * CHARUCO_MAX_CELLS];
 static int32_t grid[4 * CHARUCO_MAX_CELLS * CHARUCO_GRID_POINT_WORDS];
-static uint32_t corners[31 * 31 * CHARUCO_CORNER_WORDS];
+static uint32_t corners[CHARUCO_MAX_BOARD_CORNERS * CHARUCO_CORNER_WORDS];
 static uint32_t links[4 * CHARUCO_MAX_CELLS * CHARUCO_LINK_WORDS];
 static uint32_t violations[4 * CHARUCO_MAX_CELLS * CHARUCO_VIOLATIONS_PER_LINK * CHARUCO_VIOLATION_WORDS];
 
@@ -75,8 +77,8 @@ static void read_lists(size_t length, uint32_t n_codes, uint32_t n_cells)
             int32_t *point = grid + CHARUCO_GRID_POINT_WORDS * (4 * k + c);
             scores[4 * k + c] = 1.0f;
             point[0] = 1;
-            point[1] = signed_of(words[1]) + right[c];
-            point[2] = signed_of(words[2]) + down[c];
+            point[1] = signed_of(words[CHARUCO_CELL_U]) + right[c];
+            point[2] = signed_of(words[CHARUCO_CELL_V]) + down[c];
         }
     }
 }
@@ -96,9 +98,9 @@ static size_t make_links(uint32_t n_markers, uint32_t n_corners)
         for (uint32_t c = 0; c < 4; c++) {
             for (uint32_t k = 0; k < n_corners; k++) {
                 const uint32_t *corner = corners + CHARUCO_CORNER_WORDS * k;
-                if (same_point(4 * marker[0] + c, corner[1])) {
-                    links[n++] = marker[1];
-                    links[n++] = corner[0];
+                if (same_point(4 * marker[CHARUCO_MARKER_CELL] + c, corner[CHARUCO_CORNER_INDEX])) {
+                    links[n++] = marker[CHARUCO_MARKER_ID];
+                    links[n++] = corner[CHARUCO_CORNER_ID];
                 }
             }
         }
@@ -113,38 +115,39 @@ static void print_match(const uint32_t *match)
            float_of(match[CHARUCO_MATCH_MARGIN]), (unsigned long)match[CHARUCO_MATCH_PLACEMENTS]);
     for (uint32_t m = 0; m < match[CHARUCO_MATCH_MARKERS]; m++) {
         const uint32_t *marker = markers + CHARUCO_MARKER_WORDS * m;
-        printf("  marker %lu in cell %lu, %lu bits differ\n", (unsigned long)marker[1], (unsigned long)marker[0],
-               (unsigned long)marker[5]);
+        printf("  marker %lu in cell %lu, %lu bits differ\n", (unsigned long)marker[CHARUCO_MARKER_ID],
+               (unsigned long)marker[CHARUCO_MARKER_CELL], (unsigned long)marker[CHARUCO_MARKER_DIFFERING_BITS]);
     }
 }
 
 /* The corners under a match, and the links of its markers. */
 static void corners_and_links(const uint32_t *header, const uint32_t *match)
 {
-    uint32_t values[2];
-    uint32_t number = charuco_map_charuco_corners(
-        header[4], header[5], header[6], header[7], float_of(header[8]), float_of(header[9]), codes, header[10], scores,
-        4 * header[11], grid, (size_t)4 * CHARUCO_GRID_POINT_WORDS * header[11], match[CHARUCO_CORNERS_TURN],
-        signed_of(match[CHARUCO_CORNERS_TX]), signed_of(match[CHARUCO_CORNERS_TY]), corners, LENGTH(corners), values,
-        LENGTH(values));
-    if (number != 0) {
+    uint32_t values[CHARUCO_REFUSAL_WORDS];
+    const uint32_t rows = header[CHARUCO_HEADER_ROWS], cols = header[CHARUCO_HEADER_COLS];
+    const uint32_t bits = header[CHARUCO_HEADER_BITS], border = header[CHARUCO_HEADER_BORDER];
+    const float cell_size = float_of(header[CHARUCO_HEADER_CELL_SIZE]), marker_size_rel = float_of(header[CHARUCO_HEADER_MARKER_SIZE_REL]);
+    const size_t n_codes = header[CHARUCO_HEADER_CODES], n_scores = (size_t)4 * header[CHARUCO_HEADER_CELLS];
+    uint32_t number = charuco_map_charuco_corners(rows, cols, bits, border, cell_size, marker_size_rel, codes, n_codes, scores, n_scores, grid,
+                                                  n_scores * CHARUCO_GRID_POINT_WORDS, match[CHARUCO_CORNERS_TURN],
+                                                  signed_of(match[CHARUCO_CORNERS_TX]), signed_of(match[CHARUCO_CORNERS_TY]), corners,
+                                                  LENGTH(corners), values, LENGTH(values));
+    if (number != CHARUCO_OK) {
         print_refusal(number, values);
         return;
     }
     uint32_t n_corners = values[0];
     for (uint32_t k = 0; k < n_corners; k++) {
         const uint32_t *corner = corners + CHARUCO_CORNER_WORDS * k;
-        const int32_t *point = grid + CHARUCO_GRID_POINT_WORDS * corner[1];
-        printf("  corner %lu at grid point %ld %ld, board corner %lu %lu, target %g %g\n", (unsigned long)corner[0],
-               (long)point[1], (long)point[2], (unsigned long)corner[2], (unsigned long)corner[3], float_of(corner[4]),
-               float_of(corner[5]));
+        const int32_t *point = grid + CHARUCO_GRID_POINT_WORDS * corner[CHARUCO_CORNER_INDEX];
+        printf("  corner %lu at grid point %ld %ld, board corner %lu %lu, target %g %g\n", (unsigned long)corner[CHARUCO_CORNER_ID],
+               (long)point[1], (long)point[2], (unsigned long)corner[CHARUCO_CORNER_I], (unsigned long)corner[CHARUCO_CORNER_J],
+               float_of(corner[CHARUCO_CORNER_TARGET_X]), float_of(corner[CHARUCO_CORNER_TARGET_Y]));
     }
     size_t n_links = make_links(match[CHARUCO_MATCH_MARKERS], n_corners);
-    number = charuco_validate_marker_corner_links(header[4], header[5], header[6], header[7], float_of(header[8]),
-                                                  float_of(header[9]), codes, header[10], links, n_links,
-                                                  CHARUCO_MUST_MATCH_ALL_4, violations, LENGTH(violations), values,
-                                                  LENGTH(values));
-    if (number != 0)
+    number = charuco_validate_marker_corner_links(rows, cols, bits, border, cell_size, marker_size_rel, codes, n_codes, links, n_links,
+                                                  CHARUCO_MUST_MATCH_ALL_4, violations, LENGTH(violations), values, LENGTH(values));
+    if (number != CHARUCO_OK)
         print_refusal(number, values);
     else
         printf("  %lu links, %lu violations\n", (unsigned long)(n_links / CHARUCO_LINK_WORDS), (unsigned long)values[0]);
@@ -155,14 +158,14 @@ static void place(size_t length)
     uint32_t header[CHARUCO_HEADER_WORDS];
     uint32_t match[CHARUCO_MATCH_WORDS];
     uint32_t number = charuco_match_board(record, length, markers, LENGTH(markers), match, LENGTH(match));
-    if (number != 0) {
+    if (number != CHARUCO_OK) {
         print_refusal(number, match);
         return;
     }
     print_match(match);
-    /* The record was read, and has at most 256 cells. */
+    /* The record was placed, so it is whole and has at most CHARUCO_MAX_CODES codes and CHARUCO_MAX_CELLS cells. */
     charuco_read_header(record, length, header, LENGTH(header));
-    read_lists(length, header[10], header[11]);
+    read_lists(length, header[CHARUCO_HEADER_CODES], header[CHARUCO_HEADER_CELLS]);
     corners_and_links(header, match);
 }
 
@@ -176,6 +179,10 @@ int main(int argc, char **argv)
             return 2;
         }
         place(length);
+    }
+    if (fflush(stdout) != 0 || ferror(stdout)) {
+        fprintf(stderr, "cabinet: cannot write the standard output\n");
+        return 3;
     }
     return 0;
 }

@@ -1,6 +1,10 @@
 /*
- * Every entry on a thread with a stack of 64 KiB and a page below it that nothing may touch: do the answers equal those on the main
- * thread? The record is as large as a match takes it: 256 cells of 8 by 8 bits on a board of 32 by 32, with a table of its own.
+ * Every function on a thread with a stack of 64 KiB and a page below it that nothing may touch: do the answers equal those on the main
+ * thread, and how much stack does each function take? The record is as large as a match takes it: 256 cells of 8 by 8 bits on a board of
+ * 32 by 32, with a table of its own.
+ *
+ * The stack below the caller is filled before a call, and looked through after it for the lowest byte that has changed. The same call of a
+ * function that only returns shows where the return address lies; from there on the bytes are counted, the return address with them.
  */
 #define _GNU_SOURCE
 #include <pthread.h>
@@ -32,7 +36,12 @@ static uint32_t links[CHARUCO_MAX_LINKS * CHARUCO_LINK_WORDS];
 
 /* Everything that the entries answer and write. */
 struct answers {
-    uint32_t numbers[4];
+    uint32_t numbers[9];
+    uint32_t header[CHARUCO_HEADER_WORDS];
+    uint32_t entry[CHARUCO_TABLE_ENTRY_WORDS];
+    uint32_t code[CHARUCO_CODE_WORDS];
+    uint32_t cell[CHARUCO_CELL_WORDS];
+    uint32_t part[CHARUCO_GRID_WORDS];
     uint32_t match[CHARUCO_MATCH_WORDS];
     uint32_t counts[3];
     uint32_t markers[CHARUCO_MAX_CELLS * CHARUCO_MARKER_WORDS];
@@ -137,22 +146,54 @@ static void make_lists(void)
     }
 }
 
-static void ask_match(struct answers *a)
-{
-    a->numbers[0] = charuco_match_board(record, record_length, a->markers, LENGTH(a->markers), a->match, LENGTH(a->match));
-}
+/* A function that only returns, and for each function of the library a name for it that has the same type. */
+__asm__(".pushsection .text\nidle:\n\txorl %eax, %eax\n\tret\n.popsection\n");
+#define IDLE(name) extern __typeof__(charuco_##name) idle_##name __asm__("idle")
+IDLE(read_header);
+IDLE(table_entry);
+IDLE(code);
+IDLE(cell);
+IDLE(grid);
+IDLE(build_marker_cells);
+IDLE(match_board);
+IDLE(map_charuco_corners);
+IDLE(validate_marker_corner_links);
 
-static void ask_lists(struct answers *a)
-{
-    a->numbers[1] = charuco_build_marker_cells(scores, LENGTH(scores), grid, LENGTH(grid), inliers, LENGTH(inliers), a->cells,
-                                               LENGTH(a->cells), &a->counts[0], 1);
-    a->numbers[2] = charuco_map_charuco_corners(SIDE, SIDE, BITS, BORDER, 1.0f, 0.75f, codes, LENGTH(codes), scores,
-                                                LENGTH(scores), grid, LENGTH(grid), 0, 1, 1, a->corners, LENGTH(a->corners),
-                                                &a->counts[1], 1);
-    a->numbers[3] = charuco_validate_marker_corner_links(SIDE, SIDE, BITS, BORDER, 1.0f, 0.75f, codes, LENGTH(codes), links,
-                                                         LENGTH(links), CHARUCO_MUST_MATCH_ALL_4, a->violations,
-                                                         LENGTH(a->violations), &a->counts[2], 1);
-}
+/* One call with the last place that each list has; of the idle function, or of the library's. */
+#define ASK(k, name, ...)                                                                     \
+    static __attribute__((noinline)) void ask_##name(struct answers *a, int idle)             \
+    {                                                                                         \
+        __typeof__(charuco_##name) *volatile asked = idle ? idle_##name : charuco_##name;     \
+        a->numbers[k] = asked(__VA_ARGS__);                                                   \
+    }
+
+ASK(0, read_header, record, record_length, a->header, LENGTH(a->header))
+ASK(1, table_entry, record, record_length, 510, a->entry, LENGTH(a->entry))
+ASK(2, code, record, record_length, CODES - 1, a->code, LENGTH(a->code))
+ASK(3, cell, record, record_length, CHARUCO_MAX_CELLS - 1, a->cell, LENGTH(a->cell))
+ASK(4, grid, record, record_length, CHARUCO_MAX_CELLS - 1, a->part, LENGTH(a->part))
+ASK(5, build_marker_cells, scores, LENGTH(scores), grid, LENGTH(grid), inliers, LENGTH(inliers), a->cells, LENGTH(a->cells), &a->counts[0], 1)
+ASK(6, match_board, record, record_length, a->markers, LENGTH(a->markers), a->match, LENGTH(a->match))
+ASK(7, map_charuco_corners, SIDE, SIDE, BITS, BORDER, 1.0f, 0.75f, codes, LENGTH(codes), scores, LENGTH(scores), grid, LENGTH(grid), 0, 1, 1,
+    a->corners, LENGTH(a->corners), &a->counts[1], 1)
+ASK(8, validate_marker_corner_links, SIDE, SIDE, BITS, BORDER, 1.0f, 0.75f, codes, LENGTH(codes), links, LENGTH(links),
+    CHARUCO_MUST_MATCH_ALL_4, a->violations, LENGTH(a->violations), &a->counts[2], 1)
+
+static const struct {
+    void (*ask)(struct answers *, int);
+    const char *name;
+    size_t promised;
+} functions[] = {
+    {ask_read_header, "charuco_read_header", CHARUCO_STACK_READ_HEADER},
+    {ask_table_entry, "charuco_table_entry", CHARUCO_STACK_TABLE_ENTRY},
+    {ask_code, "charuco_code", CHARUCO_STACK_CODE},
+    {ask_cell, "charuco_cell", CHARUCO_STACK_CELL},
+    {ask_grid, "charuco_grid", CHARUCO_STACK_GRID},
+    {ask_build_marker_cells, "charuco_build_marker_cells", CHARUCO_STACK_BUILD_MARKER_CELLS},
+    {ask_match_board, "charuco_match_board", CHARUCO_STACK_MATCH_BOARD},
+    {ask_map_charuco_corners, "charuco_map_charuco_corners", CHARUCO_STACK_MAP_CHARUCO_CORNERS},
+    {ask_validate_marker_corner_links, "charuco_validate_marker_corner_links", CHARUCO_STACK_VALIDATE_MARKER_CORNER_LINKS},
+};
 
 static void check(int holds, const char *what)
 {
@@ -174,11 +215,8 @@ static void make_stack(void)
     stack = all + page;
 }
 
-/* The memory is filled before, so that one can see how much of it was used: that many bytes. */
-static unsigned long run(void *(*start)(void *), void *argument)
+static void run(void *(*start)(void *), void *argument)
 {
-    size_t unused = 0;
-    memset(stack, 0xA5, STACK_BYTES);
     pthread_attr_t attributes;
     pthread_t thread;
     check(pthread_attr_init(&attributes) == 0, "no attributes");
@@ -186,20 +224,30 @@ static unsigned long run(void *(*start)(void *), void *argument)
     check(pthread_create(&thread, &attributes, start, argument) == 0, "no thread");
     check(pthread_join(thread, NULL) == 0, "the thread does not end");
     pthread_attr_destroy(&attributes);
-    while (unused < STACK_BYTES && stack[unused] == 0xA5)
-        unused++;
-    return STACK_BYTES - unused;
 }
 
-static void *match_on_thread(void *argument)
+/* Where the lowest byte lies that a call changes, counted from the stack's lowest one. Nothing is called between filling and looking. */
+static __attribute__((noinline)) size_t lowest(size_t k, struct answers *a, int idle)
 {
-    ask_match(argument);
-    return NULL;
+    volatile uint8_t *bytes = stack, *here;
+    size_t unchanged = 0;
+    __asm__ volatile("movq %%rsp, %0" : "=r"(here));
+    for (volatile uint8_t *byte = bytes; byte < here; byte++)
+        *byte = 0xA5;
+    functions[k].ask(a, idle);
+    while (bytes + unchanged < here && bytes[unchanged] == 0xA5)
+        unchanged++;
+    return unchanged;
 }
 
-static void *lists_on_thread(void *argument)
+static size_t taken[LENGTH(functions)];
+
+static void *measure(void *argument)
 {
-    ask_lists(argument);
+    for (size_t k = 0; k < LENGTH(functions); k++) {
+        size_t return_address = lowest(k, argument, 1);
+        taken[k] = return_address + 8 - lowest(k, argument, 0);
+    }
     return NULL;
 }
 
@@ -225,22 +273,25 @@ static int guard_holds(void)
 
 int main(void)
 {
-    unsigned long match_bytes, list_bytes;
     make_record();
     make_lists();
     make_stack();
     check(guard_holds(), "the page below the stack can be touched");
-    ask_match(&on_main);
-    ask_lists(&on_main);
-    match_bytes = run(match_on_thread, &on_small);
-    list_bytes = run(lists_on_thread, &on_small);
-    for (int k = 0; k < 4; k++)
-        check(on_main.numbers[k] == 0, "an entry refused");
+    for (size_t k = 0; k < LENGTH(functions); k++) {
+        functions[k].ask(&on_main, 0);
+        check(on_main.numbers[k] == 0, "a function refused");
+    }
+    run(measure, &on_small);
     check(on_main.match[CHARUCO_BEST_TX] == 1 && on_main.match[CHARUCO_BEST_TY] == 0 && on_main.match[CHARUCO_BEST_TURN] == 0,
           "the board is placed elsewhere");
     check(on_main.match[CHARUCO_MATCH_MARKERS] == CHARUCO_MAX_CELLS / 2, "not every marker was found");
     check(memcmp(&on_main, &on_small, sizeof on_main) == 0, "the answers differ");
-    printf("small_stack: the same answers on a stack of %d bytes, of which Match used %lu and the other entries %lu; record of %lu bytes\n",
-           STACK_BYTES, match_bytes, list_bytes, (unsigned long)record_length);
+    printf("small_stack: the same answers on a stack of %d bytes; record of %lu bytes; stack taken, and at most, by the header:\n", STACK_BYTES,
+           (unsigned long)record_length);
+    for (size_t k = 0; k < LENGTH(functions); k++) {
+        printf("%8lu %8lu  %s\n", (unsigned long)taken[k], (unsigned long)functions[k].promised, functions[k].name);
+        check(taken[k] <= functions[k].promised, "more stack is taken than the header says");
+        check(functions[k].promised <= taken[k] + 64, "far less stack is taken than the header says");
+    }
     return 0;
 }

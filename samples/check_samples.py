@@ -1,6 +1,6 @@
 """What `place` should print for a shot record: a plain model of Match, written from document 01.
 
-usage: python3 check_samples.py              hold every sheet's model against its stored text and its true placement
+usage: python3 check_samples.py              hold every sheet's model against its stored text and truth.tsv
        python3 check_samples.py --write      store the texts
        python3 check_samples.py FILE...      print the model's text for each record
 
@@ -243,20 +243,50 @@ marker 0 0 0 0 0 0 0000000000000001 00000000
 """
 
 
+def truth_rows():
+    """Per sheet its name, its true placement or None, and whether it is known to be placed wrongly."""
+    for line in (HERE / "truth.tsv").read_text().splitlines():
+        name, *placement = line.split("\t")
+        wrong = placement[3:] == ["wrong"]
+        placement = placement[:3] if wrong else placement
+        yield name, None if placement == ["none"] else tuple(int(number) for number in placement), wrong
+
+
+def without_table(data):
+    """The record with the built-in table in place of its own."""
+    start = 1 + 4 * bin(data[0] & 7).count("1")
+    return bytes([data[0] & 7]) + data[1:start] + data[start + 4 * 511:]
+
+
+def faults(name, truth, known_wrong):
+    """What does not hold of one sheet."""
+    data = (HERE / f"{name}.shot").read_bytes()
+    text = model(data)
+    if text != (HERE / f"{name}.txt").read_text():
+        yield "not the stored text"
+    if not (HERE / f"{name}.png").exists():
+        yield "no picture"
+    placed = tuple(int(number) for number in text.splitlines()[1].split()[1:4]) if text.startswith("placed") else None
+    if known_wrong:
+        if placed is None or placed == truth:
+            yield f"placed {placed}, and wrongly was expected: drawn {truth}"
+        if truth not in [placement[:3] for placement in Match(Shot(data)).placements()]:
+            yield f"drawn {truth}, which does not put every cell on the board"
+    elif placed != truth:
+        yield f"placed {placed}, drawn {truth}"
+    if data[0] & 8 and model(without_table(data)) == text:
+        yield "its own table changes nothing"
+
+
 def check():
     wrong = []
     if model(EXAMPLE) != EXAMPLE_TEXT:
         wrong.append("document 01's example")
-    rows = [line.split("\t") for line in (HERE / "truth.tsv").read_text().splitlines()]
-    if {name for name, *_ in rows} != {sheet.stem for sheet in HERE.glob("*.shot")}:
+    rows = list(truth_rows())
+    if sorted(name for name, *_ in rows) != sorted(sheet.stem for sheet in HERE.glob("*.shot")):
         wrong.append("truth.tsv does not name the sheets")
-    for name, *truth in rows:
-        text = model((HERE / f"{name}.shot").read_bytes())
-        if text != (HERE / f"{name}.txt").read_text():
-            wrong.append(f"{name}: not the stored text")
-        best = text.splitlines()[1].split()[1:4] if text.startswith("placed") else ["none"]
-        if best != truth:
-            wrong.append(f"{name}: placed {best}, drawn {truth}")
+    for row in rows:
+        wrong += [f"{row[0]}: {fault}" for fault in faults(*row)]
     print("\n".join(wrong) if wrong else f"{len(rows)} sheets and document 01's example agree")
     return 1 if wrong else 0
 

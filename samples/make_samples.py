@@ -1,16 +1,19 @@
 """Draw ChArUco boards with OpenCV, lay them into pictures as a camera would see them and write what was sampled as shot records.
 
-usage: python3 make_samples.py [--pictures] [directory]
+usage: python3 make_samples.py [--full] [directory]
 
-The sheets go to the given directory, or to the one of this file, with `truth.tsv`: the placement that each picture was
-taken with. With --pictures the pictures go there too. All noise comes from fixed seeds, so a second run writes the same
-bytes. Nothing here comes from the library: boards, markers and codes are OpenCV's, the record is written from document 01.
+The sheets go to the given directory, or to the one of this file, each with a small picture, and `truth.tsv`: the
+placement that each picture was taken with. With --full the pictures that were sampled go there too, as NAME-full.png.
+All noise comes from fixed seeds, so a second run writes the same bytes. Nothing here comes from the library: boards,
+markers and codes are OpenCV's, the record is written from document 01.
 """
 
+import math
 import struct
 import sys
 from fractions import Fraction
 from pathlib import Path
+from typing import NamedTuple
 
 try:
     import cv2
@@ -71,6 +74,7 @@ class Board:
 
 
 LANE = Board(5, 7, cv2.aruco.DICT_4X4_50, 50)
+OTHER = Board(5, 7, cv2.aruco.DICT_5X5_50, 50)
 WALL = Board(12, 9, cv2.aruco.DICT_6X6_100, 100)
 
 
@@ -92,30 +96,47 @@ def tiles(board):
 
 # ---------------------------------------------------------------- a picture
 
+class View(NamedTuple):
+    """Where the board is seen."""
+    turn: int       # the quarter turn that takes the picture's grid to the board's
+    quad: list      # the grid's corners top left, top right, bottom right, bottom left in the picture, in pixels
+    origin: tuple   # what the corner finder calls the grid's top left corner
+
+
+class Light(NamedTuple):
+    """How well it is seen."""
+    glare: tuple = None     # place and radius of a bright spot, in pixels
+    haze: float = None      # what a haze leaves of the contrast
+    blur: float = 1.1       # in pixels
+
+
+class Asked(NamedTuple):
+    """What the record asks for; None is left out of it."""
+    board: Board
+    minimum: float = None
+    border_threshold: float = None
+    px_per_square: float = None
+    table: list = None
+
+
 class Shot:
-    """A board seen by a camera.
+    """A board seen by a camera."""
 
-    turn: the quarter turn that takes the picture's grid to the board's
-    quad: where the grid's corners top left, top right, bottom right, bottom left are in the picture, in pixels
-    origin: what the corner finder calls the grid's top left corner
-    glare: place and radius of a bright spot, in pixels
-    settings: minimum margin, border threshold, px_per_square; None is left out of the record
-    """
-
-    def __init__(self, name, seed, board, turn, quad, origin, glare=None, settings=(None, None, None), drawn=printed):
-        self.name, self.board, self.turn, self.origin, self.settings = name, board, turn, origin, settings
+    def __init__(self, name, seed, board, view, light=Light(), asked=None, drawn=printed):
+        self.name, self.board, self.turn, self.origin = name, board, view.turn, view.origin
+        self.asked = asked or Asked(board)
         self.noise = np.random.RandomState(seed)
-        self.is_board = drawn is printed
-        size = (board.cols, board.rows) if turn % 2 == 0 else (board.rows, board.cols)
+        self.is_board = drawn is printed and self.asked.board is board
+        size = (board.cols, board.rows) if self.turn % 2 == 0 else (board.rows, board.cols)
         self.width, self.height = size
         # picture's grid corner -> board corner: the turn, moved so that all is on the board
-        matrix = np.array(TURNS[turn])
+        matrix = np.array(TURNS[self.turn])
         rectangle = np.array([(0, 0), (self.width, 0), (self.width, self.height), (0, self.height)])
         self.to_board = lambda point: matrix @ np.array(point) - (rectangle @ matrix.T).min(axis=0)
-        self.view = cv2.getPerspectiveTransform(rectangle.astype(np.float32), np.array(quad, np.float32))
-        self.picture = self.taken(drawn(board), rectangle, quad, glare)
+        self.view = cv2.getPerspectiveTransform(rectangle.astype(np.float32), np.array(view.quad, np.float32))
+        self.picture = self.taken(drawn(board), rectangle, view.quad, light)
 
-    def taken(self, scene, rectangle, quad, glare):
+    def taken(self, scene, rectangle, quad, light):
         on_scene = [(self.to_board(corner) + 1) * SQUARE_PX for corner in rectangle]
         lens = cv2.getPerspectiveTransform(np.array(on_scene, np.float32), np.array(quad, np.float32))
         # drawn four times as large and averaged, so that edges fall between pixels
@@ -123,12 +144,13 @@ class Shot:
         large = cv2.warpPerspective(scene, fine, (4 * WIDTH, 4 * HEIGHT), flags=cv2.INTER_LINEAR, borderValue=ROOM)
         picture = large.reshape(HEIGHT, 4, WIDTH, 4).mean(axis=(1, 3))
         y, x = np.mgrid[0:HEIGHT, 0:WIDTH]
-        light = 1.05 - 0.35 * x / WIDTH - 0.15 * y / HEIGHT
-        picture = picture * light
-        if glare:
-            gx, gy, radius = glare
+        picture = picture * (1.05 - 0.35 * x / WIDTH - 0.15 * y / HEIGHT)
+        if light.glare:
+            gx, gy, radius = light.glare
             picture = picture + 420.0 * np.exp(-((x - gx) ** 2 + (y - gy) ** 2) / (2.0 * radius ** 2))
-        picture = cv2.GaussianBlur(picture, (0, 0), 1.1)
+        if light.haze:
+            picture = ROOM + light.haze * (picture - ROOM)
+        picture = cv2.GaussianBlur(picture, (0, 0), light.blur)
         picture = picture + self.noise.normal(0.0, 4.0, picture.shape)
         return np.clip(np.rint(picture), 0, 255).astype(np.uint8)
 
@@ -163,7 +185,7 @@ class Shot:
         near = np.concatenate([four.min(axis=0), (WIDTH - 1, HEIGHT - 1) - four.max(axis=0)])
         if near.min() < RIM_PX:
             return None
-        side = self.board.side
+        side = self.asked.board.side
         unit = np.array([(0, 0), (1, 0), (1, 1), (0, 1)], np.float32)
         view = cv2.getPerspectiveTransform(unit, four.astype(np.float32))
         # 5 x 5 points in the middle of each module
@@ -207,11 +229,24 @@ def otsu(greys):
 
 # ---------------------------------------------------------------- records
 
-def record(board, settings, cells):
-    """The shot record of document 01. The table is left out: the built-in one serves."""
-    given = [value is not None for value in settings]
-    out = bytes([sum(1 << k for k in range(3) if given[k])])
+def likelihood_table(slope, floor):
+    """Document 01's formula, rounded to f32 after each operation; exp and ln are rounded from doubles."""
+    f32 = np.float32
+    entries = []
+    for d in range(-255, 256):
+        x = f32(slope) / f32(255) * f32(d)
+        ln = f32(math.log(f32(1) + f32(math.exp(-abs(x)))))
+        entries.append(max(-ln if x >= 0 else x - ln, f32(floor)))
+    return entries
+
+
+def record(asked, cells):
+    """The shot record of document 01."""
+    board, *settings, table = asked
+    given = [value is not None for value in (*settings, table)]
+    out = bytes([sum(1 << k for k in range(4) if given[k])])
     out += b"".join(struct.pack("<f", value) for value in settings if value is not None)
+    out += struct.pack("<511f", *table) if table else b""
     out += bytes([board.rows, board.cols, board.bits, BORDER])
     out += struct.pack("<ff", 0.04, MARKER_REL)
     out += struct.pack("<H", len(board.codes)) + b"".join(struct.pack("<Q", code) for code in board.codes)
@@ -236,35 +271,53 @@ def truth(shot, cells):
     return shot.turn, *shifts.pop()
 
 
+# The study's sheet is not made here. Its truth is the board's place in the study's picture.
+STUDY = "glare-two-squares\t0\t-33\t21\twrong\n"
+
+UPRIGHT = View(0, [(196, 34), (459, 52), (478, 440), (169, 425)], (-1, -1))
+
 SHOTS = [
-    lambda: Shot("lane4", 4, LANE, 0, [(196, 34), (459, 52), (478, 440), (169, 425)], (-1, -1)),
-    lambda: Shot("turned", 5, LANE, 1, [(92, 118), (549, 61), (571, 418), (104, 371)], (-3, 2)),
-    lambda: Shot("glare", 6, LANE, 2, [(188, 51), (452, 28), (491, 436), (172, 447)], (7, -12),
-                 glare=(255, 190, 62), settings=(0.1, 0.6, None)),
-    lambda: Shot("part", 7, WALL, 3, [(-133, -61), (548, -158), (630, 742), (-64, 701)], (-6, 40),
-                 settings=(None, None, 48.0)),
-    lambda: Shot("blank", 8, LANE, 0, [(196, 34), (459, 52), (478, 440), (169, 425)], (-1, -1), drawn=tiles),
+    lambda: Shot("lane4", 4, LANE, UPRIGHT),
+    lambda: Shot("turned", 5, LANE, View(1, [(92, 118), (549, 61), (571, 418), (104, 371)], (-3, 2))),
+    lambda: Shot("glare", 6, LANE, View(2, [(188, 51), (452, 28), (491, 436), (172, 447)], (7, -12)),
+                 Light(glare=(255, 190, 62)), Asked(LANE, minimum=0.1, border_threshold=0.6)),
+    lambda: Shot("part", 7, WALL, View(3, [(-133, -61), (548, -158), (630, 742), (-64, 701)], (-6, 40)),
+                 asked=Asked(WALL, px_per_square=48.0)),
+    lambda: Shot("blank", 8, LANE, UPRIGHT, drawn=tiles),
+    lambda: Shot("other", 9, OTHER, View(0, [(181, 40), (448, 31), (470, 447), (160, 436)], (2, 5)), asked=Asked(LANE)),
+    lambda: Shot("narrow", 12, LANE, View(3, [(88, 92), (561, 71), (549, 401), (79, 419)], (14, -9)),
+                 Light(haze=0.1, blur=7.5)),
+    lambda: Shot("table", 11, LANE, View(2, [(201, 66), (441, 43), (462, 421), (187, 434)], (-8, 3)),
+                 Light(blur=4.5), Asked(LANE, table=likelihood_table(12.0, -2.0))),
 ]
+
+
+def small(picture):
+    """Half as wide and high, in steps of 8 greys, which keeps the file small."""
+    mean = picture.reshape(HEIGHT // 2, 2, WIDTH // 2, 2).mean(axis=(1, 3))
+    return np.clip(np.rint(mean / 8) * 8, 0, 255).astype(np.uint8)
 
 
 def main():
     words = sys.argv[1:]
-    pictures = words[:1] == ["--pictures"]
-    words = words[pictures:]
+    full = words[:1] == ["--full"]
+    words = words[full:]
     directory = Path(words[0]) if words else Path(__file__).resolve().parent
     rows = []
     for make in SHOTS:
         shot = make()
         cells = shot.cells()
-        data = record(shot.board, shot.settings, cells)
+        data = record(shot.asked, cells)
         assert len(data) <= 65535
         (directory / f"{shot.name}.shot").write_bytes(data)
         placed = "\t".join(str(number) for number in truth(shot, cells)) if shot.is_board else "none"
         rows.append(f"{shot.name}\t{placed}\n")
         unsampled = sum(samples is None for _, _, samples in cells)
         print(f"{shot.name}: {len(data)} bytes, {len(cells)} cells, {unsampled} of them not sampled")
-        if pictures:
-            cv2.imwrite(str(directory / f"{shot.name}.png"), shot.picture)
+        cv2.imwrite(str(directory / f"{shot.name}.png"), small(shot.picture), [cv2.IMWRITE_PNG_COMPRESSION, 9])
+        if full:
+            cv2.imwrite(str(directory / f"{shot.name}-full.png"), shot.picture)
+    rows.append(STUDY)
     (directory / "truth.tsv").write_text("".join(rows))
 
 

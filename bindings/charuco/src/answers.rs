@@ -20,6 +20,7 @@ impl Alignment {
 
 /// What a record says before its cells.
 #[derive(Clone, Copy, Debug, PartialEq)]
+#[non_exhaustive]
 pub struct Header {
     pub map: u32,
     pub minimum_margin: f32,
@@ -157,6 +158,7 @@ impl Marker {
 
 /// A placed shot.
 #[derive(Clone, Debug, PartialEq)]
+#[non_exhaustive]
 pub struct Match {
     pub best: Hypothesis,
     pub runner_up: Option<Hypothesis>,
@@ -212,6 +214,7 @@ impl MappedCorner {
 
 /// What is wrong with a link, or with those of a marker. Four corners are the expected ones.
 #[derive(Clone, Debug, PartialEq, Eq)]
+#[non_exhaustive]
 pub enum Violation {
     UnknownMarker {
         marker: u32,
@@ -236,6 +239,8 @@ pub enum Violation {
         expected: [u32; 4],
         missing: Vec<u32>,
     },
+    /// A kind that this crate has no name for: the library is a later one. These are its words.
+    Unknown([u32; VIOLATION_WORDS]),
 }
 
 pub(crate) const VIOLATION_WORDS: usize = 12;
@@ -260,9 +265,9 @@ impl Violation {
             5 => Self::MissingCorners {
                 marker,
                 expected,
-                missing: missing[..count as usize].to_vec(),
+                missing: missing.into_iter().take(count as usize).collect(),
             },
-            _ => panic!("the library has no violation of kind {kind}"),
+            _ => Self::Unknown(words),
         }
     }
 }

@@ -1,7 +1,45 @@
 //! Places a ChArUco board from sampled marker cells: the verified library `libcharuco.a`, called from Rust. Every function accepts every
-//! argument. [`words`] has the entries as the library gives them, over lists of words.
+//! argument. [`words`] has the entries as the library gives them, over lists of words. `include/charuco.h` says what a record holds, what a turn
+//! and a translation do to a point, and which corners a cell has.
+//!
+//! The library's answers need floats that round to nearest and keep subnormal numbers. Every function sets them for its call and then puts
+//! back what the caller had.
+//!
+//! # Example
+//!
+//! A record in, numbered corners out: all corners of the record's cells pass for detected ones.
+//!
+//! ```
+//! let record = std::fs::read("../../samples/turned.shot")?;
+//! let placed = charuco::match_board(&record)?;
+//! assert_eq!((placed.best.alignment.turn, placed.markers.len()), (1, 7));
+//!
+//! let header = charuco::read_header(&record)?;
+//! let codes = (0..header.codes).map_while(|k| charuco::code(&record, k).transpose());
+//! let codes: Vec<u64> = codes.collect::<Result<_, _>>()?;
+//! let mut corners = vec![];
+//! for k in 0..header.cells {
+//!     if let Some(charuco::Cell { u, v, .. }) = charuco::cell(&record, k)? {
+//!         for point in [[u, v], [u + 1, v], [u + 1, v + 1], [u, v + 1]] {
+//!             corners.push(charuco::Corner { score: 1.0, grid: Some(point) });
+//!         }
+//!     }
+//! }
+//!
+//! let mapped = charuco::map_charuco_corners(&header.spec, &codes, &corners, placed.corners)?;
+//! for corner in &mapped {
+//!     let point = corners[corner.index].grid;
+//!     println!("corner {} is grid point {point:?}, printed at {:?}", corner.id, corner.target);
+//! }
+//! assert_eq!(mapped.len(), 24);
+//!
+//! let refusal = charuco::match_board(&std::fs::read("../../samples/blank.shot")?).unwrap_err();
+//! assert_eq!(refusal.to_string(), "refused 16: the margin 0.004972501 is below the minimum 0.05");
+//! # Ok::<(), Box<dyn std::error::Error>>(())
+//! ```
 
 mod answers;
+mod floats;
 mod refusal;
 pub mod words;
 
@@ -100,7 +138,15 @@ pub fn build_marker_cells(
 /// Where the board lies under the cells of a shot record.
 pub fn match_board(record: &[u8]) -> Result<Match, Refusal> {
     let mut markers = vec![0; MOST_CELLS * MARKER_WORDS];
-    let values = told::<MATCH_WORDS>(|values| words::match_board(record, &mut markers, values))?;
+    let values = told::<MATCH_WORDS>(|values| {
+        let number = words::match_board(record, &mut markers, values);
+        if number == 16 {
+            // The library tells the margin alone; the minimum stands in the record.
+            let header = told(|values| words::read_header(record, values)).map(Header::new);
+            values[1] = header.map_or(0, |header| header.minimum_margin.to_bits());
+        }
+        number
+    })?;
     let markers = results(&markers, Match::count(values), Marker::new);
     Ok(Match::new(values, markers))
 }

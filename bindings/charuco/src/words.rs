@@ -1,5 +1,7 @@
 //! The C functions over slices of words, as include/charuco.h has them: the answer is 0 or the number of the refusal, and every list
-//! may have every length.
+//! may have every length. Each is asked with the default floats, whatever those of the caller are.
+
+use crate::floats::with_default;
 
 /// What the corner and link entries are given of a board.
 #[derive(Clone, Copy, Debug, PartialEq)]
@@ -93,18 +95,18 @@ unsafe extern "C" {
 // What is lent as `&mut` overlaps nothing else. The C functions read and write within these lengths and keep no pointer.
 
 pub fn read_header(record: &[u8], values: &mut [u32]) -> u32 {
-    unsafe {
+    with_default(|| unsafe {
         charuco_read_header(
             record.as_ptr(),
             record.len(),
             values.as_mut_ptr(),
             values.len(),
         )
-    }
+    })
 }
 
 fn read_at(reader: Reader, record: &[u8], k: usize, values: &mut [u32]) -> u32 {
-    unsafe {
+    with_default(|| unsafe {
         reader(
             record.as_ptr(),
             record.len(),
@@ -112,7 +114,7 @@ fn read_at(reader: Reader, record: &[u8], k: usize, values: &mut [u32]) -> u32 {
             values.as_mut_ptr(),
             values.len(),
         )
-    }
+    })
 }
 
 pub fn table_entry(record: &[u8], k: usize, values: &mut [u32]) -> u32 {
@@ -138,7 +140,7 @@ pub fn build_marker_cells(
     cells: &mut [i32],
     values: &mut [u32],
 ) -> u32 {
-    unsafe {
+    with_default(|| unsafe {
         charuco_build_marker_cells(
             scores.as_ptr(),
             scores.len(),
@@ -151,11 +153,11 @@ pub fn build_marker_cells(
             values.as_mut_ptr(),
             values.len(),
         )
-    }
+    })
 }
 
 pub fn match_board(record: &[u8], markers: &mut [u32], values: &mut [u32]) -> u32 {
-    unsafe {
+    with_default(|| unsafe {
         charuco_match_board(
             record.as_ptr(),
             record.len(),
@@ -164,7 +166,7 @@ pub fn match_board(record: &[u8], markers: &mut [u32], values: &mut [u32]) -> u3
             values.as_mut_ptr(),
             values.len(),
         )
-    }
+    })
 }
 
 /// The corners as they are given, and their alignment: turn, tx, ty.
@@ -183,7 +185,7 @@ pub fn map_charuco_corners(
     values: &mut [u32],
 ) -> u32 {
     let (turn, tx, ty) = input.alignment;
-    unsafe {
+    with_default(|| unsafe {
         charuco_map_charuco_corners(
             spec.rows,
             spec.cols,
@@ -205,7 +207,7 @@ pub fn map_charuco_corners(
             values.as_mut_ptr(),
             values.len(),
         )
-    }
+    })
 }
 
 pub fn validate_marker_corner_links(
@@ -216,7 +218,7 @@ pub fn validate_marker_corner_links(
     violations: &mut [u32],
     values: &mut [u32],
 ) -> u32 {
-    unsafe {
+    with_default(|| unsafe {
         charuco_validate_marker_corner_links(
             spec.rows,
             spec.cols,
@@ -234,5 +236,5 @@ pub fn validate_marker_corner_links(
             values.as_mut_ptr(),
             values.len(),
         )
-    }
+    })
 }

@@ -150,7 +150,10 @@ fn values_of_refusals() {
     record.splice(1..1, 2.0_f32.to_le_bytes());
     assert_eq!(
         match_board(&record),
-        Err(Refusal::Margin(f32::from_bits(0x3F38_AA3B)))
+        Err(Refusal::Margin {
+            margin: f32::from_bits(0x3F38_AA3B),
+            minimum: 2.0
+        })
     );
 }
 

@@ -10,11 +10,7 @@ use lib.Ieee.{Float, nan, binary32, ofBits}
 use Rattle.floats.specs.Units.{nought}
 use Rattle.grid_alignment.specs.declared.Coord.{Coord}
 use Rattle.grid_alignment.specs.Alignment.{point, cornerAlignment, rectCorners}
-use Rattle.refusal.specs.Numbers.{numberOf, valuesOf}
-use Rattle.board.specs.declared.CharucoBoardSpec.{CharucoBoardSpec}
 use Rattle.board.specs.declared.Board.{Board}
-use Rattle.board.specs.declared.NewBoard.{NewBoard}
-use Rattle.board.specs.declared.NewBoard.the-variants as new
 use Rattle.board.specs.declared.Numbered.{Numbered}
 use Rattle.board.specs.declared.Numbered.the-variants as numbered
 use Rattle.board.specs.declared.Located.{Located}
@@ -46,11 +42,6 @@ cornerTranslation turn tx ty =
 abbrev pub rectCorner : ℤ → ℤ → Float → ℕ → ℕ → Float
 rectCorner u v px k axis = getD (getD (rectCorners u v px) k []) axis nan
 
--- what a new board is asked for
-abbrev pub asked : ℕ → ℕ → ℕ → ℕ → Float → Float → CharucoBoardSpec
-asked rows cols bits border size marker =
-    record { rows = rows; cols = cols; bits = bits; «border_bits» = border; «cell_size» = size; «marker_size_rel» = marker }
-
 -- a board of which only the layout is asked
 abbrev pub unitSize : Float
 unitSize = ofBits binary32 0x3F800000
@@ -58,16 +49,6 @@ unitSize = ofBits binary32 0x3F800000
 abbrev pub boardWith : ℕ → ℕ → Float → Board
 boardWith rows cols size =
     record { rows = rows; cols = cols; bits = 1; «border_bits» = 1; «cell_size» = size; «marker_size_rel» = unitSize }
-
--- 0 for a board that is made, else the number of its refusal
-abbrev pub answerNumber : NewBoard → ℕ
-answerNumber (new.Made board) = 0
-answerNumber (new.Refused refusal) = numberOf refusal
-
--- the values that a refusal gives
-abbrev pub answerValue : NewBoard → ℕ → ℕ
-answerValue (new.Made board) k = 0
-answerValue (new.Refused refusal) k = getD (valuesOf refusal) k 0
 
 abbrev pub idWord : Numbered → ℕ
 idWord (numbered.Id n) = n

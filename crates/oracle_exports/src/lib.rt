@@ -1,18 +1,15 @@
-// The C functions by which the Rust oracle asks for what no entry tells by itself: one number each, or all scores of a cell. The entries it asks
-// through `charuco`. For tests only. Every function accepts every number and list. Uses `refusal`, `matcher`, `grid_alignment`, `board`,
-// `score_matrix` and `shot_record`, and for proofs `integers` and `floats`.
+// The C functions by which the Rust oracle and `stored_rows` ask for what no entry tells by itself: one number each, or all scores of a cell. The entries
+// are asked through `charuco`. For tests only. Every function accepts every number and list. Uses `matcher`, `grid_alignment`, `board` and
+// `score_matrix`, and for proofs `integers` and `floats`.
 ghost use mathlib.Core.Path.{_≡_};
 ghost use Prim.Native.Nat.{_%_};
 ghost use Rattle.matcher.specs.Codes.{turnedWord, differing};
 ghost use Rattle.grid_alignment.specs.Alignment.{point, sends, corner};
 ghost use Rattle.board.specs.Layout.{markerTotal, markerOn, markerSquare, cornerAt, cornerPlace, objectPoint, surroundingCorners};
-ghost use Rattle.board.specs.Questions.{newBoard};
-ghost use Rattle.oracle_exports.specs.Words.{axisOf, cornerTranslation, rectCorner, asked, answerNumber, answerValue};
+ghost use Rattle.oracle_exports.specs.Words.{axisOf, cornerTranslation, rectCorner};
 ghost use Rattle.oracle_exports.specs.Words.{unitSize, boardWith, idWord, placeWord, axisOfPoint, fourWord};
 use board::Board;
-use board::CharucoBoardSpec;
 use board::Located;
-use board::NewBoard;
 use board::Numbered;
 use board::ObjectPoint;
 use board::Surrounding;
@@ -20,8 +17,14 @@ use grid_alignment::Coord;
 use grid_alignment::GridAlignment;
 use grid_alignment::alignments;
 
-mod records;
 mod scores;
+
+pub use scores::oracle_cell_weight;
+pub use scores::oracle_evidence;
+pub use scores::oracle_null_score;
+pub use scores::oracle_read_code;
+pub use scores::oracle_score;
+pub use scores::oracle_table_entry;
 
 // Says that there is no id and no place.
 const ABSENT: u64 = 18446744073709551615;
@@ -92,123 +95,6 @@ pub extern "C" fn oracle_cell_rect_corner(u: i16, v: i16, px: f32, corner: u8, a
     let k = (corner % 4) as usize;
     let a = (axis % 2) as usize;
     corners[k][a]
-}
-
-fn asked_board(
-    rows: u32,
-    cols: u32,
-    bits: u32,
-    border_bits: u32,
-    cell_size: f32,
-    marker_size_rel: f32,
-    codes: &[u64],
-) -> NewBoard
-    ensures { λ r. ⌜ r ≡ newBoard (asked rows cols bits «border_bits» «cell_size» «marker_size_rel») (now (codes .entry)) ⌝ }
-{
-    let spec = CharucoBoardSpec {
-        rows,
-        cols,
-        bits,
-        border_bits,
-        cell_size,
-        marker_size_rel,
-    };
-    Board::new(spec, codes)
-}
-
-fn number_of(answer: NewBoard) -> u32
-    ensures { λ r. ⌜ r ≡ answerNumber answer ⌝ }
-{
-    match answer {
-        NewBoard::Made(_) => 0,
-        NewBoard::Refused(refusal) => refusal.number(),
-    }
-}
-
-// The value at place `k` of those that the answer gives.
-fn value_of(answer: NewBoard, k: usize) -> u32
-    ensures { λ r. ⌜ r ≡ answerValue answer k ⌝ }
-{
-    match answer {
-        NewBoard::Made(_) => 0,
-        NewBoard::Refused(refusal) => refusal.value(k),
-    }
-}
-
-// 0 for a board that is made, else the number of its refusal.
-#[no_mangle]
-pub extern "C" fn oracle_board_new(
-    rows: u32,
-    cols: u32,
-    bits: u32,
-    border_bits: u32,
-    cell_size: f32,
-    marker_size_rel: f32,
-    codes: &[u64],
-) -> u32
-    ensures { λ r. ⌜ r ≡ answerNumber (newBoard (asked rows cols bits «border_bits» «cell_size» «marker_size_rel») (now (codes .entry))) ⌝ }
-{
-    number_of(asked_board(
-        rows,
-        cols,
-        bits,
-        border_bits,
-        cell_size,
-        marker_size_rel,
-        codes,
-    ))
-}
-
-#[no_mangle]
-pub extern "C" fn oracle_board_needed(
-    rows: u32,
-    cols: u32,
-    bits: u32,
-    border_bits: u32,
-    cell_size: f32,
-    marker_size_rel: f32,
-    codes: &[u64],
-) -> u32
-    ensures { λ r. ⌜ r ≡ answerValue (newBoard (asked rows cols bits «border_bits» «cell_size» «marker_size_rel») (now (codes .entry))) 0 ⌝ }
-{
-    value_of(
-        asked_board(
-            rows,
-            cols,
-            bits,
-            border_bits,
-            cell_size,
-            marker_size_rel,
-            codes,
-        ),
-        0,
-    )
-}
-
-#[no_mangle]
-pub extern "C" fn oracle_board_available(
-    rows: u32,
-    cols: u32,
-    bits: u32,
-    border_bits: u32,
-    cell_size: f32,
-    marker_size_rel: f32,
-    codes: &[u64],
-) -> u32
-    ensures { λ r. ⌜ r ≡ answerValue (newBoard (asked rows cols bits «border_bits» «cell_size» «marker_size_rel») (now (codes .entry))) 1 ⌝ }
-{
-    value_of(
-        asked_board(
-            rows,
-            cols,
-            bits,
-            border_bits,
-            cell_size,
-            marker_size_rel,
-            codes,
-        ),
-        1,
-    )
 }
 
 // A board by its size. The layout depends on nothing else but the cells' size.

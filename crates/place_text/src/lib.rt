@@ -44,7 +44,7 @@ fn put_match(text: &mut [u8], at: usize, found: Match, markers: &[u32]) -> usize
 
 // The text of `answer` and of the words that a match filled `markers` with, in front of the list that is lent; where that is too
 // short, as much of the text as it holds. The answer is how many bytes that is.
-fn format(answer: Matched, markers: &[u32], text: &mut [u8]) -> usize
+pub fn format(answer: Matched, markers: &[u32], text: &mut [u8]) -> usize
     ensures count { λ r. ⌜ r ≡ min (length (textOf answer (now (markers .entry)))) (length (now (text .entry))) ⌝ }
     ensures list { λ _. ⌜ now (text .exit) ≡ inFront (textOf answer (now (markers .entry))) (now (text .entry)) ⌝ }
 {

@@ -1,14 +1,10 @@
-// Rows of stored answers: reading them byte by byte, what their words stand for, and how many agree. For the programs that
-// replay such rows. Uses `floats`, `board`, `io` and `libc`.
-pub mod boards;
-pub mod corners;
-pub mod digest;
-pub mod greys;
-pub mod input;
-pub mod lent;
-pub mod print;
-pub mod records;
-pub mod room;
-pub mod rows;
+// Rows of stored answers: reading them byte by byte, the lists that they build up, what their words stand for, digests, how many agree, and the answers
+// to rows that ask for what no entry tells by itself. For the program `replay`. Uses `integers`, `floats`, `score_matrix`, `oracle_exports`, `io` and
+// `libc`.
+pub mod answers;
+mod layout;
+pub mod lines;
+pub mod lists;
+pub mod numbers;
+pub mod parts;
 pub mod tally;
-pub mod values;

@@ -1,24 +1,45 @@
-// How many rows there are of each kind, and how many of them agree.
+// What rows do, and how many of them agree.
+use libc::STDOUT_FILENO;
 
-// What becomes of a row.
-pub enum Outcome {
+// How much of the lists is in use.
+pub struct Used {
+    pub bytes: usize,
+    pub words: usize,
+}
+
+// What a row does. Those that add say how much is in use afterwards, and one that asks whether its answer agrees.
+pub enum Effect {
+    Nothing,
     Unread,
-    Differs,
-    Agrees,
+    Emptied,
+    Bytes(usize),
+    Words(usize),
+    Asked(bool),
 }
 
-pub fn compared(agrees: bool) -> Outcome {
-    if agrees {
-        return Outcome::Agrees;
+pub fn used_after(mut used: Used, effect: Effect) -> Used {
+    match effect {
+        Effect::Emptied => Used { bytes: 0, words: 0 },
+        Effect::Bytes(n) => {
+            used.bytes = n;
+            used
+        }
+        Effect::Words(n) => {
+            used.words = n;
+            used
+        }
+        _ => used,
     }
-    Outcome::Differs
 }
 
-// Place k of a list counts the rows of kind k, and place 0 all rows, also those that are not read.
+// Rows that ask, those of them that agree, rows that are not read, and lines.
 pub struct Tally {
-    pub asked: [u64; 11],
-    pub agreed: [u64; 11],
-    pub unread: u64,
+    asked: u64,
+    agreed: u64,
+    unread: u64,
+    lines: u64,
+    // The first line that is not read or does not agree; 0 if there is none.
+    first: u64,
 }
 
 // One more. A full count stays full, since an input may be of any length.
@@ -32,40 +53,58 @@ fn more(count: u64) -> u64 {
 impl Tally {
     pub fn new() -> Tally {
         Tally {
-            asked: [0; 11],
-            agreed: [0; 11],
+            asked: 0,
+            agreed: 0,
             unread: 0,
+            lines: 0,
+            first: 0,
         }
     }
 
-    // A kind above 10 has no place: its rows are not read.
-    fn with_asked(mut self, kind: usize) -> Tally {
-        if kind < 11 {
-            self.asked[kind] = more(self.asked[kind]);
-        }
-        self
-    }
-
-    fn with_agreed(mut self, kind: usize) -> Tally {
-        if kind < 11 {
-            self.agreed[kind] = more(self.agreed[kind]);
+    fn failed(mut self) -> Tally {
+        if self.first == 0 {
+            self.first = self.lines;
         }
         self
     }
 
-    pub fn with_unread(mut self) -> Tally {
+    fn with_unread(mut self) -> Tally {
         self.unread = more(self.unread);
-        self.with_asked(0)
+        self.failed()
     }
 
-    pub fn with_row(self, kind: usize, outcome: Outcome) -> Tally {
-        match outcome {
-            Outcome::Unread => self.with_unread(),
-            Outcome::Differs => self.with_asked(0).with_asked(kind),
-            Outcome::Agrees => self.with_asked(0)
-                .with_asked(kind)
-                .with_agreed(0)
-                .with_agreed(kind),
+    fn with_asked(mut self, agrees: bool) -> Tally {
+        self.asked = more(self.asked);
+        if agrees {
+            self.agreed = more(self.agreed);
+            return self;
+        }
+        self.failed()
+    }
+
+    // After one more line.
+    pub fn with(mut self, effect: Effect) -> Tally {
+        self.lines = more(self.lines);
+        match effect {
+            Effect::Unread => self.with_unread(),
+            Effect::Asked(agrees) => self.with_asked(agrees),
+            _ => self,
         }
     }
+}
+
+fn print_count(name: &[u8], count: u64) {
+    io::write_all(STDOUT_FILENO, name);
+    io::print_decimal(STDOUT_FILENO, count);
+}
+
+pub fn print_all(tally: Tally) {
+    if tally.first != 0 {
+        print_count(b"the first that fails is line ", tally.first);
+        io::write_all(STDOUT_FILENO, b"\n");
+    }
+    print_count(b"not read: ", tally.unread);
+    print_count(b"\nagree: ", tally.agreed);
+    print_count(b" of ", tally.asked);
+    io::write_all(STDOUT_FILENO, b"\n");
 }

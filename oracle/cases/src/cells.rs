@@ -41,20 +41,32 @@ pub const PATTERNS: [Pattern; 11] = [
 ];
 
 impl Cell {
+    pub const fn new([bits, border]: [u8; 2], threshold: u8, grid: Vec<u8>) -> Self {
+        Self {
+            bits,
+            border,
+            threshold,
+            grid,
+        }
+    }
+
     /// Bits and borders along one side.
-    pub fn side(bits: u8, border: u8) -> usize {
+    pub fn side([bits, border]: [u8; 2]) -> usize {
         usize::from(bits) + 2 * usize::from(border)
     }
 
-    pub fn of_pattern(
-        prng: &mut Prng,
-        [bits, border]: [u8; 2],
-        threshold: u8,
-        pattern: Pattern,
-    ) -> Self {
-        Self::painted([bits, border], threshold, |column, row| {
+    pub fn of_pattern(prng: &mut Prng, size: [u8; 2], threshold: u8, pattern: Pattern) -> Self {
+        Self::painted(size, threshold, |column, row| {
             pattern(prng, threshold, column, row)
         })
+    }
+
+    /// Threshold less grey, bit by bit.
+    pub fn differences(&self) -> impl Iterator<Item = i32> {
+        let [bits, border] = [self.bits, self.border].map(usize::from);
+        let rows = self.grid.chunks(bits + 2 * border).skip(border).take(bits);
+        let greys = rows.flat_map(move |row| &row[border..][..bits]);
+        greys.map(|&grey| i32::from(self.threshold) - i32::from(grey))
     }
 
     /// Any threshold, and greys that are random, half of the time near the threshold.
@@ -69,7 +81,7 @@ impl Cell {
         let threshold = 60 + prng.below(140) as u8;
         let inner = usize::from(border)..usize::from(border) + usize::from(bits);
         Self::painted([bits, border], threshold, |column, row| {
-            if prng.below(8) == 0 {
+            if prng.one_in(8) {
                 return near(prng, threshold, column, row);
             }
             let is_bit = inner.contains(&column) && inner.contains(&row);
@@ -85,28 +97,15 @@ impl Cell {
         })
     }
 
-    fn painted(
-        [bits, border]: [u8; 2],
-        threshold: u8,
-        mut grey: impl FnMut(usize, usize) -> u8,
-    ) -> Self {
-        let side = Self::side(bits, border);
-        let places = (0..side).flat_map(|row| (0..side).map(move |column| (column, row)));
-        Self {
-            bits,
-            border,
-            threshold,
-            grid: places.map(|(column, row)| grey(column, row)).collect(),
-        }
+    fn painted(size: [u8; 2], threshold: u8, mut grey: impl FnMut(usize, usize) -> u8) -> Self {
+        let side = Self::side(size);
+        let grid = (0..side * side).map(|place| grey(place % side, place / side));
+        Self::new(size, threshold, grid.collect())
     }
 }
 
 fn checker(column: usize, row: usize, even: u8, odd: u8) -> u8 {
-    if (column + row).is_multiple_of(2) {
-        even
-    } else {
-        odd
-    }
+    [even, odd][(column + row) % 2]
 }
 
 fn any_grey(prng: &mut Prng) -> u8 {

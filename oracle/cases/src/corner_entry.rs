@@ -8,10 +8,13 @@ use crate::corner_lists::CornerLists;
 use std::fmt::{self, Display, Formatter};
 
 pub use limits::{alignments, on_changed_boards, pairs_of_refusals, single_changes};
-pub use random::{full_boards, largest_board, random_inputs};
+pub use random::{full_board, largest_board, most_corners, random_input};
 
 /// Id, index in the input, board corner i and j, the bits of the target's x and y.
 pub const WORDS_OF_A_CORNER: usize = 6;
+
+/// Words of a list with a place for each corner of the largest board.
+pub const MOST_PLACES: usize = 31 * 31 * WORDS_OF_A_CORNER;
 
 /// Both numbers of a translation lie from minus this to this.
 pub const FARTHEST_TRANSLATION: i32 = 8192;
@@ -29,14 +32,23 @@ pub struct CornerInput {
 impl CornerInput {
     /// No corners, and a list with just the places that are asked for.
     pub fn new(board: BoardArguments, turn: u32, translation: [i32; 2]) -> Self {
-        let mut lists = CornerLists::of_points([]);
-        lists.places = words_needed(&board);
+        let lists = CornerLists {
+            places: words_needed(&board),
+            ..CornerLists::of_points([])
+        };
         Self {
             board,
             lists,
             turn,
             translation,
         }
+    }
+
+    /// Which asks the questions about a board: the list has places enough for every board that is accepted.
+    pub fn without_corners(board: BoardArguments) -> Self {
+        let mut input = Self::new(board, 0, [0, 0]);
+        input.lists.places = MOST_PLACES;
+        input
     }
 
     /// A further corner, with the words given.
@@ -73,12 +85,7 @@ pub const fn words_needed(board: &BoardArguments) -> usize {
 
 impl Display for CornerInput {
     fn fmt(&self, f: &mut Formatter) -> fmt::Result {
-        let Self {
-            board,
-            lists,
-            turn,
-            translation,
-        } = self;
-        write!(f, "turn {turn}, {translation:?}, {lists}, {board:?}")
+        write!(f, "turn {}, {:?}, ", self.turn, self.translation)?;
+        write!(f, "{}, {:?}", self.lists, self.board)
     }
 }

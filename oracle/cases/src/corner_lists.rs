@@ -1,19 +1,17 @@
 //! Corners and inliers, from which the cells entry makes marker cells.
 
-mod dense;
 pub(crate) mod limits;
+mod most;
 pub(crate) mod random;
 mod shapes;
-mod traps;
 
 use crate::prng::Prng;
 use std::fmt::{self, Display, Formatter};
 
-pub use dense::dense;
 pub use limits::{pairs_of_refusals, single_changes};
-pub use random::{large_grids, random_grids, random_lists};
-pub use shapes::shapes;
-pub use traps::{far, traps};
+pub use most::most_of_each;
+pub use random::{large_grid, random_grid, random_list};
+pub use shapes::{dense, far, shapes, traps};
 
 /// Grid points have both numbers from minus this to this.
 pub const FARTHEST: i32 = 4096;
@@ -42,13 +40,6 @@ pub struct CornerLists {
     pub inliers: Vec<usize>,
     /// How many words the list has that is lent for the cells.
     pub places: usize,
-}
-
-/// `number` is 0 for lists that are accepted, else that of the question answered with no; then `count` is 0.
-#[derive(Clone, Copy, Debug, PartialEq, Eq)]
-pub struct CellsAnswer {
-    pub number: u32,
-    pub count: u32,
 }
 
 impl CornerLists {
@@ -92,9 +83,7 @@ impl CornerLists {
     }
 
     pub fn shuffled(mut self, prng: &mut Prng) -> Self {
-        for i in (1..self.inliers.len()).rev() {
-            self.inliers.swap(i, prng.below(i as u64 + 1) as usize);
-        }
+        prng.shuffle(&mut self.inliers);
         self
     }
 }
@@ -110,20 +99,15 @@ pub fn rectangle(
 impl Display for CornerLists {
     /// Long lists only by their counts.
     fn fmt(&self, f: &mut Formatter) -> fmt::Result {
-        let Self {
-            scores,
-            grid,
-            inliers,
-            places,
-        } = self;
-        let [corners, words] = [scores.len(), grid.len()];
-        write!(
-            f,
-            "{corners} corners, {words} words, {} inliers, {places} places",
-            inliers.len()
-        )?;
-        if corners <= 40 && inliers.len() <= 80 {
-            write!(f, ", {scores:?}, {grid:?}, {inliers:?}")?;
+        let [corners, inliers] = [self.count(), self.inliers.len()];
+        write!(f, "{corners} corners, {} words, ", self.grid.len())?;
+        write!(f, "{inliers} inliers, {} places", self.places)?;
+        if corners <= 40 && inliers <= 80 {
+            write!(
+                f,
+                ", {:?}, {:?}, {:?}",
+                self.scores, self.grid, self.inliers
+            )?;
         }
         Ok(())
     }

@@ -2,44 +2,40 @@
 
 use std::ops::RangeInclusive;
 
-/// Rows or columns of the boards that both sides accept.
-pub const SIZES: RangeInclusive<u8> = 2..=32;
+/// Rows and columns of every board that both sides accept.
+pub fn sizes() -> impl Iterator<Item = [u8; 2]> {
+    (2..=32).flat_map(|rows| (2..=32).map(move |cols| [rows, cols]))
+}
 
 /// Numbers that look like small ones when their upper bytes are dropped, and the ends of the range.
-const FAR: [i32; 17] = [
-    i32::MIN,
-    i32::MIN + 1,
-    -65_536,
-    -65_535,
-    -256,
-    -255,
-    255,
-    256,
-    257,
-    258,
-    65_535,
-    65_536,
-    65_537,
-    65_538,
-    1 << 30,
-    i32::MAX - 1,
-    i32::MAX,
+const FAR: [RangeInclusive<i32>; 7] = [
+    i32::MIN..=i32::MIN + 1,
+    -65_536..=-65_535,
+    -256..=-255,
+    255..=258,
+    65_535..=65_538,
+    1 << 30..=1 << 30,
+    i32::MAX - 1..=i32::MAX,
 ];
 
 /// An id with one of these added looks like itself when a part of it is dropped.
 const SHIFTS: [u32; 3] = [0, 65_536, 1 << 31];
 
-/// Columns or rows to ask about, on a board that has `size` of them.
-pub fn coordinates(size: u8) -> Vec<i32> {
-    (-2..=i32::from(size) + 2).chain(FAR).collect()
+/// Columns and rows to ask about, on a board that has so many of them.
+pub fn coordinates(rows: u8, cols: u8) -> impl Iterator<Item = [i32; 2]> {
+    let along = |size: u8| (-2..=i32::from(size) + 2).chain(FAR.into_iter().flatten());
+    along(rows).flat_map(move |j| along(cols).map(move |i| [i, j]))
 }
 
 /// Every id below `count`, the first few beyond it, all these shifted far off, and the ends of the ranges.
 pub fn ids(count: u32) -> Vec<u32> {
-    let shifted = SHIFTS
-        .into_iter()
-        .flat_map(|shift| (0..count + 3).map(move |id| shift + id));
-    shifted
-        .chain([i32::MAX as u32, u32::MAX - 1, u32::MAX])
-        .collect()
+    let shifted = SHIFTS.map(|shift| shift..shift + count + 3);
+    let ends = [i32::MAX as u32, u32::MAX - 1, u32::MAX];
+    shifted.into_iter().flatten().chain(ends).collect()
+}
+
+/// The squares with markers, by id: those whose column and row make an odd sum, row by row.
+pub fn marker_squares(rows: u32, cols: u32) -> impl Iterator<Item = [u32; 2]> {
+    let squares = (0..rows).flat_map(move |j| (0..cols).map(move |i| [i, j]));
+    squares.filter(|[i, j]| (i + j) % 2 == 1)
 }

@@ -1,5 +1,6 @@
 //! What both sides are asked: fixed lists of telling values, and random ones from a fixed seed.
 
+pub mod answer;
 pub mod boards;
 pub mod cells;
 pub mod codes;

@@ -5,11 +5,13 @@ mod many;
 mod random;
 
 use crate::boards::BoardArguments;
+use crate::layout;
 use std::fmt::{self, Display, Formatter};
 
 pub use limits::{on_changed_boards, pairs_of_refusals, single_changes};
-pub use many::{Spread, many_links, of_most_links};
-pub use random::{example, random_inputs, whole_boards};
+pub use many::{ALL_MARKERS, ANY_CORNER, EQUAL_KEYS, EQUAL_KEYS_OF_ONE_MARKER, ONE_MARKER, Spread};
+pub use many::{many_links, most_of_one_link, of_most_links};
+pub use random::{example, random_input, whole_board};
 
 /// Marker, kind, reported corner, the expected four, how many are missing, the missing ones.
 pub const WORDS_OF_A_VIOLATION: usize = 12;
@@ -51,11 +53,9 @@ impl LinkInput {
     }
 }
 
-/// The squares with markers, by id: those whose column and row make an odd sum, row by row.
+/// The squares with markers, by id.
 pub fn marker_squares(board: &BoardArguments) -> Vec<[u32; 2]> {
-    let BoardArguments { rows, cols, .. } = *board;
-    let squares = (0..rows).flat_map(|j| (0..cols).map(move |i| [i, j]));
-    squares.filter(|[i, j]| (i + j) % 2 == 1).collect()
+    layout::marker_squares(board.rows, board.cols).collect()
 }
 
 /// The ids of the corners top left, top right, bottom right, bottom left of a square, which is not on the rim.
@@ -69,20 +69,15 @@ pub fn four_of_square(board: &BoardArguments, [i, j]: [u32; 2]) -> Option<[u32; 
 impl Display for LinkInput {
     /// Long lists only by their counts.
     fn fmt(&self, f: &mut Formatter) -> fmt::Result {
-        let Self {
-            board,
-            words,
-            all_four,
-            places,
-        } = self;
-        let mode = if *all_four { "all four" } else { "subset" };
+        let mode = if self.all_four { "all four" } else { "subset" };
+        let count = self.words.len();
         write!(
             f,
-            "{mode}, {} words, {places} places, {board:?}",
-            words.len()
+            "{mode}, {count} words, {} places, {:?}",
+            self.places, self.board
         )?;
-        if words.len() <= 80 {
-            write!(f, ", {words:?}")?;
+        if count <= 80 {
+            write!(f, ", {:?}", self.words)?;
         }
         Ok(())
     }

@@ -20,7 +20,36 @@ impl Prng {
         self.draw() % n
     }
 
+    pub const fn byte(&mut self) -> u8 {
+        self.draw() as u8
+    }
+
+    /// True once in `n` times.
+    pub const fn one_in(&mut self, n: u64) -> bool {
+        self.below(n) == 0
+    }
+
+    /// A place in a list of this length.
+    pub const fn place(&mut self, length: usize) -> usize {
+        self.below(length as u64) as usize
+    }
+
     pub fn pick<T: Copy>(&mut self, list: &[T]) -> T {
-        list[self.below(list.len() as u64) as usize]
+        list[self.place(list.len())]
+    }
+
+    /// So many, each made anew.
+    pub fn many<T>(&mut self, count: usize, mut one: impl FnMut(&mut Self) -> T) -> Vec<T> {
+        (0..count).map(|_| one(self)).collect()
+    }
+
+    pub fn two<T>(&mut self, mut one: impl FnMut(&mut Self) -> T) -> [T; 2] {
+        [(); 2].map(|()| one(self))
+    }
+
+    pub fn shuffle<T>(&mut self, list: &mut [T]) {
+        for i in (1..list.len()).rev() {
+            list.swap(i, self.place(i + 1));
+        }
     }
 }

@@ -48,7 +48,6 @@ pub fn worst(shot: &Shot) -> Worst {
 }
 
 struct Exact<'a> {
-    shot: &'a Shot,
     model: &'a Model<'a>,
     weights: Vec<Wide>,
     null_score: Wide,
@@ -58,13 +57,10 @@ struct Exact<'a> {
 
 impl<'a> Exact<'a> {
     fn new(shot: &'a Shot, model: &'a Model<'a>) -> Self {
-        let cells = shot.cells.iter();
+        let weights = (0..shot.cells.len()).map(|cell| Wide::of_float(model.weight(cell)));
         Self {
-            shot,
             model,
-            weights: cells
-                .map(|cell| Wide::of_float(model.weight(cell)))
-                .collect(),
+            weights: weights.collect(),
             null_score: Wide::of_float(model.null_score()),
             evidence: HashMap::new(),
         }
@@ -85,8 +81,7 @@ impl<'a> Exact<'a> {
 
     fn cell(&mut self, cell: usize, id: usize, turn: u8) -> Wide {
         *self.evidence.entry((cell, id, turn)).or_insert_with(|| {
-            let entries = self.model.entries(&self.shot.cells[cell], id, turn);
-            let entries = entries.into_iter().map(Wide::of_float);
+            let entries = self.model.entries(cell, id, turn).map(Wide::of_float);
             entries.fold(Wide::ZERO, |sum, entry| sum + entry) - self.null_score
         })
     }

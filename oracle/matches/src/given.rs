@@ -22,69 +22,42 @@ pub struct Given {
 pub struct Kind {
     pub name: &'static str,
     pub count: usize,
-    make: fn(&mut Prng) -> Given,
+    make: Make,
 }
 
 pub const KINDS: [Kind; 14] = [
-    kind("true placements", 18_000, |prng| {
-        let shot = numbers::shown(prng);
-        with_places(prng, shot)
-    }),
-    kind("ties", 15_000, |prng| {
-        let shot = ties::shot(prng);
-        with_places(prng, shot)
-    }),
-    kind("tiny boards", 12_000, |prng| {
-        let shot = ties::tiny_board(prng);
-        with_places(prng, shot)
-    }),
-    kind("weights", 10_000, |prng| {
-        let shot = numbers::weights(prng);
-        with_places(prng, shot)
-    }),
-    kind("one cell, rim, just fitting, far off", 12_000, |prng| {
-        let shot = reach::shot(prng);
-        with_places(prng, shot)
-    }),
-    kind("about 256 cells", 300, |prng| {
-        let shot = reach::many_cells(prng);
-        with_places(prng, shot)
-    }),
-    kind("tables by the formula", 8_000, |prng| {
-        let shot = numbers::table_by_formula(prng);
-        with_places(prng, shot)
-    }),
-    kind("any tables", 8_000, |prng| {
-        let shot = numbers::any_table(prng);
-        with_places(prng, shot)
-    }),
-    kind("settings", 10_000, |prng| {
-        let shot = numbers::any_settings(prng);
-        with_places(prng, shot)
-    }),
-    kind("minimum at the margin", 4_000, |prng| {
-        let shot = numbers::minimum_at_the_margin(prng);
-        with_places(prng, shot)
-    }),
-    kind("odd floats", 6_000, |prng| {
-        let shot = numbers::odd_floats(prng);
-        with_places(prng, shot)
-    }),
-    kind("one fault or two", 12_000, faults::given),
-    kind("lent lists", 4_000, |prng| {
-        let shot = numbers::shown(prng);
-        let needed = shot.cells.len() * MARKER_WORDS;
-        let near = [needed - 1, needed, needed, needed + 1, needed + 100];
-        let any = [0, 1, MARKER_WORDS, needed / 2];
-        let places = prng.pick(&[&near[..], &near[..], &any[..]].concat());
-        let record = write(&shot).bytes;
-        Given { record, places }
-    }),
-    kind("damaged records", 8_000, damaged),
+    shots("true placements", 18_000, numbers::shown),
+    shots("ties", 15_000, ties::shot),
+    shots("tiny boards", 12_000, ties::tiny_board),
+    shots("weights", 10_000, numbers::weights),
+    shots("one cell, rim, just fitting, far off", 12_000, reach::shot),
+    shots("about 256 cells", 300, reach::many_cells),
+    shots("tables by the formula", 8_000, numbers::table_by_formula),
+    shots("any tables", 8_000, numbers::any_table),
+    shots("settings", 10_000, numbers::any_settings),
+    shots(
+        "minimum at the margin",
+        4_000,
+        numbers::minimum_at_the_margin,
+    ),
+    shots("odd floats", 6_000, numbers::odd_floats),
+    kind("one fault or two", 12_000, Make::Given(faults::given)),
+    kind("lent lists", 4_000, Make::Given(with_any_places)),
+    kind("damaged records", 8_000, Make::Given(damaged)),
 ];
 
-const fn kind(name: &'static str, count: usize, make: fn(&mut Prng) -> Given) -> Kind {
+/// A shot gets a list with a place for each cell.
+enum Make {
+    Shot(fn(&mut Prng) -> Shot),
+    Given(fn(&mut Prng) -> Given),
+}
+
+const fn kind(name: &'static str, count: usize, make: Make) -> Kind {
     Kind { name, count, make }
+}
+
+const fn shots(name: &'static str, count: usize, make: fn(&mut Prng) -> Shot) -> Kind {
+    kind(name, count, Make::Shot(make))
 }
 
 impl Kind {
@@ -97,7 +70,13 @@ impl Kind {
         let name = self.name.bytes().map(u64::from);
         let seed = name.fold(7u64, |seed, byte| seed.wrapping_mul(1_000_003) ^ byte);
         let mut prng = Prng::new(seed);
-        (0..count).map(move |_| (self.make)(&mut prng))
+        (0..count).map(move |_| match self.make {
+            Make::Shot(make) => {
+                let shot = make(&mut prng);
+                with_places(&mut prng, shot)
+            }
+            Make::Given(make) => make(&mut prng),
+        })
     }
 }
 
@@ -105,9 +84,8 @@ impl Kind {
 /// their own get one that no margin is below, since a match tells more than a refusal.
 fn with_places(prng: &mut Prng, mut shot: Shot) -> Given {
     let more = prng.pick(&[0, 0, 0, 1, 17, MARKER_WORDS, 50]);
-    if shot.map & settings::MINIMUM_MARGIN == 0 && prng.below(2) == 0 {
-        shot.map |= settings::MINIMUM_MARGIN;
-        shot.minimum_margin = prng.pick(&[0.0f32, -1.0]).to_bits();
+    if shot.map & settings::MINIMUM_MARGIN == 0 && prng.one_in(2) {
+        shot.set_minimum_margin(prng.pick(&[0.0, -1.0]));
     }
     Given {
         record: write(&shot).bytes,
@@ -115,21 +93,27 @@ fn with_places(prng: &mut Prng, mut shot: Shot) -> Given {
     }
 }
 
+/// A list around the length that is needed, or of any other.
+fn with_any_places(prng: &mut Prng) -> Given {
+    let shot = numbers::shown(prng);
+    let needed = shot.cells.len() * MARKER_WORDS;
+    let near = [needed - 1, needed, needed, needed + 1, needed + 100];
+    let any = [0, 1, MARKER_WORDS, needed / 2];
+    let places = prng.pick(&[&near[..], &near[..], &any[..]].concat());
+    let record = write(&shot).bytes;
+    Given { record, places }
+}
+
 fn damaged(prng: &mut Prng) -> Given {
     let shot = numbers::shown(prng);
     let written = write(&shot);
-    let one_of = |prng: &mut Prng, records: Vec<Vec<u8>>| {
-        let place = prng.below(records.len() as u64) as usize;
-        records[place].clone()
-    };
+    let one_of =
+        |prng: &mut Prng, mut records: Vec<Vec<u8>>| records.swap_remove(prng.place(records.len()));
     let record = match prng.below(8) {
         0 => one_of(prng, damage::spare_bits(&written, shot.cells.len())),
         1 => one_of(prng, damage::counts(&written)),
         2 => one_of(prng, damage::one_byte_more(&written.bytes).to_vec()),
-        3 | 4 => {
-            let length = prng.below(written.bytes.len() as u64) as usize;
-            written.bytes[..length].to_vec()
-        }
+        3 | 4 => written.bytes[..prng.place(written.bytes.len())].to_vec(),
         5 => damage::random_bytes(prng),
         _ => damage::with_bytes_changed(prng, &written.bytes),
     };

@@ -11,8 +11,9 @@ mod text;
 mod wide;
 
 pub use answer::{
-    ANSWER_WORDS, Alignment, Answer, Hypothesis, MARKER_WORDS, MOST_PLACES, Marker, Placed,
+    ANSWER_WORDS, Alignment, Hypothesis, MARKER_WORDS, MOST_PLACES, Marker, Matched, Placed, told,
 };
 pub use questions::{by_rust_and_model, match_record, match_shot};
 pub use rust::{Matching, Samples};
+pub use text::text;
 pub use wide::Wide;

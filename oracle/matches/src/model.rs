@@ -1,8 +1,11 @@
 //! The match by the rules of document 01 alone, for tables that no formula gives: naive, sentence by sentence, without the
 //! Rust. Tests hold it to the Rust where there is a formula.
 
-use crate::answer::{Alignment, Answer, Hypothesis, Marker, Placed};
-use records::{Cell, Shot};
+use crate::answer::{Alignment, Hypothesis, Marker, Matched, Placed, below_minimum};
+use cases::answer::Answer;
+use cases::cells::Cell as Grid;
+use cases::layout::marker_squares;
+use records::{Cell, Shot, TABLE_LENGTH};
 
 /// Its bits are 3F317218.
 const LN_2: f32 = f32::from_bits(0x3F31_7218);
@@ -11,28 +14,25 @@ const LN_2: f32 = f32::from_bits(0x3F31_7218);
 const LEAST_CAPACITY: f32 = 1.0 / 8_388_608.0;
 
 /// A shot that the questions 1 to 10 and 12 to 14 have let pass.
-pub fn match_shot(shot: &Shot) -> Answer {
+pub fn match_shot(shot: &Shot) -> Matched {
     if shot.cells.is_empty() {
-        return Answer::refused(11);
+        return Err(Answer::refused(11));
     }
     let model = Model::new(shot);
     let all = model.hypotheses();
     let Some(best) = first_greatest(&all, None) else {
-        return Answer::refused(15);
+        return Err(Answer::refused(15));
     };
     let runner_up = first_greatest(&all, Some(best));
     let margin = model.margin(&all[best], runner_up.map(|place| &all[place]));
     if margin < f32::from_bits(shot.minimum_margin) {
-        return Answer::Refused {
-            number: 16,
-            values: [margin.to_bits(), 0],
-        };
+        return Err(below_minimum(margin));
     }
     let markers = model.markers(all[best].alignment);
     if markers.is_empty() {
-        return Answer::refused(17);
+        return Err(Answer::refused(17));
     }
-    Answer::Placed(Placed {
+    Ok(Placed {
         best: all[best],
         runner_up: runner_up.map(|place| all[place]),
         margin,
@@ -44,17 +44,11 @@ pub fn match_shot(shot: &Shot) -> Answer {
 
 /// The place of the first of the greatest, but for one that does not count. None is below every number.
 fn first_greatest(all: &[Hypothesis], without: Option<usize>) -> Option<usize> {
-    let is_above = |a: Option<f32>, b: Option<f32>| match (a, b) {
-        (Some(a), Some(b)) => a > b,
-        (a, b) => a.is_some() && b.is_none(),
-    };
-    let mut found: Option<usize> = None;
-    for place in (0..all.len()).filter(|&place| Some(place) != without) {
-        if found.is_none_or(|best| is_above(all[place].evidence, all[best].evidence)) {
-            found = Some(place);
-        }
-    }
-    found
+    let places = (0..all.len()).filter(|&place| Some(place) != without);
+    places.reduce(|best, place| {
+        let is_above = all[place].evidence > all[best].evidence;
+        if is_above { place } else { best }
+    })
 }
 
 pub fn turned_point(turn: u8, [u, v]: [i32; 2]) -> [i32; 2] {
@@ -95,36 +89,36 @@ fn corner_alignment(cells: Alignment) -> Alignment {
 
 pub struct Model<'a> {
     shot: &'a Shot,
+    table: [f32; TABLE_LENGTH],
     /// The number of the marker in each square, row by row.
     markers: Vec<Option<usize>>,
+    /// The samples of each cell.
+    grids: Vec<Option<Grid>>,
 }
 
 impl<'a> Model<'a> {
     pub fn new(shot: &'a Shot) -> Self {
-        let mut markers = Vec::new();
-        let mut next = 0;
-        for j in 0..shot.rows {
-            for i in 0..shot.cols {
-                let holds = (i + j) % 2 == 1;
-                markers.push(holds.then_some(next));
-                next += usize::from(holds);
-            }
+        let [rows, cols] = [shot.rows, shot.cols].map(u32::from);
+        let mut markers = vec![None; (rows * cols) as usize];
+        for (id, [i, j]) in marker_squares(rows, cols).enumerate() {
+            markers[(j * cols + i) as usize] = Some(id);
         }
-        Self { shot, markers }
+        let samples = shot.cells.iter().map(|cell| cell.sample.as_ref());
+        Self {
+            shot,
+            table: shot.table.map(f32::from_bits),
+            markers,
+            grids: samples.map(|sample| Some(shot.grid(sample?))).collect(),
+        }
     }
 
-    fn marker_at(&self, [i, j]: [i32; 2]) -> Option<usize> {
-        let place = j * i32::from(self.shot.cols) + i;
-        self.markers[place as usize]
-    }
-
-    fn is_on_board(&self, [i, j]: [i32; 2]) -> bool {
-        (0..i32::from(self.shot.cols)).contains(&i) && (0..i32::from(self.shot.rows)).contains(&j)
-    }
-
-    fn square(&self, cell: &Cell, at: Alignment) -> [i32; 2] {
+    /// The place of the square where a cell lies, row by row, if it is on the board.
+    fn square(&self, cell: &Cell, at: Alignment) -> Option<usize> {
         let [u, v] = turned_point(at.turn, [cell.u.into(), cell.v.into()]);
-        [u + at.tx, v + at.ty]
+        let [i, j] = [u + at.tx, v + at.ty];
+        let [cols, rows] = [self.shot.cols, self.shot.rows].map(i32::from);
+        let is_on_board = (0..cols).contains(&i) && (0..rows).contains(&j);
+        is_on_board.then_some((j * cols + i) as usize)
     }
 
     /// For each turn, every translation that puts all cells on the board, tx outer, ty inner, rising. Only those that put
@@ -138,7 +132,7 @@ impl<'a> Model<'a> {
                 for ty in -v..i32::from(self.shot.rows) - v {
                     let at = Alignment { turn, tx, ty };
                     let mut cells = self.shot.cells.iter();
-                    if cells.all(|cell| self.is_on_board(self.square(cell, at))) {
+                    if cells.all(|cell| self.square(cell, at).is_some()) {
                         alignments.push(at);
                     }
                 }
@@ -153,15 +147,11 @@ impl<'a> Model<'a> {
     }
 
     fn hypothesis(&self, at: Alignment) -> Hypothesis {
-        let mut sum = None;
-        for (cell, id) in self.contributing(at) {
-            let evidence = self.evidence(&self.shot.cells[cell], id, at.turn);
-            let weighted = self.weight(&self.shot.cells[cell]) * evidence;
-            sum = Some(sum.unwrap_or(0.0) + weighted);
-        }
+        let weighted = |(cell, id)| self.weight(cell) * self.evidence(cell, id, at.turn);
+        let all = self.contributing(at).into_iter().map(weighted);
         Hypothesis {
             alignment: at,
-            evidence: sum,
+            evidence: all.fold(None, |sum, part| Some(sum.unwrap_or(0.0) + part)),
         }
     }
 
@@ -169,14 +159,14 @@ impl<'a> Model<'a> {
     pub fn contributing(&self, at: Alignment) -> Vec<(usize, usize)> {
         let cells = self.shot.cells.iter().enumerate();
         let expected = cells.filter_map(|(place, cell)| {
-            let id = self.marker_at(self.square(cell, at))?;
-            (self.weight(cell) > 0.0).then_some((place, id))
+            let id = self.markers[self.square(cell, at)?]?;
+            (self.weight(place) > 0.0).then_some((place, id))
         });
         expected.collect()
     }
 
-    pub fn weight(&self, cell: &Cell) -> f32 {
-        let Some(sample) = &cell.sample else {
+    pub fn weight(&self, cell: usize) -> f32 {
+        let Some(sample) = &self.shot.cells[cell].sample else {
             return 0.0;
         };
         let threshold = f32::from_bits(self.shot.border_threshold);
@@ -187,24 +177,21 @@ impl<'a> Model<'a> {
         if ratio > 1.0 { 1.0 } else { ratio }
     }
 
-    /// The table entries that the score of a sampled cell adds, in their order.
-    pub fn entries(&self, cell: &Cell, id: usize, turn: u8) -> Vec<f32> {
-        let sample = cell.sample.as_ref().expect("a sampled cell");
-        let [bits, border] = [self.shot.bits, self.shot.border].map(u32::from);
-        let code = turned_code(self.shot.codes[id], bits, turn);
-        let side = bits + 2 * border;
-        let entry = |k: u32| {
-            let [column, row] = [border + k % bits, border + k / bits];
-            let grey = sample.grid[(row * side + column) as usize];
-            let d = i32::from(sample.threshold) - i32::from(grey);
-            let d = if code >> k & 1 == 1 { d } else { -d };
-            f32::from_bits(self.shot.table[(d + 255) as usize])
-        };
-        (0..bits * bits).map(entry).collect()
+    fn grid(&self, cell: usize) -> &Grid {
+        self.grids[cell].as_ref().expect("a sampled cell")
     }
 
-    fn score(&self, cell: &Cell, id: usize, turn: u8) -> f32 {
-        let entries = self.entries(cell, id, turn).into_iter();
+    fn turned_code(&self, id: usize, turn: u8) -> u64 {
+        turned_code(self.shot.codes[id], self.shot.bits.into(), turn)
+    }
+
+    /// The table entries that the score of a sampled cell adds, in their order.
+    pub fn entries(&self, cell: usize, id: usize, turn: u8) -> impl Iterator<Item = f32> {
+        theirs::entries(&self.table, self.grid(cell), self.turned_code(id, turn))
+    }
+
+    fn score(&self, cell: usize, id: usize, turn: u8) -> f32 {
+        let entries = self.entries(cell, id, turn);
         entries.fold(0.0, |sum, entry| sum + entry)
     }
 
@@ -216,14 +203,13 @@ impl<'a> Model<'a> {
         self.bit_count() * -LN_2
     }
 
-    fn evidence(&self, cell: &Cell, id: usize, turn: u8) -> f32 {
+    fn evidence(&self, cell: usize, id: usize, turn: u8) -> f32 {
         self.score(cell, id, turn) - self.null_score()
     }
 
     fn capacity(&self, at: Alignment) -> f32 {
         let contributing = self.contributing(at).into_iter();
-        let weighted =
-            contributing.map(|(cell, _)| self.weight(&self.shot.cells[cell]) * -self.null_score());
+        let weighted = contributing.map(|(cell, _)| self.weight(cell) * -self.null_score());
         weighted.fold(0.0, |sum, capacity| sum + capacity)
     }
 
@@ -234,19 +220,14 @@ impl<'a> Model<'a> {
         let Some(next) = runner_up.and_then(|next| next.evidence) else {
             return 1.0;
         };
-        let capacity = self.capacity(best.alignment);
-        let capacity = if capacity > LEAST_CAPACITY {
-            capacity
-        } else {
-            LEAST_CAPACITY
-        };
+        let capacity = self.capacity(best.alignment).max(LEAST_CAPACITY);
         (evidence - next) / capacity
     }
 
     fn markers(&self, at: Alignment) -> Vec<Marker> {
-        let contributing = self.contributing(at).into_iter();
-        let emitted = contributing
-            .filter(|&(cell, id)| self.evidence(&self.shot.cells[cell], id, at.turn) > 0.0);
+        let mut emitted = self.contributing(at);
+        emitted.retain(|&(cell, id)| self.evidence(cell, id, at.turn) > 0.0);
+        let emitted = emitted.into_iter();
         emitted
             .map(|(cell, id)| self.marker(cell, id, at.turn))
             .collect()
@@ -254,10 +235,11 @@ impl<'a> Model<'a> {
 
     fn marker(&self, place: usize, id: usize, turn: u8) -> Marker {
         let cell = &self.shot.cells[place];
-        let code = self.read_code(cell);
-        let expected = turned_code(self.shot.codes[id], self.shot.bits.into(), turn);
         let [u, v] = [cell.u, cell.v].map(i32::from);
-        let sample = cell.sample.as_ref().expect("a sampled cell");
+        // A bit is set where the grey is below the threshold.
+        let read = (0..).zip(self.grid(place).differences());
+        let code = read.fold(0, |code, (k, d)| code | u64::from(d > 0) << k);
+        let fraction = cell.sample.as_ref().map_or(0, |sample| sample.fraction);
         Marker {
             cell: place,
             id: id as u32,
@@ -268,24 +250,12 @@ impl<'a> Model<'a> {
                 _ => [u, v + 1],
             },
             turn,
-            differing: (code ^ expected).count_ones(),
+            differing: (code ^ self.turned_code(id, turn)).count_ones(),
             code,
-            quotient: self.score(cell, id, turn) / self.bit_count(),
-            fraction: f32::from_bits(sample.fraction),
+            quotient: self.score(place, id, turn) / self.bit_count(),
+            fraction: f32::from_bits(fraction),
             corners: self.rect_corners([u, v]),
         }
-    }
-
-    /// A bit is set where the grey is below the threshold.
-    fn read_code(&self, cell: &Cell) -> u64 {
-        let sample = cell.sample.as_ref().expect("a sampled cell");
-        let [bits, border] = [self.shot.bits, self.shot.border].map(usize::from);
-        let side = bits + 2 * border;
-        let is_set = |k: &usize| {
-            sample.grid[(border + k / bits) * side + border + k % bits] < sample.threshold
-        };
-        let set = (0..bits * bits).filter(is_set);
-        set.fold(0, |code, k| code | 1 << k)
     }
 
     fn rect_corners(&self, point: [i32; 2]) -> [[f32; 2]; 4] {

@@ -1,85 +1,65 @@
 //! The questions of the match in their order. Those that the Rust asks it answers itself: 1 to 5 and 7 when a board is
 //! made, 11 and 15 to 17 in the matcher. The rule for the added ones stands here and in `theirs`.
 
-use crate::answer::{Answer, MARKER_WORDS};
+use crate::answer::{MARKER_WORDS, Matched};
 use crate::{model, rust};
-use cases::boards::{BoardAnswer, BoardArguments};
+use calib_targets_charuco::CharucoBoard;
+use cases::answer::Answer;
+use cases::boards::BoardArguments;
 use cases::corner_lists::FARTHEST;
 use cases::tables::SLOPES_AND_FLOORS;
 use records::{REFUSED, Shot, TABLE_LENGTH};
 use std::collections::HashSet;
 use std::sync::{LazyLock, Mutex};
-use theirs::{board_new, is_table, likelihood_table};
+use theirs::{accepted_board, is_table, likelihood_table};
 
 const MOST_CELLS: usize = 256;
 
-/// The answer that is expected for a record, and the lent list as it is then.
-pub fn match_record(record: &[u8], lent: &mut [u32]) -> Answer {
-    let answer = records::read(record).map_or(Answer::refused(REFUSED as u32), |read| {
-        match_shot(&read.shot, lent.len())
-    });
-    answer.write_markers(lent);
-    answer
+/// What is expected for a record and a lent list of so many words.
+pub fn match_record(record: &[u8], places: usize) -> Matched {
+    let read = records::read(record).ok_or(Answer::refused(REFUSED))?;
+    match_shot(&read.shot, places)
 }
 
-/// For a lent list of so many words.
-pub fn match_shot(shot: &Shot, places: usize) -> Answer {
-    if let Some(refused) = asked_first(shot, places) {
-        return refused;
-    }
+pub fn match_shot(shot: &Shot, places: usize) -> Matched {
+    asked_first(shot, places)?;
     match slope_and_floor(&shot.table) {
-        Some(slope_and_floor) => rust::Matching::new(shot, slope_and_floor).answer(),
+        Some(slope_and_floor) => rust::Matching::new(shot, slope_and_floor).matched(),
         None => model::match_shot(shot),
     }
 }
 
-/// The answers of the Rust and of the rules alone, for a shot that comes so far and has a table by the formula.
-pub fn by_rust_and_model(shot: &Shot) -> Option<[Answer; 2]> {
-    if asked_first(shot, usize::MAX).is_some() {
-        return None;
-    }
+/// What the Rust and the rules alone say, for a shot that comes so far and has a table by the formula.
+pub fn by_rust_and_model(shot: &Shot) -> Option<[Matched; 2]> {
+    asked_first(shot, usize::MAX).ok()?;
     let slope_and_floor = slope_and_floor(&shot.table)?;
-    let by_rust = rust::Matching::new(shot, slope_and_floor).answer();
+    let by_rust = rust::Matching::new(shot, slope_and_floor).matched();
     Some([by_rust, model::match_shot(shot)])
 }
 
 /// The questions 1 to 10 and 12 to 14. Where there is no cell, 12 to 14 have nothing to refuse, so that the Rust may
 /// answer 11 after them.
-fn asked_first(shot: &Shot, places: usize) -> Option<Answer> {
-    let board = board_new(&board_arguments(shot), kept_codes(&shot.codes));
-    if board != BoardAnswer::ACCEPTED {
-        return Some(Answer::Refused {
-            number: board.number,
-            values: [board.needed, board.available],
-        });
-    }
+fn asked_first(shot: &Shot, places: usize) -> Result<(), Answer> {
+    board(shot)?;
     let settings = [
         shot.minimum_margin,
         shot.border_threshold,
         shot.px_per_square,
     ];
-    let number = if !settings
-        .iter()
-        .all(|&bits| f32::from_bits(bits).is_finite())
-    {
-        9
-    } else if !is_table(&shot.table.map(f32::from_bits)) {
-        10
-    } else if !cells_in_range(shot) {
-        12
-    } else if !samples_in_range(shot) {
-        13
-    } else if places < shot.cells.len() * MARKER_WORDS {
-        14
-    } else {
-        return None;
-    };
-    Some(Answer::refused(number))
+    let questions = [
+        (9, settings.iter().all(|&x| f32::from_bits(x).is_finite())),
+        (10, is_table(&shot.table.map(f32::from_bits))),
+        (12, cells_in_range(shot)),
+        (13, samples_in_range(shot)),
+        (14, places >= shot.cells.len() * MARKER_WORDS),
+    ];
+    let refused = questions.iter().find(|(_, passed)| !passed);
+    refused.map_or(Ok(()), |&(number, _)| Err(Answer::refused(number)))
 }
 
-/// The codes are given apart.
-pub fn board_arguments(shot: &Shot) -> BoardArguments {
-    BoardArguments {
+/// The board of a shot, or the refusal of one of its questions.
+pub fn board(shot: &Shot) -> Result<CharucoBoard, Answer> {
+    let arguments = BoardArguments {
         rows: shot.rows.into(),
         cols: shot.cols.into(),
         bits: shot.bits.into(),
@@ -89,25 +69,21 @@ pub fn board_arguments(shot: &Shot) -> BoardArguments {
         code_count: shot.codes.len(),
         place: 0,
         value: 0,
-    }
+    };
+    accepted_board(&arguments, kept_codes(&shot.codes))
 }
 
 /// Question 12.
 fn cells_in_range(shot: &Shot) -> bool {
-    let range = -FARTHEST..=FARTHEST;
-    shot.cells.len() <= MOST_CELLS
-        && shot
-            .cells
-            .iter()
-            .all(|cell| [cell.u, cell.v].iter().all(|&x| range.contains(&x.into())))
+    let in_range = |x: i16| (-FARTHEST..=FARTHEST).contains(&x.into());
+    let mut cells = shot.cells.iter();
+    shot.cells.len() <= MOST_CELLS && cells.all(|cell| in_range(cell.u) && in_range(cell.v))
 }
 
 /// Question 13. In a record that is read every grid is whole.
 fn samples_in_range(shot: &Shot) -> bool {
-    let samples = shot.cells.iter().filter_map(|cell| cell.sample.as_ref());
-    samples
-        .map(|sample| f32::from_bits(sample.fraction))
-        .all(|fraction| (0.0..=1.0).contains(&fraction))
+    let mut fractions = shot.samples().map(|sample| f32::from_bits(sample.fraction));
+    fractions.all(|fraction| (0.0..=1.0).contains(&fraction))
 }
 
 /// By which the formula gives the table, if it is one of the known.
@@ -120,19 +96,16 @@ type Formula = ([f32; 2], [u32; TABLE_LENGTH]);
 
 /// Every known slope and floor that are finite and give a table that question 10 lets pass.
 pub static FORMULAS: LazyLock<Vec<Formula>> = LazyLock::new(|| {
-    let finite = |pair: &&[f32; 2]| pair.iter().all(|x| x.is_finite());
-    let tables = SLOPES_AND_FLOORS.iter().filter(finite).map(|&pair| {
-        let table = likelihood_table(pair);
-        (pair, table)
-    });
-    tables
-        .filter(|(_, table)| is_table(table))
-        .map(|(pair, table)| (pair, table.map(f32::to_bits)))
+    let finite = |pair: &[f32; 2]| pair.iter().all(|x| x.is_finite());
+    let pairs = SLOPES_AND_FLOORS.into_iter().filter(finite);
+    let tables = pairs.map(|pair| (pair, likelihood_table(pair)));
+    let good = tables.filter(|(_, table)| is_table(table));
+    good.map(|(pair, table)| (pair, table.map(f32::to_bits)))
         .collect()
 });
 
 /// Codes that live as long as the program, which the dictionary of the Rust asks for. Each list is kept once.
-pub fn kept_codes(codes: &[u64]) -> &'static [u64] {
+fn kept_codes(codes: &[u64]) -> &'static [u64] {
     static KEPT: LazyLock<Mutex<HashSet<&'static [u64]>>> = LazyLock::new(Mutex::default);
     let mut kept = KEPT.lock().expect("no other holder has panicked");
     if let Some(known) = kept.get(codes) {

@@ -1,16 +1,17 @@
 //! A shot in the shapes of the upstream Rust, and the answer of its matcher.
 
-use crate::answer::{Alignment, Answer, Hypothesis, Marker, Placed};
-use crate::questions::{board_arguments, kept_codes};
+use crate::answer::{Alignment, Hypothesis, Marker, Matched, Placed, below_minimum};
+use crate::questions::board;
 use calib_targets_aruco::{
-    CellSamples, Dictionary, MarkerCell, MarkerDetection, ScanDecodeConfig, corners_of_place,
-    place_of_corners,
+    CellSamples, MarkerCell, MarkerDetection, ScanDecodeConfig, corners_of_place, place_of_corners,
 };
 use calib_targets_charuco::{
-    CharucoBoard, CharucoBoardSpec, DiagHypothesis, Gate, MatchRun, MatchSettings, count_of_markers,
+    CharucoBoard, DiagHypothesis, Gate, MatchRun, MatchSettings, count_of_markers,
 };
 use calib_targets_core::{Coord, GRID_TRANSFORMS_C4, GridAlignment};
-use records::{Sample, Shot};
+use cases::answer::Answer;
+use records::Shot;
+use theirs::cell_samples;
 
 /// A shot that the questions up to 10 have let pass.
 pub struct Matching {
@@ -25,26 +26,23 @@ pub struct Samples(ScanDecodeConfig);
 
 impl Matching {
     /// The Rust takes the slope and floor in the place of a table.
-    pub fn new(shot: &Shot, [slope, floor]: [f32; 2]) -> Self {
+    pub fn new(shot: &Shot, slope_and_floor: [f32; 2]) -> Self {
         let cells = shot.cells.iter().enumerate().map(|(place, cell)| {
             let point = Coord::new(cell.u.into(), cell.v.into());
             MarkerCell::new(point, corners_of_place(place))
         });
         let samples = shot.cells.iter().map(|cell| {
-            let sample = cell.sample.as_ref();
-            sample.map(|sample| cell_samples(shot, sample))
+            let sample = cell.sample.as_ref()?;
+            let fraction = f32::from_bits(sample.fraction);
+            Some(cell_samples(shot.grid(sample), fraction))
         });
+        let settings = MatchSettings::new(slope_and_floor, f32::from_bits(shot.border_threshold));
+        let [px, margin] = [shot.px_per_square, shot.minimum_margin].map(f32::from_bits);
         Self {
-            board: board(shot),
+            board: board(shot).expect("a board that is accepted"),
             cells: cells.collect(),
             samples: samples.collect(),
-            settings: MatchSettings {
-                px_per_square: f32::from_bits(shot.px_per_square),
-                bit_likelihood_slope: slope,
-                per_bit_floor: floor,
-                alignment_min_margin: f32::from_bits(shot.minimum_margin),
-                cell_weight_border_threshold: f32::from_bits(shot.border_threshold),
-            },
+            settings: settings.with(px, margin),
         }
     }
 
@@ -57,49 +55,17 @@ impl Matching {
         count_of_markers(&self.board, &self.cells, &samples.0, self.settings)
     }
 
-    pub fn answer(&self) -> Answer {
+    pub fn matched(&self) -> Matched {
         let samples = self.samples();
         let run = MatchRun::new(&self.board, &self.cells, &samples.0, self.settings);
-        match run.gate {
+        Err(match run.gate {
             Some(Gate::NoCells) => Answer::refused(11),
             Some(Gate::TranslationWindow) => Answer::refused(15),
-            Some(Gate::Margin) => {
-                let margin = run.selected.expect("there is a best").margin;
-                Answer::Refused {
-                    number: 16,
-                    values: [margin.to_bits(), 0],
-                }
-            }
+            Some(Gate::Margin) => below_minimum(run.selected.expect("there is a best").margin),
             Some(Gate::NoMarkers) => Answer::refused(17),
             Some(Gate::EmptyBoard) => panic!("a board that is made has markers"),
-            None => Answer::Placed(placed(run)),
-        }
-    }
-}
-
-fn board(shot: &Shot) -> CharucoBoard {
-    let asked = board_arguments(shot);
-    let dictionary = Dictionary::new(asked.bits as usize, kept_codes(&shot.codes));
-    let spec = CharucoBoardSpec::new(
-        asked.rows,
-        asked.cols,
-        asked.cell_size,
-        asked.marker_size_rel,
-        dictionary,
-    );
-    let spec = spec.with_border_bits(asked.border_bits as usize);
-    CharucoBoard::new(spec).expect("a board that the Rust accepts")
-}
-
-fn cell_samples(shot: &Shot, sample: &Sample) -> CellSamples {
-    let [bits, border] = [shot.bits, shot.border].map(usize::from);
-    CellSamples {
-        mean_grid: sample.grid.clone(),
-        otsu_threshold: sample.threshold,
-        border_black_fraction: f32::from_bits(sample.fraction),
-        border_bits: border,
-        bits_per_side: bits,
-        cells_per_side: bits + 2 * border,
+            None => return Ok(placed(run)),
+        })
     }
 }
 

@@ -1,18 +1,13 @@
 //! What the program `place` prints of an answer.
 
-use crate::answer::{Answer, Hypothesis, Marker, Placed};
+use crate::answer::{Hypothesis, Marker, Matched, Placed};
 use std::fmt::{self, Display, Formatter};
 
-impl Display for Answer {
-    fn fmt(&self, f: &mut Formatter) -> fmt::Result {
-        match self {
-            Self::Placed(placed) => write!(f, "{placed}"),
-            Self::Refused {
-                number: 16,
-                values: [margin, _],
-            } => writeln!(f, "refused 16 {margin:08X}"),
-            Self::Refused { number, .. } => writeln!(f, "refused {number}"),
-        }
+pub fn text(matched: &Matched) -> String {
+    match matched {
+        Ok(placed) => placed.to_string(),
+        Err(refused) if refused.number == 16 => format!("refused 16 {:08X}\n", refused.words[0]),
+        Err(refused) => format!("refused {}\n", refused.number),
     }
 }
 
@@ -47,20 +42,9 @@ impl Display for Hypothesis {
 
 impl Display for Marker {
     fn fmt(&self, f: &mut Formatter) -> fmt::Result {
-        let Self {
-            cell,
-            id,
-            point: [u, v],
-            turn,
-            differing,
-            code,
-            quotient,
-            ..
-        } = self;
-        let quotient = quotient.to_bits();
-        write!(
-            f,
-            "{cell} {id} {u} {v} {turn} {differing} {code:016X} {quotient:08X}"
-        )
+        let [u, v] = self.point;
+        write!(f, "{} {} {u} {v} {} ", self.cell, self.id, self.turn)?;
+        let quotient = self.quotient.to_bits();
+        write!(f, "{} {:016X} {quotient:08X}", self.differing, self.code)
     }
 }

@@ -30,7 +30,6 @@ impl Wide {
     }
 
     /// Times 2 to the power of so many.
-    #[must_use]
     pub fn shifted(self, places: usize) -> Self {
         let mut shifted = [0; WORDS];
         let [words, bits] = [places / 64, places % 64];
@@ -47,7 +46,6 @@ impl Wide {
         self.0[WORDS - 1] >> 63 == 1
     }
 
-    #[must_use]
     pub fn size(self) -> Self {
         if self.is_negative() { -self } else { self }
     }
@@ -127,17 +125,8 @@ mod tests {
 
     #[test]
     fn small_numbers() {
-        let numbers = [
-            0,
-            1,
-            -1,
-            2,
-            -7,
-            65_536,
-            -1_000_003,
-            3_000_000_000,
-            -3_000_000_000,
-        ];
+        let large = 3_000_000_000;
+        let numbers = [0, 1, -1, 2, -7, 65_536, -1_000_003, large, -large];
         for a in numbers {
             for b in numbers {
                 assert_eq!(wide(a) + wide(b), wide(a + b));

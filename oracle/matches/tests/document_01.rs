@@ -1,7 +1,7 @@
 //! The examples of document 01 for the match: the record of the program `place`, P9 and P11.
 
-use matches::{Answer, MARKER_WORDS, match_record, match_shot};
-use records::{Cell, Shot, settings, write};
+use matches::{MARKER_WORDS, match_record, match_shot, text, told};
+use records::{Cell, Shot, write};
 use theirs::null_score;
 
 fn unsampled([u, v]: [i16; 2]) -> Cell {
@@ -10,10 +10,9 @@ fn unsampled([u, v]: [i16; 2]) -> Cell {
 
 #[test]
 fn what_the_program_prints() {
-    let mut lent = [7; 2 * MARKER_WORDS];
-    let answer = match_record(&write(&Shot::of_document_01()).bytes, &mut lent);
+    let matched = match_record(&write(&Shot::of_document_01()).bytes, MARKER_WORDS);
     assert_eq!(
-        answer.to_string(),
+        text(&matched),
         "placed\n\
          best 0 1 0 40317218\n\
          next 1 1 0 3F45C860\n\
@@ -28,16 +27,7 @@ fn what_the_program_prints() {
         0, 0, 0, 0, 0, 0, 1, 0, 0, one,
         0, 0, sixty, 0, sixty, sixty, 0, sixty,
     ];
-    assert_eq!(lent[..MARKER_WORDS], marker);
-    assert_eq!(lent[MARKER_WORDS..], [7; MARKER_WORDS]);
-}
-
-fn margin(answer: &Answer) -> f32 {
-    match answer {
-        Answer::Placed(placed) => placed.margin,
-        Answer::Refused { number: 16, values } => f32::from_bits(values[0]),
-        other => panic!("no margin in {other:?}"),
-    }
+    assert_eq!(told(&matched).list, marker);
 }
 
 /// All bits of one grey: no placement has evidence above 0.
@@ -45,9 +35,8 @@ fn margin(answer: &Answer) -> f32 {
 fn p9_no_evidence_no_margin() {
     let mut shot = Shot::of_document_01();
     shot.table.fill((-1.0f32).to_bits());
-    let answer = match_shot(&shot, MARKER_WORDS);
-    assert_eq!(answer.number(), 16);
-    assert_eq!(margin(&answer), 0.0);
+    let refused = match_shot(&shot, MARKER_WORDS).expect_err("its margin is too small");
+    assert_eq!((refused.number, refused.words), (16, vec![0]));
 }
 
 /// On a board of 2 rows and 3 columns the cells (0, 0) and (2, 1) fit in turns 0 and 2, once each. Turn 0 has no marker below
@@ -59,10 +48,7 @@ fn p9_a_runner_up_that_is_none() {
     shot.cols = 3;
     shot.codes = vec![15, 15, 8];
     shot.cells.push(unsampled([2, 1]));
-    let answer = match_shot(&shot, 2 * MARKER_WORDS);
-    let Answer::Placed(placed) = answer else {
-        panic!("it is placed, not {answer:?}");
-    };
+    let placed = match_shot(&shot, 2 * MARKER_WORDS).expect("it is placed");
     assert_eq!(placed.placements, 2);
     assert_eq!(placed.margin, 1.0);
     assert_eq!(placed.best.alignment.turn, 2);
@@ -84,9 +70,7 @@ fn p9_a_margin_above_1() {
     // Only two placements are left.
     shot.cells.push(unsampled([1, 1]));
     shot.cells.push(unsampled([0, 1]));
-    let Answer::Placed(placed) = match_shot(&shot, 3 * MARKER_WORDS) else {
-        panic!("it is placed");
-    };
+    let placed = match_shot(&shot, 3 * MARKER_WORDS).expect("it is placed");
     let capacity = -null_score(2);
     let evidence = |score: f32| score + capacity;
     assert_eq!(placed.best.evidence, Some(evidence(0.0)));
@@ -107,16 +91,13 @@ fn p11_placements() {
             border_threshold: 0,
             ..Shot::of_document_01()
         };
-        shot.map |= settings::MINIMUM_MARGIN;
-        shot.minimum_margin = f32::MIN.to_bits();
+        shot.set_minimum_margin(f32::MIN);
         shot.cells.push(unsampled([far, 0]));
         match_shot(&shot, 2 * MARKER_WORDS)
     };
     for (far, expected) in [(2, 44), (4, 8)] {
-        let Answer::Placed(placed) = placements(far) else {
-            panic!("it is placed");
-        };
+        let placed = placements(far).expect("it is placed");
         assert_eq!(placed.placements, expected);
     }
-    assert_eq!(placements(5).number(), 15);
+    assert_eq!(told(&placements(5)).number, 15);
 }

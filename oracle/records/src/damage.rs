@@ -2,17 +2,20 @@
 
 use crate::shot::{Shot, settings};
 use crate::write::{Written, write};
+use cases::entries::changed;
 use cases::prng::Prng;
 
 /// The record of a shot, damaged in each of the ways below.
 pub fn all(prng: &mut Prng, shot: &Shot) -> Vec<Vec<u8>> {
     let written = write(shot);
-    let mut damaged = spare_bits(&written, shot.cells.len());
-    damaged.extend(map_bytes(&written.bytes));
-    damaged.extend(counts(&written));
-    damaged.extend(one_byte_more(&written.bytes));
-    damaged.extend((0..20).map(|_| with_bytes_changed(prng, &written.bytes)));
-    damaged
+    [
+        spare_bits(&written, shot.cells.len()),
+        map_bytes(&written.bytes),
+        counts(&written),
+        one_byte_more(&written.bytes).to_vec(),
+        prng.many(20, |prng| with_bytes_changed(prng, &written.bytes)),
+    ]
+    .concat()
 }
 
 /// Cut short at every length.
@@ -27,27 +30,19 @@ pub fn spare_bits(written: &Written, cells: usize) -> Vec<Vec<u8>> {
         0 => 8..8,
         used => used..8,
     };
-    let of_map = settings::SPARE.map(|bit| (0, bit));
+    let of_map = settings::SPARE.map(|bit| (0, bit)).into_iter();
     let of_cells = spare.map(|place| (last, 1 << place));
-    of_map
-        .into_iter()
-        .chain(of_cells)
-        .map(|(place, bit)| {
-            let mut record = written.bytes.clone();
-            record[place] |= bit;
-            record
-        })
+    let spare = of_map.chain(of_cells);
+    spare
+        .map(|(place, bit)| changed(&written.bytes, |record| record[place] |= bit))
         .collect()
 }
 
 /// Every number in the place of the map byte.
 pub fn map_bytes(record: &[u8]) -> Vec<Vec<u8>> {
-    (0..=u8::MAX)
-        .map(|map| {
-            let mut record = record.to_vec();
-            record[0] = map;
-            record
-        })
+    let bytes = 0..=u8::MAX;
+    bytes
+        .map(|map| changed(&record.to_vec(), |record| record[0] = map))
         .collect()
 }
 
@@ -65,10 +60,10 @@ pub fn counts(written: &Written) -> Vec<Vec<u8>> {
     let places = [written.code_count_at, written.cell_count_at];
     let changed = places.map(|at| {
         changes.map(|change| {
-            let mut record = written.bytes.clone();
-            let count = u16::from_le_bytes([record[at], record[at + 1]]);
-            record[at..at + 2].copy_from_slice(&change(count).to_le_bytes());
-            record
+            changed(&written.bytes, |record| {
+                let count = u16::from_le_bytes([record[at], record[at + 1]]);
+                record[at..at + 2].copy_from_slice(&change(count).to_le_bytes());
+            })
         })
     });
     changed.concat()
@@ -84,16 +79,16 @@ pub fn with_bytes_changed(prng: &mut Prng, record: &[u8]) -> Vec<u8> {
     let front = record.len().min(40);
     for _ in 0..1 + prng.below(3) {
         let reach = prng.pick(&[front, front, record.len()]);
-        let place = prng.below(reach as u64) as usize;
-        record[place] = prng.draw() as u8;
+        let place = prng.place(reach);
+        record[place] = prng.byte();
     }
     record
 }
 
 /// Bytes of no meaning. Most have a map byte without spare bits, so that the reader gets beyond it.
 pub fn random_bytes(prng: &mut Prng) -> Vec<u8> {
-    let length = prng.below(120) as usize;
-    let mut record: Vec<u8> = (0..length).map(|_| prng.draw() as u8).collect();
+    let length = prng.place(120);
+    let mut record = prng.many(length, Prng::byte);
     if prng.below(4) != 0 && length > 0 {
         record[0] &= 0b0111;
     }

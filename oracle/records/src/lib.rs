@@ -5,15 +5,17 @@ pub mod damage;
 mod random;
 mod read;
 mod shot;
+pub mod telling;
+pub mod told;
 mod write;
 
-pub use random::{FLOATS, Shape, filled, random_shot};
+pub use random::{FLOATS, Shape, filled};
 pub use read::{Read, read};
-pub use shot::{Cell, Sample, Shot, TABLE_LENGTH, built_in_table, settings};
+pub use shot::{Cell, Sample, Shot, TABLE_LENGTH, UNSAMPLED, built_in_table, settings};
 pub use write::{Written, write};
 
 /// The number of the one question that reading a record asks.
-pub const REFUSED: u64 = 21;
+pub const REFUSED: u32 = 21;
 
 /// The most bytes that a record may have.
 pub const LONGEST: usize = 65_535;

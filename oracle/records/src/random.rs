@@ -1,27 +1,13 @@
 //! Random shots of many shapes.
 
-use crate::shot::{Cell, Sample, Shot, settings};
+use crate::shot::{Cell, Sample, Shot};
 use crate::write::write;
 use cases::prng::Prng;
 
 /// Bits of telling floats: plain ones, both zeros, the ends, the infinities, and NaNs of several patterns.
 pub const FLOATS: [u32; 16] = [
-    0x3F80_0000,
-    0x3D4C_CCCD,
-    0x3F00_0000,
-    0x4270_0000,
-    0,
-    0x8000_0000,
-    1,
-    0x7F7F_FFFF,
-    0xFF7F_FFFF,
-    0x7F80_0000,
-    0xFF80_0000,
-    0x7FC0_0000,
-    0xFFC0_0000,
-    0x7F80_0001,
-    0xFFFF_FFFF,
-    0x7FC0_0001,
+    0x3F800000, 0x3D4CCCCD, 0x3F000000, 0x42700000, 0, 0x80000000, 1, 0x7F7FFFFF, 0xFF7FFFFF,
+    0x7F800000, 0xFF800000, 0x7FC00000, 0xFFC00000, 0x7F800001, 0xFFFFFFFF, 0x7FC00001,
 ];
 
 const COORDINATES: [i16; 8] = [0, 1, -1, 4096, -4096, -4097, i16::MAX, i16::MIN];
@@ -30,47 +16,50 @@ const COORDINATES: [i16; 8] = [0, 1, -1, 4096, -4096, -4097, i16::MAX, i16::MIN]
 #[derive(Clone, Copy, Debug)]
 pub struct Shape {
     pub map: u8,
-    pub bits: u8,
-    pub border: u8,
+    /// Bits and border.
+    pub sides: [u8; 2],
     pub codes: usize,
     pub cells: usize,
     /// Of four cells, so many are sampled.
     pub sampled_of_four: u64,
 }
 
-pub fn random_shot(prng: &mut Prng, shape: Shape) -> Shot {
-    let mut shot = Shot {
-        map: shape.map,
-        rows: prng.draw() as u8,
-        cols: prng.draw() as u8,
-        bits: shape.bits,
-        border: shape.border,
-        cell_size: float(prng),
-        marker_size_rel: float(prng),
-        ..Shot::default()
-    };
-    let given = |bit| shape.map & bit != 0;
-    if given(settings::MINIMUM_MARGIN) {
-        shot.minimum_margin = float(prng);
+impl Shape {
+    pub const fn new(map: u8, sides: [u8; 2], [codes, cells]: [usize; 2], sampled: u64) -> Self {
+        Self {
+            map,
+            sides,
+            codes,
+            cells,
+            sampled_of_four: sampled,
+        }
     }
-    if given(settings::BORDER_THRESHOLD) {
-        shot.border_threshold = float(prng);
-    }
-    if given(settings::PX_PER_SQUARE) {
-        shot.px_per_square = float(prng);
-    }
-    if given(settings::TABLE) {
-        shot.table = shot.table.map(|_| float(prng));
-    }
-    shot.codes = (0..shape.codes).map(|_| prng.draw()).collect();
-    let greys = shot.greys();
-    shot.cells = (0..shape.cells)
-        .map(|_| {
-            let is_sampled = prng.below(4) < shape.sampled_of_four;
+
+    pub fn shot(self, prng: &mut Prng) -> Shot {
+        let [bits, border] = self.sides;
+        let mut shot = Shot {
+            map: self.map,
+            rows: prng.byte(),
+            cols: prng.byte(),
+            bits,
+            border,
+            cell_size: float(prng),
+            marker_size_rel: float(prng),
+            ..Shot::default()
+        };
+        for (bit, floats) in shot.given_mut() {
+            if self.map & bit != 0 {
+                floats.fill_with(|| float(prng));
+            }
+        }
+        shot.codes = prng.many(self.codes, Prng::draw);
+        let greys = shot.greys();
+        shot.cells = prng.many(self.cells, |prng| {
+            let is_sampled = prng.below(4) < self.sampled_of_four;
             cell(prng, is_sampled.then_some(greys))
-        })
-        .collect();
-    shot
+        });
+        shot
+    }
 }
 
 /// The shot with further cells and codes, so that its record has just so many bytes; as it is where there is no room
@@ -81,22 +70,22 @@ pub fn filled(prng: &mut Prng, mut shot: Shot, length: usize) -> Shot {
     while left(&shot) % 8 != 0 {
         shot.cells.push(cell(prng, None));
     }
-    shot.codes.extend((0..left(&shot) / 8).map(|_| prng.draw()));
+    shot.codes.extend(prng.many(left(&shot) / 8, Prng::draw));
     shot
 }
 
 fn cell(prng: &mut Prng, greys: Option<usize>) -> Cell {
     let sample = greys.map(|greys| Sample {
         fraction: float(prng),
-        threshold: prng.draw() as u8,
-        grid: (0..greys).map(|_| prng.draw() as u8).collect(),
+        threshold: prng.byte(),
+        grid: prng.many(greys, Prng::byte),
     });
-    let [u, v] = [(); 2].map(|()| coordinate(prng));
+    let [u, v] = prng.two(coordinate);
     Cell { u, v, sample }
 }
 
 fn float(prng: &mut Prng) -> u32 {
-    if prng.below(3) == 0 {
+    if prng.one_in(3) {
         prng.pick(&FLOATS)
     } else {
         prng.draw() as u32
@@ -104,7 +93,7 @@ fn float(prng: &mut Prng) -> u32 {
 }
 
 fn coordinate(prng: &mut Prng) -> i16 {
-    if prng.below(3) == 0 {
+    if prng.one_in(3) {
         prng.pick(&COORDINATES)
     } else {
         prng.draw() as i16

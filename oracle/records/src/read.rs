@@ -1,7 +1,7 @@
 //! The reader: takes the fields in their order and refuses a record of which one is cut short.
 
 use crate::LONGEST;
-use crate::shot::{Cell, Sample, Shot, TABLE_LENGTH, built_in_table, defaults};
+use crate::shot::{Cell, Sample, Shot};
 
 /// A record that is not refused.
 #[derive(Clone, Debug)]
@@ -38,112 +38,79 @@ impl<'a> Cursor<'a> {
         self.take(N)?.try_into().ok()
     }
 
-    fn byte(&mut self) -> Option<u8> {
-        self.array().map(|[byte]| byte)
-    }
-
-    fn u16(&mut self) -> Option<u16> {
-        self.array().map(u16::from_le_bytes)
-    }
-
-    fn i16(&mut self) -> Option<i16> {
-        self.array().map(i16::from_le_bytes)
-    }
-
-    fn u64(&mut self) -> Option<u64> {
-        self.array().map(u64::from_le_bytes)
-    }
-
     /// The bits of a float.
     fn float(&mut self) -> Option<u32> {
         self.array().map(u32::from_le_bytes)
     }
 
-    fn float_or(&mut self, is_given: bool, default: u32) -> Option<u32> {
-        if is_given {
-            self.float()
-        } else {
-            Some(default)
-        }
+    fn count(&mut self) -> Option<usize> {
+        self.array().map(|bytes| u16::from_le_bytes(bytes).into())
+    }
+
+    fn coordinate(&mut self) -> Option<i16> {
+        self.array().map(i16::from_le_bytes)
     }
 }
 
 fn whole(cursor: &mut Cursor) -> Option<Read> {
-    let map = cursor.byte()?;
-    if map > 0b1111 {
+    let mut shot = Shot::default();
+    [shot.map] = cursor.array()?;
+    if shot.map > 0b1111 {
         return None;
     }
+    let map = shot.map;
     let given = |bit: u8| map >> bit & 1 == 1;
-    let minimum_margin = cursor.float_or(given(0), defaults::MINIMUM_MARGIN)?;
-    let border_threshold = cursor.float_or(given(1), defaults::BORDER_THRESHOLD)?;
-    let px_per_square = cursor.float_or(given(2), defaults::PX_PER_SQUARE)?;
-    let table = if given(3) {
-        table(cursor)?
-    } else {
-        built_in_table()
-    };
-    let [rows, cols, bits, border] = cursor.array()?;
-    let cell_size = cursor.float()?;
-    let marker_size_rel = cursor.float()?;
-    let code_count = cursor.u16()?;
-    let codes = (0..code_count)
-        .map(|_| cursor.u64())
-        .collect::<Option<_>>()?;
-    let cell_count = usize::from(cursor.u16()?);
-    let sampled = cell_map(cursor, cell_count)?;
-    let side = u32::from(bits) + 2 * u32::from(border);
-    let greys = side.pow(2) as usize;
+    let settings = [
+        &mut shot.minimum_margin,
+        &mut shot.border_threshold,
+        &mut shot.px_per_square,
+    ];
+    for (bit, setting) in (0..).zip(settings) {
+        if given(bit) {
+            *setting = cursor.float()?;
+        }
+    }
+    if given(3) {
+        for entry in &mut shot.table {
+            *entry = cursor.float()?;
+        }
+    }
+    [shot.rows, shot.cols, shot.bits, shot.border] = cursor.array()?;
+    shot.cell_size = cursor.float()?;
+    shot.marker_size_rel = cursor.float()?;
+    for _ in 0..cursor.count()? {
+        shot.codes.push(u64::from_le_bytes(cursor.array()?));
+    }
+    let cell_count = cursor.count()?;
+    let side = u32::from(shot.bits) + 2 * u32::from(shot.border);
     let mut starts = Vec::new();
-    let mut cells = Vec::new();
-    for is_sampled in sampled {
+    for is_sampled in cell_map(cursor, cell_count)? {
         starts.push(cursor.at);
-        cells.push(cell(cursor, is_sampled, greys)?);
+        let cell = cell(cursor, is_sampled, side.pow(2) as usize)?;
+        shot.cells.push(cell);
     }
-    let shot = Shot {
-        map,
-        minimum_margin,
-        border_threshold,
-        px_per_square,
-        table,
-        rows,
-        cols,
-        bits,
-        border,
-        cell_size,
-        marker_size_rel,
-        codes,
-        cells,
-    };
     Some(Read { shot, starts })
-}
-
-fn table(cursor: &mut Cursor) -> Option<[u32; TABLE_LENGTH]> {
-    let mut table = [0; TABLE_LENGTH];
-    for entry in &mut table {
-        *entry = cursor.float()?;
-    }
-    Some(table)
 }
 
 /// Whether each cell is sampled.
 fn cell_map(cursor: &mut Cursor, count: usize) -> Option<Vec<bool>> {
     let map = cursor.take(count.div_ceil(8))?;
     let bit = |place: usize| map[place / 8] & 1 << (place % 8) != 0;
-    let spare = count..8 * map.len();
-    if spare.clone().any(bit) {
-        return None;
-    }
-    Some((0..spare.start).map(bit).collect())
+    let mut spare = count..8 * map.len();
+    (!spare.any(bit)).then(|| (0..count).map(bit).collect())
 }
 
 fn cell(cursor: &mut Cursor, is_sampled: bool, greys: usize) -> Option<Cell> {
-    let [u, v] = [cursor.i16()?, cursor.i16()?];
+    let [u, v] = [cursor.coordinate()?, cursor.coordinate()?];
     let mut sample = None;
     if is_sampled {
+        let fraction = cursor.float()?;
+        let [threshold] = cursor.array()?;
+        let grid = cursor.take(greys)?.to_vec();
         sample = Some(Sample {
-            fraction: cursor.float()?,
-            threshold: cursor.byte()?,
-            grid: cursor.take(greys)?.to_vec(),
+            fraction,
+            threshold,
+            grid,
         });
     }
     Some(Cell { u, v, sample })

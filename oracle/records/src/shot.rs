@@ -1,5 +1,6 @@
 //! What a record holds. Floats stand as their bits, so that no NaN loses its pattern.
 
+use cases::cells::Cell as Grid;
 use std::sync::LazyLock;
 pub use theirs::TABLE_LENGTH;
 
@@ -10,16 +11,6 @@ pub mod settings {
     pub const PX_PER_SQUARE: u8 = 4;
     pub const TABLE: u8 = 8;
     pub const SPARE: [u8; 4] = [16, 32, 64, 128];
-}
-
-/// What holds where the map byte says that a record does not give it.
-pub mod defaults {
-    /// 0.05
-    pub const MINIMUM_MARGIN: u32 = 0x3D4C_CCCD;
-    /// 0.5
-    pub const BORDER_THRESHOLD: u32 = 0x3F00_0000;
-    /// 60
-    pub const PX_PER_SQUARE: u32 = 0x4270_0000;
 }
 
 /// Worked out once: a reader wants it for most records.
@@ -54,6 +45,13 @@ pub struct Cell {
     pub sample: Option<Sample>,
 }
 
+/// A cell at the origin that is not sampled.
+pub const UNSAMPLED: Cell = Cell {
+    u: 0,
+    v: 0,
+    sample: None,
+};
+
 #[derive(Clone, Debug, PartialEq, Eq)]
 pub struct Sample {
     pub fraction: u32,
@@ -62,14 +60,24 @@ pub struct Sample {
     pub grid: Vec<u8>,
 }
 
+impl Sample {
+    pub const fn new(fraction: f32, threshold: u8, grid: Vec<u8>) -> Self {
+        Self {
+            fraction: fraction.to_bits(),
+            threshold,
+            grid,
+        }
+    }
+}
+
 impl Default for Shot {
-    /// Nothing given, no code, no cell.
+    /// Nothing given, by which the settings are those of document 01; no code, no cell.
     fn default() -> Self {
         Self {
             map: 0,
-            minimum_margin: defaults::MINIMUM_MARGIN,
-            border_threshold: defaults::BORDER_THRESHOLD,
-            px_per_square: defaults::PX_PER_SQUARE,
+            minimum_margin: 0.05f32.to_bits(),
+            border_threshold: 0.5f32.to_bits(),
+            px_per_square: 60.0f32.to_bits(),
             table: built_in_table(),
             rows: 2,
             cols: 2,
@@ -88,17 +96,8 @@ impl Shot {
     pub fn of_document_01() -> Self {
         let mut table = [0; TABLE_LENGTH];
         table[..256].fill((-1.0f32).to_bits());
-        let grid = vec![
-            0, 0, 0, 0, //
-            0, 0, 0xFF, 0, //
-            0, 0xFF, 0xFF, 0, //
-            0, 0, 0, 0,
-        ];
-        let sample = Some(Sample {
-            fraction: 1.0f32.to_bits(),
-            threshold: 128,
-            grid,
-        });
+        let grid = [[0, 0, 0, 0], [0, 0, 255, 0], [0, 255, 255, 0], [0, 0, 0, 0]].concat();
+        let sample = Some(Sample::new(1.0, 128, grid));
         Self {
             map: settings::TABLE,
             table,
@@ -108,9 +107,41 @@ impl Shot {
         }
     }
 
+    /// The floats that a record may give, with their bits in the map byte, in the order of a record.
+    pub fn given_mut(&mut self) -> [(u8, &mut [u32]); 4] {
+        let one = std::slice::from_mut;
+        [
+            (settings::MINIMUM_MARGIN, one(&mut self.minimum_margin)),
+            (settings::BORDER_THRESHOLD, one(&mut self.border_threshold)),
+            (settings::PX_PER_SQUARE, one(&mut self.px_per_square)),
+            (settings::TABLE, &mut self.table),
+        ]
+    }
+
+    /// Gives a minimum margin.
+    pub fn set_minimum_margin(&mut self, margin: f32) {
+        self.map |= settings::MINIMUM_MARGIN;
+        self.minimum_margin = margin.to_bits();
+    }
+
+    /// The greys of a sample with the shot's bits and border.
+    pub fn grid(&self, sample: &Sample) -> Grid {
+        let size = [self.bits, self.border];
+        Grid::new(size, sample.threshold, sample.grid.clone())
+    }
+
+    pub fn samples(&self) -> impl Iterator<Item = &Sample> {
+        self.cells.iter().filter_map(|cell| cell.sample.as_ref())
+    }
+
+    pub fn samples_mut(&mut self) -> impl Iterator<Item = &mut Sample> {
+        self.cells
+            .iter_mut()
+            .filter_map(|cell| cell.sample.as_mut())
+    }
+
     /// How many greys a sampled cell has.
     pub fn greys(&self) -> usize {
-        let side = usize::from(self.bits) + 2 * usize::from(self.border);
-        side * side
+        Grid::side([self.bits, self.border]).pow(2)
     }
 }

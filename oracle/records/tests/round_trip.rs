@@ -2,23 +2,16 @@
 
 use cases::prng::Prng;
 use records::damage::{spare_bits, truncations};
-use records::{Cell, LONGEST, Sample, Shape, Shot, filled, random_shot, read, write};
+use records::{Shape, Shot, read, write};
 
 fn shots() -> Vec<Shot> {
     let mut prng = Prng::new(31);
     let mut shots = vec![Shot::default()];
     for map in 0..16 {
-        for [bits, border] in [[0, 0], [1, 1], [2, 1], [9, 0], [4, 5]] {
+        for sides in [[0, 0], [1, 1], [2, 1], [9, 0], [4, 5]] {
             for cells in [0, 1, 7, 8, 9, 16, 40] {
-                let shape = Shape {
-                    map,
-                    bits,
-                    border,
-                    codes: cells / 3,
-                    cells,
-                    sampled_of_four: prng.below(5),
-                };
-                shots.push(random_shot(&mut prng, shape));
+                let shape = Shape::new(map, sides, [cells / 3, cells], prng.below(5));
+                shots.push(shape.shot(&mut prng));
             }
         }
     }
@@ -50,41 +43,6 @@ fn what_is_damaged_is_refused() {
             assert!(truncations(&written.bytes).all(|cut| read(cut).is_none()));
         }
     }
-}
-
-#[test]
-fn the_longest() {
-    let mut prng = Prng::new(32);
-    for (length, is_read) in [(LONGEST, true), (LONGEST + 1, false)] {
-        for shot in shots().into_iter().step_by(40) {
-            let shot = filled(&mut prng, shot, length);
-            let written = write(&shot);
-            assert_eq!(written.bytes.len(), length);
-            assert_eq!(read(&written.bytes).is_some(), is_read);
-        }
-    }
-}
-
-/// 765 by 765 greys are more than a record can hold.
-#[test]
-fn the_largest_side() {
-    let mut shot = Shot {
-        bits: 255,
-        border: 255,
-        ..Shot::default()
-    };
-    let [u, v] = [0, 0];
-    let sample = None;
-    shot.cells.push(Cell { u, v, sample });
-    assert!(read(&write(&shot).bytes).is_some());
-    let sample = Some(Sample {
-        fraction: 0,
-        threshold: 0,
-        grid: vec![0; shot.greys()],
-    });
-    shot.cells.push(Cell { u, v, sample });
-    assert_eq!(shot.greys(), 585_225);
-    assert!(read(&write(&shot).bytes).is_none());
 }
 
 /// The record that document 01 gives for the program `place`, byte by byte.

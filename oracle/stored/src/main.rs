@@ -1,32 +1,34 @@
-//! Prints answers of the upstream Rust, one line each, for the program `replay`. Our library takes no part.
+//! Prints the rows that the program `replay` asks our library again: the answers of the upstream Rust, and of the oracle's own
+//! rules where the Rust has none. Our library takes no part. How many rows there are of each kind is told on standard error.
 
-mod alignments;
-mod cells;
-mod codes;
-mod layout;
-mod likelihood;
-mod refusals;
-mod weights;
+mod covered;
+mod entries;
+mod kinds;
+mod matches;
+mod parts;
+mod records;
+mod scores;
+mod script;
 
-use std::io::{self, BufWriter, Write};
+use script::Script;
+use std::io::{self, Write};
 
 fn main() -> io::Result<()> {
-    let mut out = BufWriter::new(io::stdout().lock());
-    write!(out, "{}", include_str!("header.txt"))?;
-    let kinds = [
-        codes::rows(),
-        layout::rows(),
-        refusals::rows(),
-        alignments::translation_rows(),
-        alignments::turn_rows(),
-        alignments::corner_rows(),
-        likelihood::entry_rows(),
-        likelihood::null_score_rows(),
-        weights::rows(),
-        cells::rows(),
-    ];
-    for row in kinds.iter().flatten() {
-        writeln!(out, "{row}")?;
+    let mut script = Script::default();
+    parts::ask(&mut script);
+    scores::ask(&mut script);
+    entries::ask_boards(&mut script);
+    records::ask(&mut script);
+    entries::ask_cells(&mut script);
+    entries::ask_corners(&mut script);
+    entries::ask_links(&mut script);
+    matches::ask(&mut script);
+    covered::check(&script.asked);
+    for &kind in kinds::ALL {
+        let rows = script.asked.iter().filter(|asked| asked.kind == kind);
+        eprintln!("{:2X} {}: {}", kind.number, kind.name, rows.count());
     }
-    out.flush()
+    eprintln!("all: {}", script.asked.len());
+    let mut out = io::stdout().lock();
+    write!(out, "{}{}", include_str!("header.txt"), script.lines)
 }

@@ -3,6 +3,7 @@
 use calib_targets_aruco::Dictionary;
 use calib_targets_charuco::{CharucoBoard, CharucoBoardSpec};
 use calib_targets_core::Coord;
+use cases::corner_lists::rectangle;
 
 /// As many codes as the largest board has markers. The layout asks only how many there are.
 static CODES: [u64; 512] = [0; 512];
@@ -44,9 +45,8 @@ impl Board {
     }
 
     pub fn corner_id(&self, i: i32, j: i32) -> Option<u64> {
-        self.board
-            .charuco_corner_id_from_board_corner(i, j)
-            .map(u64::from)
+        let id = self.board.charuco_corner_id_from_board_corner(i, j);
+        id.map(u64::from)
     }
 
     /// Column and row of the board corner that has this id.
@@ -55,29 +55,27 @@ impl Board {
     }
 
     pub fn object_xy(&self, id: u32) -> Option<[f32; 2]> {
-        self.board
-            .charuco_object_xy(id)
-            .map(|point| [point.x, point.y])
+        let point = self.board.charuco_object_xy(id)?;
+        Some([point.x, point.y])
     }
 
     /// Top left, top right, bottom right, bottom left. The Rust takes the id as a signed number.
     pub fn surrounding_corners(&self, marker: u32) -> Option<[u64; 4]> {
-        self.board
-            .marker_surrounding_charuco_corners(marker as i32)
-            .map(|ids| ids.map(|id| id as u64))
+        let ids = self
+            .board
+            .marker_surrounding_charuco_corners(marker as i32)?;
+        Some(ids.map(|id| id as u64))
     }
 }
 
 /// Undoes the numbering of the corners by asking for the id of every board corner.
 fn corners_by_id(board: &CharucoBoard) -> Vec<[u64; 2]> {
-    let spec = board.spec();
+    let [rows, cols] = [board.spec().rows, board.spec().cols].map(|n| n as i32);
     let mut corners = Vec::new();
-    for j in 0..=spec.rows {
-        for i in 0..=spec.cols {
-            if let Some(id) = board.charuco_corner_id_from_board_corner(i as i32, j as i32) {
-                assert_eq!(id as usize, corners.len(), "ids rise row by row");
-                corners.push([u64::from(i), u64::from(j)]);
-            }
+    for [i, j] in rectangle([0, 0], [cols + 1, rows + 1]) {
+        if let Some(id) = board.charuco_corner_id_from_board_corner(i, j) {
+            assert_eq!(id as usize, corners.len(), "ids rise row by row");
+            corners.push([i as u64, j as u64]);
         }
     }
     corners

@@ -7,31 +7,20 @@ use calib_targets_charuco::{CharucoBoard, charuco_corners};
 use calib_targets_core::{
     Coord, GRID_TRANSFORMS_C4, GridAlignment, LabeledCorner, TargetDetection, TargetKind,
 };
+use cases::answer::Answer;
 use cases::corner_entry::{CornerInput, FARTHEST_TRANSLATION, WORDS_OF_A_CORNER, words_needed};
-use cases::entries::EntryAnswer;
 
-/// The answer that is expected, and the lent list as it is then.
-pub fn map_charuco_corners(
-    input: &CornerInput,
-    codes: &'static [u64],
-    lent: &mut [u32],
-) -> EntryAnswer {
-    let board = match accepted_board(&input.board, codes) {
-        Ok(board) => board,
-        Err(refused) => return EntryAnswer::Refused(refused),
+/// The answer that is expected.
+pub fn map_charuco_corners(input: &CornerInput) -> Answer {
+    let mapped = match MappedOnBoard::of_input(input) {
+        Ok(mapped) => mapped,
+        Err(refused) => return refused,
     };
-    if !within_limits(&input.lists) || !is_in_range(input) {
-        return EntryAnswer::refused(18);
+    if input.lists.places < words_needed(&input.board) {
+        return Answer::refused(14);
     }
-    if lent.len() < words_needed(&input.board) {
-        return EntryAnswer::refused(14);
-    }
-    let corners = MappedOnBoard::new(board, input).corners();
-    let places = lent.chunks_exact_mut(WORDS_OF_A_CORNER);
-    for (place, corner) in places.zip(&corners) {
-        place.copy_from_slice(&six_words(corner));
-    }
-    EntryAnswer::Written(corners.len())
+    let corners: Vec<_> = mapped.corners().iter().map(six_words).collect();
+    Answer::of_results(&corners)
 }
 
 /// Turn and translation of question 18.
@@ -48,20 +37,19 @@ pub struct MappedOnBoard {
 }
 
 impl MappedOnBoard {
-    /// For a turn from 0 to 3.
-    fn new(board: CharucoBoard, input: &CornerInput) -> Self {
-        let turn = GRID_TRANSFORMS_C4[input.turn as usize];
-        Self {
-            board,
-            chessboard: TargetDetection::new(TargetKind::Chessboard, labeled_corners(&input.lists)),
-            alignment: turn.with_translation(input.translation),
+    /// Or the refusal, by a question of the board or by 18.
+    pub fn of_input(input: &CornerInput) -> Result<Self, Answer> {
+        let board = accepted_board(&input.board, input.board.codes())?;
+        if !within_limits(&input.lists) || !is_in_range(input) {
+            return Err(Answer::refused(18));
         }
-    }
-
-    /// None if a question of the board refuses it.
-    pub fn of_input(input: &CornerInput, codes: &'static [u64]) -> Option<Self> {
-        let board = accepted_board(&input.board, codes).ok()?;
-        Some(Self::new(board, input))
+        let turn = GRID_TRANSFORMS_C4[input.turn as usize];
+        let corners = labeled_corners(&input.lists);
+        Ok(Self {
+            board,
+            chessboard: TargetDetection::new(TargetKind::Chessboard, corners),
+            alignment: turn.with_translation(input.translation),
+        })
     }
 
     pub fn corners(&self) -> Vec<LabeledCorner> {

@@ -29,16 +29,16 @@ pub fn is_table(entries: &[f32]) -> bool {
     entries.len() == TABLE_LENGTH && entries.iter().all(|entry| (-8.0..=0.0).contains(entry))
 }
 
-/// The score by the rule of document 01, for a table of any origin and a code that is already turned.
-pub fn score_by_table(table: &[f32; TABLE_LENGTH], cell: &Cell, code: u64) -> f32 {
-    let [bits, border] = [cell.bits, cell.border].map(usize::from);
-    let side = Cell::side(cell.bits, cell.border);
-    let mut score = 0.0;
-    for k in 0..bits * bits {
-        let grey = cell.grid[(border + k / bits) * side + border + k % bits];
-        let d = i16::from(cell.threshold) - i16::from(grey);
+/// What each bit of a cell adds to the score of a code that is already turned, by the rule of document 01; for a table of any
+/// origin.
+pub fn entries(table: &[f32; TABLE_LENGTH], cell: &Cell, code: u64) -> impl Iterator<Item = f32> {
+    (0..).zip(cell.differences()).map(move |(k, d)| {
         let d = if code >> k & 1 == 1 { d } else { -d };
-        score += table[(d + 255) as usize];
-    }
-    score
+        table[(d + 255) as usize]
+    })
+}
+
+/// The sum of the entries, in their order.
+pub fn score_by_table(table: &[f32; TABLE_LENGTH], cell: &Cell, code: u64) -> f32 {
+    entries(table, cell, code).fold(0.0, |sum, entry| sum + entry)
 }

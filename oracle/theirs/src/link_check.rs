@@ -2,13 +2,14 @@
 //! a `HashMap`; the order of document 01, and its questions 19 and 14, which are added, stand here.
 
 mod rules;
-mod rust;
 
 use crate::refusals::accepted_board;
-use cases::entries::EntryAnswer;
+use calib_targets_charuco::{
+    CharucoBoard, CharucoMarkerCornerLinks, LinkCheckMode, LinkViolation, LinkViolationKind,
+    MarkerCornerLink, validate_marker_corner_links,
+};
+use cases::answer::Answer;
 use cases::link_entry::{LinkInput, MOST_LINKS, WORDS_FOR_A_LINK, WORDS_OF_A_VIOLATION};
-
-pub use rust::CheckedOnBoard;
 
 /// The words of a violation: marker, kind, reported corner or 0, the expected four or 0, how many are missing, those that
 /// are missing and 0 past them.
@@ -23,44 +24,45 @@ pub mod kind {
     pub const MISSING: u32 = 5;
 }
 
-/// The violations that the Rust finds, in any order, or the refusal that is expected.
-pub fn links_by_rust(
-    input: &LinkInput,
-    codes: &'static [u64],
-) -> Result<Vec<Violation>, EntryAnswer> {
-    passed(input, codes)?;
-    let checked = CheckedOnBoard::of_input(input, codes).expect("it passed the questions");
-    Ok(checked.violations())
+/// The violations that the Rust finds, without their order, or the refusal that is expected.
+pub fn links_by_rust(input: &LinkInput) -> Result<Vec<Violation>, Answer> {
+    passed(input)?;
+    let checked = CheckedOnBoard::of_input(input).expect("it passed the questions");
+    let violations: Vec<_> = checked.violations().iter().map(words).collect();
+    Ok(sorted(&violations))
 }
 
-/// The answer that is expected by document 01, and the lent list as it is then.
-pub fn links_by_rules(input: &LinkInput, codes: &'static [u64], lent: &mut [u32]) -> EntryAnswer {
-    if let Err(refused) = passed(input, codes) {
-        return refused;
+/// The answer that is expected by document 01.
+pub fn links_by_rules(input: &LinkInput) -> Answer {
+    match passed(input) {
+        Err(refused) => refused,
+        Ok(()) => Answer::of_results(&rules::violations(input)),
     }
-    let violations = rules::violations(input);
-    let places = lent.chunks_exact_mut(WORDS_OF_A_VIOLATION);
-    for (place, violation) in places.zip(&violations) {
-        place.copy_from_slice(violation);
-    }
-    EntryAnswer::Written(violations.len())
 }
 
 /// The questions of the entry.
-fn passed(input: &LinkInput, codes: &'static [u64]) -> Result<(), EntryAnswer> {
-    accepted_board(&input.board, codes).map_err(EntryAnswer::Refused)?;
+fn passed(input: &LinkInput) -> Result<(), Answer> {
+    accepted_board(&input.board, input.board.codes())?;
     let count = input.links().len();
     if count > MOST_LINKS {
-        return Err(EntryAnswer::refused(19));
+        return Err(Answer::refused(19));
     }
     if input.places < WORDS_FOR_A_LINK * count {
-        return Err(EntryAnswer::refused(14));
+        return Err(Answer::refused(14));
     }
     Ok(())
 }
 
+/// The violations of an answer without their order, or the refusal.
+pub fn unordered(answer: &Answer) -> Result<Vec<Violation>, Answer> {
+    if answer.number != 0 {
+        return Err(answer.clone());
+    }
+    Ok(sorted(answer.list.as_chunks().0))
+}
+
 /// Violations without their order, and the missing corners of each without theirs.
-pub fn sorted(violations: &[Violation]) -> Vec<Violation> {
+fn sorted(violations: &[Violation]) -> Vec<Violation> {
     let mut violations = violations.to_vec();
     for violation in &mut violations {
         let (told, missing) = violation.split_at_mut(8);
@@ -68,4 +70,56 @@ pub fn sorted(violations: &[Violation]) -> Vec<Violation> {
     }
     violations.sort_unstable();
     violations
+}
+
+/// An input as the Rust takes it.
+pub struct CheckedOnBoard {
+    board: CharucoBoard,
+    links: CharucoMarkerCornerLinks,
+}
+
+impl CheckedOnBoard {
+    /// None if a question of the board refuses it.
+    pub fn of_input(input: &LinkInput) -> Option<Self> {
+        let board = accepted_board(&input.board, input.board.codes()).ok()?;
+        let links = input.links().iter();
+        let links = links.map(|&[marker, corner]| MarkerCornerLink::new(marker, corner));
+        let mode = if input.all_four {
+            LinkCheckMode::MustMatchAll4
+        } else {
+            LinkCheckMode::SubsetOk
+        };
+        Some(Self {
+            board,
+            links: CharucoMarkerCornerLinks::new(links.collect()).with_mode(mode),
+        })
+    }
+
+    pub fn violations(&self) -> Vec<LinkViolation> {
+        let checked = validate_marker_corner_links(&self.board, &self.links);
+        checked.err().unwrap_or_default()
+    }
+}
+
+fn words(violation: &LinkViolation) -> Violation {
+    let mut missing = &[][..];
+    let kind = match &violation.kind {
+        LinkViolationKind::UnknownMarker => kind::UNKNOWN_MARKER,
+        LinkViolationKind::MarkerHasNoFourCorners => kind::NO_FOUR_CORNERS,
+        LinkViolationKind::CornerNotInNeighborhood => kind::NOT_IN_NEIGHBORHOOD,
+        LinkViolationKind::DuplicateCorner => kind::DUPLICATE,
+        LinkViolationKind::MissingCorners { missing: corners } => {
+            missing = corners;
+            kind::MISSING
+        }
+        other => panic!("the Rust has a kind that has no number: {other:?}"),
+    };
+    let mut words = [0; _];
+    words[0] = violation.marker_id;
+    words[1] = kind;
+    words[2] = violation.reported_corner_id.unwrap_or(0);
+    words[3..7].copy_from_slice(&violation.expected.unwrap_or([0; 4]));
+    words[7] = missing.len() as u32;
+    words[8..8 + missing.len()].copy_from_slice(missing);
+    words
 }

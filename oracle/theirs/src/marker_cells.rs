@@ -4,36 +4,28 @@
 use calib_targets_aruco::MarkerCell;
 use calib_targets_charuco::marker_cells as cells_of_the_rust;
 use calib_targets_core::{Coord, LabeledCorner};
-use cases::corner_lists::{CellsAnswer, CornerLists, FARTHEST, PLACES, WORDS_OF_A_CELL};
+use cases::answer::Answer;
+use cases::corner_lists::{CornerLists, FARTHEST, PLACES, WORDS_OF_A_CELL};
 
 const MOST_CORNERS: usize = 1024;
 const MOST_INLIERS: usize = 1024;
 const MOST_CELLS: usize = 256;
 
-/// The answer that is expected, and the lent list as it is then. The Rust is not asked before the lists have passed
-/// question 18: it walks over all cells between the outermost points.
-pub fn marker_cells(lists: &CornerLists, lent: &mut [i32]) -> CellsAnswer {
+/// The answer that is expected. The Rust is not asked before the lists have passed question 18: it walks over all cells
+/// between the outermost points.
+pub fn marker_cells(lists: &CornerLists) -> Answer {
     if !within_limits(lists) {
-        return refused(18);
+        return Answer::refused(18);
     }
-    if lent.len() < PLACES {
-        return refused(14);
+    if lists.places < PLACES {
+        return Answer::refused(14);
     }
-    let cells = whole_cells(lists);
+    let cells = Labeled::new(lists).cells();
     if cells.len() > MOST_CELLS {
-        return refused(20);
+        return Answer::refused(20);
     }
-    for (place, cell) in lent.chunks_exact_mut(WORDS_OF_A_CELL).zip(&cells) {
-        place.copy_from_slice(cell);
-    }
-    CellsAnswer {
-        number: 0,
-        count: cells.len() as u32,
-    }
-}
-
-const fn refused(number: u32) -> CellsAnswer {
-    CellsAnswer { number, count: 0 }
+    let cells: Vec<_> = cells.iter().map(six_words).collect();
+    Answer::of_results(&cells)
 }
 
 /// Question 18 without turn and translation. The range binds only corners that have a grid point, scores all corners.
@@ -46,21 +38,21 @@ pub fn within_limits(lists: &CornerLists) -> bool {
 }
 
 /// The lists as the Rust takes them.
-pub struct Labeled<'a> {
+pub struct Labeled {
     corners: Vec<LabeledCorner>,
-    inliers: &'a [usize],
+    inliers: Vec<usize>,
 }
 
-impl<'a> Labeled<'a> {
-    pub fn new(lists: &'a CornerLists) -> Self {
+impl Labeled {
+    pub fn new(lists: &CornerLists) -> Self {
         Self {
             corners: labeled_corners(lists),
-            inliers: &lists.inliers,
+            inliers: lists.inliers.clone(),
         }
     }
 
     pub fn cells(&self) -> Vec<MarkerCell> {
-        cells_of_the_rust(&self.corners, self.inliers)
+        cells_of_the_rust(&self.corners, &self.inliers)
     }
 }
 
@@ -75,14 +67,9 @@ pub fn labeled_corners(lists: &CornerLists) -> Vec<LabeledCorner> {
     labeled.collect()
 }
 
-/// Six words for each cell.
-fn whole_cells(lists: &CornerLists) -> Vec<[i32; WORDS_OF_A_CELL]> {
-    let cells = Labeled::new(lists).cells();
-    let six_words = cells.iter().map(|cell| {
-        let [top_left, top_right, bottom_right, bottom_left] =
-            cell.corners_img.map(|position| position.x as i32);
-        let Coord { u, v } = cell.gc;
-        [u, v, top_left, top_right, bottom_right, bottom_left]
-    });
-    six_words.collect()
+fn six_words(cell: &MarkerCell) -> [u32; WORDS_OF_A_CELL] {
+    let [top_left, top_right, bottom_right, bottom_left] =
+        cell.corners_img.map(|position| position.x as u32);
+    let [u, v] = [cell.gc.u, cell.gc.v].map(i32::cast_unsigned);
+    [u, v, top_left, top_right, bottom_right, bottom_left]
 }

@@ -1,11 +1,12 @@
 //! `board_match/`: the scores and weights of sampled cells, and what an emitted marker has of its cell.
 
+use crate::likelihood::BUILT_IN;
 use calib_targets_aruco::{CellSamples, Dictionary, MarkerCell, MarkerDetection};
-use calib_targets_charuco::{CharucoBoard, CharucoBoardSpec, ScoreSettings, ScoredCells};
+use calib_targets_charuco::{CharucoBoard, CharucoBoardSpec, MatchSettings};
 use calib_targets_core::{Coord, GRID_TRANSFORMS_C4};
 use cases::cells::Cell;
 
-use crate::likelihood::BUILT_IN;
+pub use calib_targets_charuco::ScoredCells as Scores;
 
 /// Upstream's default.
 pub const BORDER_THRESHOLD: f32 = 0.5;
@@ -16,18 +17,19 @@ pub struct Samples(Vec<Option<CellSamples>>);
 impl Samples {
     /// Sampled cells, with a border that is wholly black.
     pub fn new(cells: &[Cell]) -> Self {
-        Self(cells.iter().map(|cell| Some(samples(cell, 1.0))).collect())
+        let samples = cells.iter().cloned().map(|cell| cell_samples(cell, 1.0));
+        Self(samples.map(Some).collect())
     }
 }
 
-fn samples(cell: &Cell, fraction: f32) -> CellSamples {
+pub fn cell_samples(cell: Cell, fraction: f32) -> CellSamples {
     CellSamples {
-        mean_grid: cell.grid.clone(),
+        cells_per_side: Cell::side([cell.bits, cell.border]),
+        mean_grid: cell.grid,
         otsu_threshold: cell.threshold,
         border_black_fraction: fraction,
-        border_bits: usize::from(cell.border),
-        bits_per_side: usize::from(cell.bits),
-        cells_per_side: Cell::side(cell.bits, cell.border),
+        border_bits: cell.border.into(),
+        bits_per_side: cell.bits.into(),
     }
 }
 
@@ -54,41 +56,11 @@ impl ScoreBoard {
     fn score(
         &self,
         samples: &[Option<CellSamples>],
-        [slope, floor]: [f32; 2],
+        slope_and_floor: [f32; 2],
         border_threshold: f32,
     ) -> Scores {
-        let settings = ScoreSettings {
-            bit_likelihood_slope: slope,
-            per_bit_floor: floor,
-            cell_weight_border_threshold: border_threshold,
-        };
-        let scored = ScoredCells::new(&self.0, samples, settings).expect("there are markers");
-        let scores_of_a_cell = self.0.marker_count() * 4;
-        Scores {
-            scored,
-            scores_of_a_cell,
-        }
-    }
-}
-
-pub struct Scores {
-    scored: ScoredCells,
-    scores_of_a_cell: usize,
-}
-
-impl Scores {
-    /// Cell by cell, in each cell code by code, of each code the four turns.
-    pub fn all(&self) -> &[f32] {
-        self.scored.scores()
-    }
-
-    /// Code by code, of each code the four turns.
-    pub fn of_cell(&self, cell: usize) -> &[f32] {
-        &self.all()[cell * self.scores_of_a_cell..][..self.scores_of_a_cell]
-    }
-
-    pub fn evidence(&self, cell: usize, code: usize, turn: u8) -> f32 {
-        self.scored.evidence(cell, code as u32, turn)
+        let settings = MatchSettings::new(slope_and_floor, border_threshold);
+        Scores::new(&self.0, samples, settings).expect("there are markers")
     }
 }
 
@@ -101,25 +73,20 @@ fn board_of_two(bits: u8, codes: &'static [u64; 2]) -> ScoreBoard {
 
 /// A cell that shows a code of all bits beyond doubt.
 fn black(bits: u8, border: u8) -> Cell {
-    let side = Cell::side(bits, border);
-    Cell {
-        bits,
-        border,
-        threshold: 255,
-        grid: vec![0; side * side],
-    }
+    let side = Cell::side([bits, border]);
+    Cell::new([bits, border], 255, vec![0; side * side])
 }
 
 pub fn null_score(bits: u8) -> f32 {
-    let scores = board_of_two(bits, &NO_BITS).scores(&Samples(Vec::new()), BUILT_IN);
-    scores.scored.null_score()
+    let board = board_of_two(bits, &NO_BITS);
+    board.scores(&Samples(Vec::new()), BUILT_IN).null_score()
 }
 
 /// The fraction does not count where the cell is not sampled.
 pub fn cell_weight(border_threshold: f32, sampled: bool, fraction: f32) -> f32 {
-    let samples = sampled.then(|| samples(&black(1, 1), fraction));
+    let samples = sampled.then(|| cell_samples(black(1, 1), fraction));
     let scores = board_of_two(1, &NO_BITS).score(&[samples], BUILT_IN, border_threshold);
-    scores.scored.weights()[0]
+    scores.weights()[0]
 }
 
 /// The marker that the Rust emits in a cell at a grid point, `turn` being 0 to 3. It reads a cell when it emits a marker,
@@ -133,10 +100,8 @@ fn emitted(cell: &Cell, turn: u8, [u, v]: [i32; 2]) -> MarkerDetection {
     // Marker 0 is in the square (1, 0).
     let turned = turn.apply(place.gc);
     let alignment = turn.with_translation([1 - turned.u, -turned.v]);
-    let cell = Some(samples(cell, 1.0));
-    let mut markers = scores
-        .scored
-        .emitted(&board.0, &[place], &[cell], &alignment, 1.0);
+    let cell = Some(cell_samples(cell.clone(), 1.0));
+    let mut markers = scores.emitted(&board.0, &[place], &[cell], &alignment, 1.0);
     markers.remove(0)
 }
 

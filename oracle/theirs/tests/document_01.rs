@@ -1,12 +1,14 @@
 //! The examples that document 01 gives for these modules (P1 to P8, P10, P12), asked of the upstream Rust. They also
 //! hold the stand-ins to that paper, above all the table of quarter turns, which is not in the given upstream text.
 
-use cases::boards::CodeLists;
+use cases::answer::Answer;
 use cases::link_entry::example;
 use theirs::{
     Board, cell_weight, corner_translation, links_by_rules, links_by_rust, null_score, rotate_code,
-    sorted, turned,
+    turned, unordered,
 };
+
+const TURNS: [u8; 4] = [0, 1, 2, 3];
 
 fn board(rows: u8, cols: u8) -> Board {
     Board::new(rows, cols, 1.0)
@@ -33,22 +35,15 @@ fn p3_corners() {
 
 #[test]
 fn p4_p5_turned_codes() {
-    assert_eq!(
-        [0, 1, 2, 3].map(|turn| rotate_code(1, 2, turn)),
-        [1, 2, 8, 4]
-    );
-    assert_eq!(
-        [0, 1, 2, 3].map(|turn| rotate_code(2, 3, turn)),
-        [2, 32, 128, 8]
-    );
+    let turned = |code, side| TURNS.map(|turn| rotate_code(code, side, turn));
+    assert_eq!(turned(1, 2), [1, 2, 8, 4]);
+    assert_eq!(turned(2, 3), [2, 32, 128, 8]);
 }
 
 #[test]
 fn p6_corner_translations() {
-    assert_eq!(
-        [0, 1, 2, 3].map(|turn| corner_translation(turn, [5, 7])),
-        [[5, 7], [5, 8], [6, 8], [6, 7]]
-    );
+    let translations = TURNS.map(|turn| corner_translation(turn, [5, 7]));
+    assert_eq!(translations, [[5, 7], [5, 8], [6, 8], [6, 7]]);
 }
 
 #[test]
@@ -69,27 +64,18 @@ fn p8_links() {
         [3, 4, 1, 1, 2, 6, 5, 0, 0, 0, 0, 0],
         [3, 5, 0, 1, 2, 6, 5, 3, 2, 6, 5, 0],
     ];
-    let mut lists = CodeLists::default();
     for (all_four, count) in [(false, 2), (true, 3)] {
         let input = example(all_four);
-        let codes = lists.of(&input.board);
-        let mut lent = vec![0; input.places];
-        let answer = links_by_rules(&input, codes, &mut lent);
-        assert_eq!(answer.number(), 0);
-        assert_eq!(answer.count(), count);
-        assert_eq!(lent[..12 * count], expected[..count].concat());
-        assert!(lent[12 * count..].iter().all(|&word| word == 0));
-        let by_rust = links_by_rust(&input, codes).expect("it is checked");
-        assert_eq!(sorted(&by_rust), sorted(&expected[..count]));
+        let expected = Answer::of_results(&expected[..count]);
+        assert_eq!(links_by_rules(&input), expected);
+        assert_eq!(links_by_rust(&input), unordered(&expected));
     }
 }
 
 #[test]
 fn quarter_turns() {
-    assert_eq!(
-        [0, 1, 2, 3].map(|turn| turned(turn, [3, 8])),
-        [[3, 8], [8, -3], [-3, -8], [-8, 3]]
-    );
+    let turned = TURNS.map(|turn| turned(turn, [3, 8]));
+    assert_eq!(turned, [[3, 8], [8, -3], [-3, -8], [-8, 3]]);
 }
 
 #[test]

@@ -1,29 +1,19 @@
-//! The corner and link entries, asked of the upstream Rust: that indices come back through its positions, which corner
-//! wins, the order of the questions, and that the rules for links are those of the Rust but for their order.
+//! The entries, asked of the upstream Rust: that indices come back through its positions, the order of cells and of their
+//! corners, which corner wins, and the order of the questions.
 
-use cases::boards::CodeLists;
+use cases::answer::Answer;
+use cases::boards::board;
 use cases::corner_entry::CornerInput;
-use cases::entries::{EntryAnswer, board};
-use cases::link_entry::{self, LinkInput, of_most_links, random_inputs, whole_boards};
-use cases::prng::Prng;
-use theirs::{links_by_rules, links_by_rust, map_charuco_corners, sorted};
-
-fn mapped(input: &CornerInput) -> (EntryAnswer, Vec<u32>) {
-    let mut lent = vec![u32::MAX; input.lists.places];
-    let codes = CodeLists::default().of(&input.board);
-    let answer = map_charuco_corners(input, codes, &mut lent);
-    let written = lent.iter().take_while(|&&word| word != u32::MAX).count();
-    assert!(lent[written..].iter().all(|&word| word == u32::MAX));
-    lent.truncate(written);
-    (answer, lent)
-}
+use cases::corner_lists::{CornerLists, PLACES, rectangle};
+use cases::link_entry;
+use theirs::{links_by_rules, map_charuco_corners, marker_cells};
 
 fn input() -> CornerInput {
     CornerInput::new(board([4, 5], 2.0), 3, [-1, 6])
 }
 
 #[test]
-fn by_rising_id() {
+fn corners_by_rising_id() {
     let mut input = input();
     for corner in [[4, 3], [0, 1], [2, 1], [5, 3], [1, 1]] {
         input.add_on(corner, 0.5);
@@ -31,12 +21,12 @@ fn by_rising_id() {
     input.add([0, 0, 0], 9.0);
     let [two, four, six, eight] = [2.0f32, 4.0, 6.0, 8.0].map(f32::to_bits);
     #[rustfmt::skip]
-    let expected = vec![
-        0, 4, 1, 1, two, two,
-        1, 2, 2, 1, four, two,
-        11, 0, 4, 3, eight, six,
+    let expected = [
+        [0, 4, 1, 1, two, two],
+        [1, 2, 2, 1, four, two],
+        [11, 0, 4, 3, eight, six],
     ];
-    assert_eq!(mapped(&input), (EntryAnswer::Written(3), expected));
+    assert_eq!(map_charuco_corners(&input), Answer::of_results(&expected));
 }
 
 #[test]
@@ -46,7 +36,7 @@ fn the_greatest_score_and_the_earlier_on_a_tie() {
         for &score in scores {
             input.add_on([1, 1], score);
         }
-        mapped(&input).1[1]
+        map_charuco_corners(&input).list[1]
     };
     assert_eq!(index(&[0.5, 0.75, 0.75, 0.25]), 1);
     assert_eq!(index(&[0.0, -0.0]), 0);
@@ -58,42 +48,51 @@ fn the_greatest_score_and_the_earlier_on_a_tie() {
 fn questions_in_their_order() {
     let mut input = input();
     input.lists.places -= 1;
-    assert_eq!(mapped(&input).0, EntryAnswer::refused(14));
+    assert_eq!(map_charuco_corners(&input), Answer::refused(14));
     input.turn = 4;
-    assert_eq!(mapped(&input).0, EntryAnswer::refused(18));
+    assert_eq!(map_charuco_corners(&input), Answer::refused(18));
     input.board.rows = 1;
-    assert_eq!(mapped(&input).0, EntryAnswer::refused(1));
+    assert_eq!(map_charuco_corners(&input), Answer::refused(1));
     let mut links = link_entry::example(true);
-    let codes = CodeLists::default().of(&links.board);
-    let number = |links: &LinkInput| links_by_rules(links, codes, &mut []).number();
     links.places -= 1;
-    assert_eq!(number(&links), 14);
+    assert_eq!(links_by_rules(&links), Answer::refused(14));
     links.words.resize(2 * 4097, 0);
-    assert_eq!(number(&links), 19);
+    assert_eq!(links_by_rules(&links), Answer::refused(19));
     links.board.cell_size = 0.0;
-    assert_eq!(number(&links), 2);
+    assert_eq!(links_by_rules(&links), Answer::refused(2));
 }
 
 #[test]
-fn rules_of_the_rust() {
-    let mut prng = Prng::new(31);
-    let mut lists = CodeLists::default();
-    let groups = [
-        random_inputs(&mut prng, 2_000),
-        whole_boards(&mut prng, 100),
-        of_most_links(&mut prng),
+fn cells_row_by_row() {
+    let lists = CornerLists::of_points(rectangle([5, 7], [3, 3]));
+    #[rustfmt::skip]
+    let expected = [
+        [5, 7, 0, 1, 4, 3],
+        [6, 7, 1, 2, 5, 4],
+        [5, 8, 3, 4, 7, 6],
+        [6, 8, 4, 5, 8, 7],
     ];
-    for input in groups.iter().flatten() {
-        let codes = lists.of(&input.board);
-        let mut lent = vec![0; input.places];
-        let by_rules = links_by_rules(input, codes, &mut lent);
-        match links_by_rust(input, codes) {
-            Err(refused) => assert_eq!(by_rules, refused),
-            Ok(by_rust) => {
-                let (words, _) = lent.as_chunks();
-                let by_rules = &words[..by_rules.count()];
-                assert_eq!(sorted(by_rules), sorted(&by_rust), "{input}");
-            }
-        }
-    }
+    assert_eq!(marker_cells(&lists), Answer::of_results(&expected));
+}
+
+#[test]
+fn the_last_inlier_wins() {
+    let square = [[0, 0], [1, 0], [1, 1], [0, 1], [1, 1], [1, 1]];
+    let mut lists = CornerLists::of_points(square);
+    assert_eq!(marker_cells(&lists).list, [0, 0, 0, 1, 5, 3]);
+    lists.inliers = vec![0, 5, 4, 1, 2, 3, 6];
+    assert_eq!(marker_cells(&lists).list, [0, 0, 0, 1, 2, 3]);
+}
+
+#[test]
+fn questions_of_cells_in_their_order() {
+    let mut lists = CornerLists::of_points(rectangle([0, 0], [18, 17]));
+    assert_eq!(marker_cells(&lists), Answer::refused(20));
+    lists.places = PLACES - 1;
+    assert_eq!(marker_cells(&lists), Answer::refused(14));
+    lists.scores[0] = f32::NAN;
+    assert_eq!(marker_cells(&lists), Answer::refused(18));
+    let lists = CornerLists::of_points(rectangle([0, 0], [17, 17]));
+    let answer = marker_cells(&lists);
+    assert_eq!((answer.number, answer.words), (0, vec![256]));
 }

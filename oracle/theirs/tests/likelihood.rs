@@ -22,10 +22,9 @@ fn the_built_in_table() {
 /// A cell of one bit for every threshold and grey: its score is the one entry that is added to 0.
 #[test]
 fn entries_are_what_the_rust_adds() {
-    let mut cells = Vec::new();
-    for threshold in 0..=u8::MAX {
-        cells.extend((0..=u8::MAX).map(|grey| one_bit(threshold, grey)));
-    }
+    let thresholds = 0..=u8::MAX;
+    let of_threshold = |threshold| (0..=u8::MAX).map(move |grey| one_bit(threshold, grey));
+    let cells: Vec<Cell> = thresholds.flat_map(of_threshold).collect();
     let samples = Samples::new(&cells);
     let board = ScoreBoard::new(1, &[0, 1]);
     for slope_and_floor in SLOPES_AND_FLOORS {
@@ -35,24 +34,15 @@ fn entries_are_what_the_rust_adds() {
             let entry = usize::from(cell.threshold) + 255 - usize::from(cell.grid[4]);
             let added = [table[510 - entry], table[entry]].map(|entry| 0.0 + entry);
             let of_rust = [scores.of_cell(place)[0], scores.of_cell(place)[4]];
-            assert_eq!(
-                of_rust.map(f32::to_bits),
-                added.map(f32::to_bits),
-                "{slope_and_floor:?} {cell:?}"
-            );
+            let [added, of_rust] = [added, of_rust].map(|two| two.map(f32::to_bits));
+            assert_eq!(of_rust, added, "{slope_and_floor:?} {cell:?}");
         }
     }
 }
 
 fn one_bit(threshold: u8, grey: u8) -> Cell {
-    let mut grid = vec![0; 9];
-    grid[4] = grey;
-    Cell {
-        bits: 1,
-        border: 1,
-        threshold,
-        grid,
-    }
+    let grid = vec![0, 0, 0, 0, grey, 0, 0, 0, 0];
+    Cell::new([1, 1], threshold, grid)
 }
 
 #[test]
@@ -65,14 +55,12 @@ fn the_rule_gives_the_scores_of_the_rust() {
         for border in BORDERS {
             let cell = Cell::random(&mut prng, [bits, border]);
             let scores = board.scores(&Samples::new(std::slice::from_ref(&cell)), BUILT_IN);
-            let turned = codes
-                .iter()
-                .flat_map(|&code| TURNS.map(move |turn| rotate_code(code, bits, turn)));
-            let by_rule: Vec<u32> = turned
-                .map(|code| score_by_table(&table, &cell, code).to_bits())
-                .collect();
-            let of_rust: Vec<u32> = scores.of_cell(0).iter().map(|x| x.to_bits()).collect();
-            assert_eq!(by_rule, of_rust, "{cell:?}");
+            let turns = |&code| TURNS.map(move |turn| rotate_code(code, bits, turn));
+            let turned = codes.iter().flat_map(turns);
+            for (code, score) in turned.zip(scores.of_cell(0)) {
+                let by_rule = score_by_table(&table, &cell, code);
+                assert_eq!(by_rule.to_bits(), score.to_bits(), "{code:X} {cell:?}");
+            }
         }
     }
 }
@@ -80,17 +68,7 @@ fn the_rule_gives_the_scores_of_the_rust() {
 /// Document 01: a bit is set where the grey is below the threshold.
 #[test]
 fn read_codes() {
-    let grid = vec![
-        0, 0, 0, 0, //
-        0, 99, 100, 0, //
-        0, 101, 0, 0, //
-        0, 0, 0, 0,
-    ];
-    let cell = Cell {
-        bits: 2,
-        border: 1,
-        threshold: 100,
-        grid,
-    };
+    let grid = [[0, 0, 0, 0], [0, 99, 100, 0], [0, 101, 0, 0], [0, 0, 0, 0]].concat();
+    let cell = Cell::new([2, 1], 100, grid);
     assert_eq!(read_code(&cell), 0b1001);
 }

@@ -1,3 +1,3 @@
 fn main() {
-    upstream_text::declare(&[("matcher", "crates/calib-targets-aruco/src/matcher.rs")]);
+    upstream_text::declare("crates/calib-targets-aruco/src", &["matcher.rs"]);
 }

@@ -1,23 +1,12 @@
+const FOLDER: &str = "crates/calib-targets-charuco/src";
+
 fn main() {
-    upstream_text::declare(&[
-        ("alignment", "crates/calib-targets-charuco/src/alignment.rs"),
-        ("board", "crates/calib-targets-charuco/src/board.rs"),
-        (
-            "corner_mapping",
-            "crates/calib-targets-charuco/src/detector/corner_mapping.rs",
-        ),
-        (
-            "link_check",
-            "crates/calib-targets-charuco/src/link_check.rs",
-        ),
-        (
-            "marker_sampling",
-            "crates/calib-targets-charuco/src/detector/marker_sampling.rs",
-        ),
-    ]);
+    let files = ["alignment.rs", "board.rs", "link_check.rs"];
+    upstream_text::declare(FOLDER, &files);
+    let detector = format!("{FOLDER}/detector");
+    upstream_text::declare(&detector, &["corner_mapping.rs", "marker_sampling.rs"]);
     upstream_text::declare_folder(
-        "board_match",
-        "crates/calib-targets-charuco/src/detector/board_match",
+        &format!("{detector}/board_match"),
         &["mod.rs", "emit.rs", "hypothesis.rs", "score_matrix.rs"],
         "src/diagnostics.rs",
     );

@@ -1,14 +1,9 @@
 fn main() {
-    upstream_text::declare(&[
-        (
-            "bit_likelihood",
-            "crates/calib-targets-core/src/bit_likelihood.rs",
-        ),
-        ("corner_map", "crates/calib-targets-core/src/corner_map.rs"),
-        (
-            "grid_alignment",
-            "crates/calib-targets-core/src/grid_alignment.rs",
-        ),
-        ("image", "crates/calib-targets-core/src/image.rs"),
-    ]);
+    let files = [
+        "bit_likelihood.rs",
+        "corner_map.rs",
+        "grid_alignment.rs",
+        "image.rs",
+    ];
+    upstream_text::declare("crates/calib-targets-core/src", &files);
 }

@@ -13,32 +13,31 @@ const DEFAULT: &str = "../../shared/docs/src";
 /// Features that the upstream text asks about. All stay off, unless a crate here turns one on.
 const UPSTREAM_FEATURES: &str = r#""diagnostics", "schemars", "tracing""#;
 
-/// Declares each file, given by its path below the upstream folder, as the module with the name beside it.
-pub fn declare(modules: &[(&str, &str)]) {
+/// Declares each file of a folder below the upstream one as the module that has its name.
+pub fn declare(folder: &str, files: &[&str]) {
     begin();
-    for (module, file) in modules {
-        if let Some(file) = found(&upstream_folder().join(file)) {
-            declare_one(module, &file);
+    for file in files {
+        if let Some(file) = found(&upstream_folder().join(folder).join(file)) {
+            declare_one(&file, &file);
         }
     }
 }
 
-/// Declares the `mod.rs` of an upstream folder as the module. A file of our own stands among its children, which
-/// come from the same folder as `mod.rs`; so the files, and ours under their name, are copied into one.
-pub fn declare_folder(module: &str, folder: &str, files: &[&str], ours: &str) {
+/// Declares the `mod.rs` of an upstream folder as the module that has its name. A file of our own stands among its
+/// children, which come from the same folder as `mod.rs`; so the files, and ours under their name, are copied into one.
+pub fn declare_folder(folder: &str, files: &[&str], ours: &str) {
     begin();
-    let copies = folder_from_cargo("OUT_DIR").join(module);
-    fs::create_dir_all(&copies).expect(WRITABLE);
     let upstream = upstream_folder().join(folder);
+    let copies = folder_from_cargo("OUT_DIR").join(upstream.file_name().expect(NAMED));
+    fs::create_dir_all(&copies).expect(WRITABLE);
     let theirs = files.iter().map(|file| upstream.join(file));
     for file in theirs.chain([folder_from_cargo("CARGO_MANIFEST_DIR").join(ours)]) {
         let Some(file) = found(&file) else { return };
-        let name = file.file_name().expect("a file has a name");
         // Not `fs::copy`, by which a copy that may only be read could not be written again.
         let text = fs::read(&file).expect("the file can be read");
-        fs::write(copies.join(name), text).expect(WRITABLE);
+        fs::write(copies.join(file.file_name().expect(NAMED)), text).expect(WRITABLE);
     }
-    declare_one(module, &copies.join("mod.rs"));
+    declare_one(&copies, &copies.join("mod.rs"));
 }
 
 fn begin() {
@@ -59,6 +58,7 @@ fn folder_from_cargo(variable: &str) -> PathBuf {
 }
 
 const WRITABLE: &str = "cargo's folder can be written";
+const NAMED: &str = "a file or a folder has a name";
 
 /// The whole path of a file that the crate is built from.
 fn found(file: &Path) -> Option<PathBuf> {
@@ -74,7 +74,8 @@ fn found(file: &Path) -> Option<PathBuf> {
 }
 
 /// The text may hold more than is used here.
-fn declare_one(module: &str, file: &Path) {
+fn declare_one(named: &Path, file: &Path) {
+    let module = named.file_stem().expect(NAMED).display();
     let line =
         format!("#[allow(dead_code, unused_imports)]\n#[path = {file:?}]\npub mod {module};\n");
     let declaration = folder_from_cargo("OUT_DIR").join(format!("{module}.rs"));

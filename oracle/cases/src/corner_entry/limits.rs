@@ -1,9 +1,10 @@
 //! Inputs at the limits of the corner entry's questions and past them, one limit at a time and two at once.
 
 use super::{CornerInput, FARTHEST_TRANSLATION, words_needed};
-use crate::corner_lists::limits::{COORDINATES, SCORES};
+use crate::boards::{board, changed_boards};
+use crate::corner_lists::limits::{COORDINATES, HIGHEST, LOWEST, SCORES};
 use crate::corner_lists::{FARTHEST, NO_POINT};
-use crate::entries::{self, board, changed_boards, lengths_around};
+use crate::entries::{self, changed, lengths_around};
 use crate::prng::Prng;
 
 type Change = fn(&mut CornerInput);
@@ -29,19 +30,9 @@ const REFUSALS: [Change; 14] = [
 /// Turns that look like good ones when they are cut.
 const LONG_TURNS: [u32; 6] = [256, 257, 259, 65_536, (1 << 31) + 1, u32::MAX];
 
+/// Around the farthest one and around that of a grid point, and the ends of the range.
 const TRANSLATIONS: [i32; 12] = [
-    0,
-    4096,
-    4097,
-    -4097,
-    FARTHEST_TRANSLATION,
-    -FARTHEST_TRANSLATION,
-    FARTHEST_TRANSLATION + 1,
-    -FARTHEST_TRANSLATION - 1,
-    65_536,
-    -65_536,
-    i32::MAX,
-    i32::MIN,
+    0, 4096, 4097, -4097, 8192, -8192, 8193, -8193, 65_536, -65_536, HIGHEST, LOWEST,
 ];
 
 /// How many corners there are.
@@ -56,38 +47,35 @@ pub fn pairs_of_refusals() -> Vec<CornerInput> {
 pub fn alignments() -> Vec<CornerInput> {
     let turns = (0..=255).chain(LONG_TURNS);
     let turned = turns.map(|turn| CornerInput { turn, ..small() });
-    let moved = [0, 1].into_iter().flat_map(|axis| {
-        TRANSLATIONS.map(|t| {
-            let mut input = small();
-            input.translation[axis] = t;
-            input
-        })
-    });
-    turned.chain(moved).collect()
+    let along =
+        |axis: usize| TRANSLATIONS.map(|t| changed(&small(), |input| input.translation[axis] = t));
+    turned.chain([0, 1].into_iter().flat_map(along)).collect()
 }
 
 /// Good input with one number of its lists changed to one at a limit or past it.
 pub fn single_changes() -> Vec<CornerInput> {
-    let corners = 0..small().lists.count();
+    let good = small();
+    let corners = 0..good.lists.count();
     let mut all: Vec<CornerInput> = corners.flat_map(changed_corner).collect();
-    all.extend(changed_lengths());
+    all.extend(changed_lengths(&good));
+    // Without grid words no corner has a grid point.
+    let mut without_points = changed_lengths(&good);
+    without_points
+        .iter_mut()
+        .for_each(|input| input.lists.grid.clear());
+    all.append(&mut without_points);
     all
-}
-
-fn changed(change: impl Fn(&mut CornerInput)) -> CornerInput {
-    let mut input = small();
-    change(&mut input);
-    input
 }
 
 /// With other scores, and with grid points far off, which count or do not.
 fn changed_corner(corner: usize) -> Vec<CornerInput> {
-    let scores = SCORES.map(|score| changed(|input| input.lists.scores[corner] = score));
+    let good = small();
+    let scores = SCORES.map(|score| changed(&good, |input| input.lists.scores[corner] = score));
     let mut all = scores.to_vec();
     for coordinate in COORDINATES {
         for has in [1, 0, i32::MIN] {
             all.extend([1, 2].map(|axis| {
-                changed(|input| {
+                changed(&good, |input| {
                     input.lists.grid[3 * corner] = has;
                     input.lists.grid[3 * corner + axis] = coordinate;
                 })
@@ -97,37 +85,27 @@ fn changed_corner(corner: usize) -> Vec<CornerInput> {
     all
 }
 
-/// With other lengths of each list; without grid words no corner has a grid point.
-fn changed_lengths() -> Vec<CornerInput> {
-    let mut all = Vec::new();
-    for places in lengths_around(small().lists.places).chain([0, 1, 6]) {
-        all.push(changed(|input| input.lists.places = places));
-    }
-    for words in 0..=small().lists.grid.len() + 1 {
-        all.push(changed(|input| input.lists.grid.resize(words, 1)));
-    }
-    for count in COUNTS {
-        all.push(changed(|input| grow(input, count)));
-    }
-    let without_points = all.clone().into_iter().map(|mut input| {
-        input.lists.grid.clear();
-        input
-    });
-    all.extend(without_points.collect::<Vec<_>>());
-    all
+/// With other lengths of each list.
+fn changed_lengths(good: &CornerInput) -> Vec<CornerInput> {
+    let places = lengths_around(good.lists.places).chain([0, 1, 6]);
+    let words = 0..=good.lists.grid.len() + 1;
+    let of_places = places.map(|n| changed(good, |input| input.lists.places = n));
+    let of_words = words.map(|n| changed(good, |input| input.lists.grid.resize(n, 1)));
+    let of_counts = COUNTS.map(|n| changed(good, |input| grow(input, n)));
+    of_places.chain(of_words).chain(of_counts).collect()
 }
 
 /// The small input on boards that may be refused.
 pub fn on_changed_boards(prng: &mut Prng, count: usize) -> Vec<CornerInput> {
     let boards = changed_boards(prng, count).into_iter();
-    let inputs = boards.map(|board| {
-        let mut input = small();
-        input.board = board;
-        // Boards that are too large must not ask for a list.
-        input.lists.places = words_needed(&board).min(6000);
-        input
-    });
-    inputs.collect()
+    let on_board = |board| {
+        changed(&small(), |input| {
+            input.board = board;
+            // Boards that are too large must not ask for a list.
+            input.lists.places = words_needed(&board).min(6000);
+        })
+    };
+    boards.map(on_board).collect()
 }
 
 /// Seven corners on a board of 4 rows and 5 columns: two on one board corner, one beside the board, one without a grid

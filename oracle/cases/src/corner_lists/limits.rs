@@ -1,13 +1,15 @@
 //! Lists at their limits and past them, one limit at a time and two at once.
 
 use super::{CornerLists, FARTHEST, NO_POINT, PLACES, rectangle};
+use crate::entries::{self, changed};
+use crate::floats::{INF, LEAST, MAX, MIN, NAN, SIGNALLING};
 
 type Change = fn(&mut CornerLists);
 
 /// Past every limit of the entry's questions. Which of two is named shows the order of the questions.
 const REFUSALS: [Change; 12] = [
     |lists| grow_corners(lists, 1025),
-    |lists| grow_inliers(lists, 1025),
+    |lists| grow_inliers(lists, 1025, 1),
     |lists| move_corner(lists, [FARTHEST + 1, 0]),
     |lists| move_corner(lists, [0, -FARTHEST - 1]),
     |lists| move_corner(lists, [i32::MIN, i32::MAX]),
@@ -21,32 +23,16 @@ const REFUSALS: [Change; 12] = [
 ];
 
 /// Telling scores; the last five are not finite.
-pub const SCORES: [f32; 10] = [
-    0.0,
-    -0.0,
-    f32::from_bits(1),
-    f32::MAX,
-    f32::MIN,
-    f32::INFINITY,
-    f32::NEG_INFINITY,
-    f32::NAN,
-    -f32::NAN,
-    f32::from_bits(0x7F80_0001),
-];
+pub const SCORES: [f32; 10] = [0.0, -0.0, LEAST, MAX, MIN, INF, -INF, NAN, -NAN, SIGNALLING];
 
+pub const LOWEST: i32 = i32::MIN;
+pub const HIGHEST: i32 = i32::MAX;
+const NEXT_LOW: i32 = LOWEST + 1;
+const NEXT_HIGH: i32 = HIGHEST - 1;
+
+/// Around the farthest one, and the ends of the range.
 pub const COORDINATES: [i32; 12] = [
-    FARTHEST,
-    FARTHEST + 1,
-    -FARTHEST,
-    -FARTHEST - 1,
-    8192,
-    -8192,
-    65_536,
-    -65_536,
-    i32::MAX,
-    i32::MAX - 1,
-    i32::MIN,
-    i32::MIN + 1,
+    4096, 4097, -4096, -4097, 8192, -8192, 65_536, -65_536, HIGHEST, NEXT_HIGH, LOWEST, NEXT_LOW,
 ];
 
 const LENT: [usize; 10] = [0, 1, 5, 6, 1530, 1535, 1536, 1537, 2000, 3000];
@@ -56,26 +42,13 @@ const COUNTS: [usize; 5] = [1022, 1023, 1024, 1025, 1030];
 
 /// Each pair of refusals, each of them alone, and none.
 pub fn pairs_of_refusals() -> Vec<CornerLists> {
-    let mut all = vec![small()];
-    for first in REFUSALS {
-        for second in REFUSALS {
-            let mut lists = small();
-            first(&mut lists);
-            second(&mut lists);
-            all.push(lists);
-        }
-    }
-    all
+    entries::pairs(&small(), &REFUSALS)
 }
 
 /// Good lists with one number changed to one at a limit or past it.
 pub fn single_changes() -> Vec<CornerLists> {
     let mut all = Vec::new();
-    let mut changed = |change: &dyn Fn(&mut CornerLists)| {
-        let mut lists = small();
-        change(&mut lists);
-        all.push(lists);
-    };
+    let mut changed = |change: &dyn Fn(&mut CornerLists)| all.push(changed(&small(), change));
     for corner in 0..small().count() {
         for score in SCORES {
             changed(&|lists| lists.scores[corner] = score);
@@ -84,7 +57,7 @@ pub fn single_changes() -> Vec<CornerLists> {
     for coordinate in COORDINATES {
         for point in [[coordinate, 0], [0, coordinate]] {
             changed(&|lists| move_corner(lists, point));
-            changed(&|lists| put_without_point(lists, point));
+            changed(&|lists| put_corner(lists, 0, point));
             changed(&|lists| {
                 // The corner counts though it is no inlier.
                 move_corner(lists, point);
@@ -105,19 +78,17 @@ pub fn single_changes() -> Vec<CornerLists> {
     }
     for count in COUNTS {
         changed(&|lists| grow_corners(lists, count));
-        changed(&|lists| grow_inliers(lists, count));
-        changed(&|lists| grow_inliers_with(lists, count, usize::MAX));
+        changed(&|lists| grow_inliers(lists, count, 1));
+        changed(&|lists| grow_inliers(lists, count, usize::MAX));
         changed(&|lists| {
             grow_corners(lists, count);
-            grow_inliers(lists, count);
+            grow_inliers(lists, count, 1);
         });
     }
     for whole in [[17, 17], [2, 257], [257, 2], [3, 129]] {
         changed(&|lists| alone(lists, whole));
-        changed(&|lists| {
-            // 256 cells, and one of `small` besides.
-            add_rectangle(lists, [10, 10], whole);
-        });
+        // 256 cells, and one of `small` besides.
+        changed(&|lists| add_rectangle(lists, [10, 10], whole));
     }
     // 255, 257 and 259 cells.
     for whole in [[16, 18], [2, 256], [2, 258], [258, 2], [8, 38]] {
@@ -145,23 +116,19 @@ fn grow_corners(lists: &mut CornerLists, count: usize) {
     }
 }
 
-fn grow_inliers(lists: &mut CornerLists, count: usize) {
-    grow_inliers_with(lists, count, 1);
-}
-
-fn grow_inliers_with(lists: &mut CornerLists, count: usize, index: usize) {
+fn grow_inliers(lists: &mut CornerLists, count: usize, index: usize) {
     let count = count.max(lists.inliers.len());
     lists.inliers.resize(count, index);
 }
 
 /// The last corner of `small`, which had a point.
-fn move_corner(lists: &mut CornerLists, [u, v]: [i32; 2]) {
-    lists.grid[15..18].copy_from_slice(&[1, u, v]);
-    lists.inliers.push(5);
+fn move_corner(lists: &mut CornerLists, point: [i32; 2]) {
+    put_corner(lists, 1, point);
 }
 
-fn put_without_point(lists: &mut CornerLists, [u, v]: [i32; 2]) {
-    lists.grid[15..18].copy_from_slice(&[0, u, v]);
+/// With a point or without one.
+fn put_corner(lists: &mut CornerLists, has: i32, [u, v]: [i32; 2]) {
+    lists.grid[15..18].copy_from_slice(&[has, u, v]);
     lists.inliers.push(5);
 }
 

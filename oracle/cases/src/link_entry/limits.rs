@@ -2,7 +2,8 @@
 
 use super::random::TWINS;
 use super::{LinkInput, MOST_LINKS, WORDS_FOR_A_LINK, example};
-use crate::entries::{self, changed_boards, lengths_around};
+use crate::boards::changed_boards;
+use crate::entries::{self, changed, lengths_around};
 use crate::prng::Prng;
 
 type Change = fn(&mut LinkInput);
@@ -27,18 +28,15 @@ pub fn pairs_of_refusals() -> Vec<LinkInput> {
 pub fn single_changes() -> Vec<LinkInput> {
     let mut all = Vec::new();
     for all_four in [false, true] {
-        let mut changed = |change: &dyn Fn(&mut LinkInput)| {
-            let mut input = example(all_four);
-            change(&mut input);
-            all.push(input);
-        };
+        let good = example(all_four);
+        let mut changed = |change: &dyn Fn(&mut LinkInput)| all.push(changed(&good, change));
         for words in 0..=7 {
             changed(&|input| {
                 input.words.resize(words, 3);
                 input.places = WORDS_FOR_A_LINK * (words / 2);
             });
         }
-        for places in lengths_around(example(all_four).places).chain([0, 1, 12, 36, 48]) {
+        for places in lengths_around(good.places).chain([0, 1, 12, 36, 48]) {
             changed(&|input| input.places = places);
             changed(&|input| {
                 // None of them is a violation.
@@ -72,7 +70,7 @@ pub fn on_changed_boards(prng: &mut Prng, count: usize) -> Vec<LinkInput> {
     let boards = changed_boards(prng, count).into_iter();
     let inputs = boards.map(|board| LinkInput {
         board,
-        ..example(prng.below(2) == 0)
+        ..example(prng.one_in(2))
     });
     inputs.collect()
 }

@@ -1,6 +1,7 @@
 //! How deep a call goes into the stack: it runs in a thread whose stack is memory of ours, filled with one byte before. What
 //! is not that byte afterwards was touched. The depth of a call that does nothing is taken off.
 
+use super::Runs;
 use std::alloc::{Layout, alloc, dealloc};
 use std::ffi::{c_int, c_void};
 use std::ptr::{null_mut, write_bytes};
@@ -31,20 +32,19 @@ unsafe extern "C" {
 }
 
 /// The bytes of stack that the call uses.
-pub fn used(mut call: impl FnMut() + Send) -> usize {
-    depth(&mut call).saturating_sub(depth(&mut || ()))
+pub fn used(call: Runs) -> usize {
+    depth(call).saturating_sub(depth(Box::new(|| ())))
 }
-
-type Call<'a> = &'a mut (dyn FnMut() + Send);
 
 extern "C" fn start(argument: *mut c_void) -> *mut c_void {
     // SAFETY: `depth` gives the address of a call that lives until this thread has ended.
-    let call: &mut Call = unsafe { &mut *argument.cast() };
-    call();
+    let call: &mut Option<Runs> = unsafe { &mut *argument.cast() };
+    call.take().expect("it is started once")();
     null_mut()
 }
 
-fn depth(mut call: Call) -> usize {
+fn depth(call: Runs) -> usize {
+    let mut call = Some(call);
     let layout = Layout::from_size_align(SIZE, PAGE).expect("a layout");
     // SAFETY: the memory is allocated, filled, used by one thread as its stack, read after that thread has ended, and
     // freed. The attributes are made before they are used.

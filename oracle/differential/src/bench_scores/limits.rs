@@ -1,6 +1,6 @@
 //! What limits the sums of a score: how long an addition takes that needs the one before it, and one that does not.
 
-use crate::times::nanoseconds;
+use differential::bench::nanoseconds;
 use std::hint::black_box;
 
 const ADDITIONS: usize = 1 << 20;

@@ -1,77 +1,122 @@
 //! How long our library and the upstream Rust take for all scores of a board's cells: `bench_scores`, or
-//! `bench_scores ours|theirs|both ROUNDS [CASE]`. Both sides take their turn in every round. Without a case, the machine's
-//! own limits come first.
+//! `bench_scores ours|theirs|both ROUNDS [CASE]`. Without a case, the machine's own limits come first. `ours` and `theirs` are
+//! not inlined, so that a profile shows them.
 
-#[path = "../bench/arguments.rs"]
-mod arguments;
-mod case;
 mod limits;
-#[path = "../bench/overflow.rs"]
-mod overflow;
-#[path = "../bench/times.rs"]
-mod times;
 
-use arguments::Arguments;
-use case::{CASES, Case};
-use std::hint::black_box;
+use cases::cells::Cell;
+use cases::codes::{TURNS, random_code};
+use cases::prng::Prng;
+use differential::bench::{self, Bench, Runs, runs};
+use differential::ours;
 use std::process::ExitCode;
-use times::Times;
+use theirs::{BUILT_IN, Samples, ScoreBoard, Scores, TABLE_LENGTH, likelihood_table};
+
+fn main() -> ExitCode {
+    let bench = Bench {
+        program: "bench_scores",
+        unit: "score",
+        tells_memory: false,
+        first: limits::print,
+    };
+    let cases = CASES.map(|size| (name(size), Case::new(size)));
+    bench.run(cases.into())
+}
+
+const BORDER: u8 = 1;
 
 /// A small case is repeated until a round has so many scores.
 const SCORES_OF_A_ROUND: usize = 200_000;
 
-fn main() -> ExitCode {
-    let Some(arguments) = Arguments::read(CASES.len()) else {
-        eprintln!("usage: bench_scores [ours|theirs|both [ROUNDS [CASE]]]");
-        return ExitCode::FAILURE;
-    };
-    if overflow::is_checked() {
-        println!("Built with checks for overflow, which slow the Rust down: use --profile speed.");
-    }
-    if arguments.case.is_none() {
-        limits::print();
-    }
-    let mut agree = true;
-    for (number, &size) in CASES.iter().enumerate() {
-        if arguments.case.is_none_or(|case| case == number) {
-            println!("case {number}: {size}");
-            let case = Case::new(size);
-            agree &= measure(&case, &arguments);
-        }
-    }
-    ExitCode::from(u8::from(!agree))
+/// Bits, cells and markers.
+type Size = (u8, usize, usize);
+
+/// The most cells there may be on a board of 22 by 22 squares, for the usual sides; and a small board.
+const CASES: [Size; 5] = [
+    (4, 256, 242),
+    (5, 256, 242),
+    (6, 256, 242),
+    (8, 256, 242),
+    (4, 24, 12),
+];
+
+fn name((bits, cells, markers): Size) -> String {
+    format!("{cells} cells, {markers} markers of {bits} by {bits} bits")
 }
 
-/// Prints the times of both sides. Do their answers agree?
-fn measure(case: &Case, arguments: &Arguments) -> bool {
-    let repeats = SCORES_OF_A_ROUND.div_ceil(case.score_count());
-    let mut times = Times::new(repeats * case.score_count(), "score");
-    let (mut ours, mut theirs) = (None, None);
-    for _ in 0..arguments.rounds {
-        if arguments.ours {
-            times.ours(|| (0..repeats).for_each(|_| ours = Some(black_box(case.ours()))));
-        }
-        if arguments.theirs {
-            times.theirs(|| (0..repeats).for_each(|_| theirs = Some(black_box(case.theirs()))));
-        }
-    }
-    print!("{times}");
-    agree(
-        ours.map(|scores| sum(&scores)),
-        theirs.map(|scores| sum(scores.all())),
-    )
+struct Case {
+    bits: u8,
+    cells: Vec<Cell>,
+    codes: Vec<u64>,
+    table: [f32; TABLE_LENGTH],
+    board: ScoreBoard,
+    samples: Samples,
 }
 
-fn sum(scores: &[f32]) -> f64 {
-    scores.iter().copied().map(f64::from).sum()
+impl Case {
+    /// Every cell shows one of the codes.
+    fn new((bits, cells, markers): Size) -> Self {
+        let mut prng = Prng::new(5);
+        let codes = prng.many(markers, |prng| random_code(prng, bits));
+        let cells = prng.many(cells, |prng| {
+            let code = prng.pick(&codes);
+            Cell::showing(prng, [bits, BORDER], code)
+        });
+        Self {
+            bits,
+            table: likelihood_table(BUILT_IN),
+            board: ScoreBoard::new(bits, &codes),
+            samples: Samples::new(&cells),
+            cells,
+            codes,
+        }
+    }
+
+    fn score_count(&self) -> usize {
+        self.cells.len() * self.codes.len() * 4
+    }
+
+    /// Turns the codes once, then asks cell by cell, in the order of the Rust.
+    #[inline(never)]
+    fn ours(&self) -> Vec<f32> {
+        let mut turned = Vec::with_capacity(self.codes.len() * 4);
+        for &code in &self.codes {
+            turned.extend(TURNS.map(|turn| ours::rotate_code(code, self.bits, turn)));
+        }
+        let mut scores = vec![0.0; self.score_count()];
+        for (cell, out) in self.cells.iter().zip(scores.chunks_mut(turned.len())) {
+            ours::scores::cell_scores(&self.table, cell, &turned, out);
+        }
+        scores
+    }
+
+    /// The whole of `build_score_matrix`, which turns the codes too.
+    #[inline(never)]
+    fn theirs(&self) -> Scores {
+        self.board.scores(&self.samples, BUILT_IN)
+    }
 }
 
-fn agree(ours: Option<f64>, theirs: Option<f64>) -> bool {
-    let [Some(ours), Some(theirs)] = [ours, theirs] else {
-        return true;
-    };
-    if ours != theirs {
-        println!("  the sums differ: ours {ours}, theirs {theirs}");
+impl bench::Case for Case {
+    fn runs_of_ours(&self, count: usize) -> Runs<'_> {
+        runs(count, || self.ours())
     }
-    ours == theirs
+
+    fn runs_of_theirs(&self, count: usize) -> Runs<'_> {
+        runs(count, || self.theirs())
+    }
+
+    /// The sums of the scores.
+    fn agrees(&self) -> bool {
+        let sum = |scores: &[f32]| -> f64 { scores.iter().copied().map(f64::from).sum() };
+        sum(&self.ours()) == sum(self.theirs().all())
+    }
+
+    fn units(&self) -> usize {
+        self.score_count()
+    }
+
+    fn fixed_runs(&self) -> Option<usize> {
+        Some(SCORES_OF_A_ROUND.div_ceil(self.score_count()))
+    }
 }

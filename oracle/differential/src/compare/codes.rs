@@ -3,7 +3,8 @@
 use crate::subject::Subject;
 use cases::codes::{SIDES, TURNS, patterns, random_code, single_bits};
 use cases::prng::Prng;
-use theirs::{CodeMatch, CodeMatcher};
+use differential::ours;
+use theirs::CodeMatcher;
 
 const RANDOM_CODES: usize = 15_000;
 const CODES_FOR_LARGE_TURNS: usize = 40;
@@ -13,64 +14,49 @@ const READ_CODES: usize = 500;
 
 pub fn compare() -> Vec<Subject> {
     let mut prng = Prng::new(1);
-    vec![
-        quarter_turns(&mut prng),
-        large_turns(&mut prng),
-        differing_bits(&mut prng),
-        best_matches(&mut prng),
-    ]
+    let mut turned = Subject::new("turned code");
+    for side in SIDES {
+        let random = random_codes(&mut prng, side, RANDOM_CODES);
+        let codes = [&patterns(side)[..], &single_bits(side), &random].concat();
+        check_turns(&mut turned, &codes, side, TURNS);
+    }
+    // The Rust takes a turn above 3 as what is left of it after whole rounds.
+    let mut large_turns = Subject::new("turned code, turns 4 to 255");
+    for side in SIDES {
+        let codes = random_codes(&mut prng, side, CODES_FOR_LARGE_TURNS);
+        check_turns(&mut large_turns, &codes, side, TURNS.end..=u8::MAX);
+    }
+    let differing = differing_bits(&mut prng);
+    let best = best_matches(&mut prng);
+    vec![turned, large_turns, differing, best]
 }
 
 fn random_codes(prng: &mut Prng, side: u8, count: usize) -> Vec<u64> {
-    (0..count).map(|_| random_code(prng, side)).collect()
+    prng.many(count, |prng| random_code(prng, side))
 }
 
-fn check_turn(subject: &mut Subject, code: u64, side: u8, turn: u8) {
-    let ours = ours::rotate_code(code, side, turn);
-    let theirs = theirs::rotate_code(code, side, turn);
-    subject.check(
-        ours,
-        theirs,
-        format_args!("code {code:X}, side {side}, turn {turn}"),
-    );
-}
-
-fn quarter_turns(prng: &mut Prng) -> Subject {
-    let mut subject = Subject::new("turned code");
-    for side in SIDES {
-        let random = random_codes(prng, side, RANDOM_CODES);
-        for code in [&patterns(side)[..], &single_bits(side), &random].concat() {
-            for turn in TURNS {
-                check_turn(&mut subject, code, side, turn);
-            }
+fn check_turns(
+    subject: &mut Subject,
+    codes: &[u64],
+    side: u8,
+    turns: impl Iterator<Item = u8> + Clone,
+) {
+    for &code in codes {
+        for turn in turns.clone() {
+            let ours = ours::rotate_code(code, side, turn);
+            let theirs = theirs::rotate_code(code, side, turn);
+            let asked = format_args!("code {code:X}, side {side}, turn {turn}");
+            subject.check(ours, theirs, asked);
         }
     }
-    subject
-}
-
-/// The Rust takes a turn above 3 as what is left of it after whole rounds.
-fn large_turns(prng: &mut Prng) -> Subject {
-    let mut subject = Subject::new("turned code, turns 4 to 255");
-    for side in SIDES {
-        for code in random_codes(prng, side, CODES_FOR_LARGE_TURNS) {
-            for turn in TURNS.end..=u8::MAX {
-                check_turn(&mut subject, code, side, turn);
-            }
-        }
-    }
-    subject
 }
 
 /// `matcher.rs` counts in the midst of a loop, so the same expression stands here; `best_matches` runs the loop.
 fn differing_bits(prng: &mut Prng) -> Subject {
     let mut subject = Subject::new("differing bits");
     let mut check = |a: u64, b: u64| {
-        let theirs = (a ^ b).count_ones();
-        subject.check(
-            ours::differing_bits(a, b),
-            theirs,
-            format_args!("{a:X} and {b:X}"),
-        );
+        let [ours, theirs] = [ours::differing_bits(a, b), (a ^ b).count_ones()];
+        subject.check(ours, theirs, format_args!("{a:X} and {b:X}"));
     };
     let telling = [&patterns(8)[..], &single_bits(8)].concat();
     for &a in &telling {
@@ -89,24 +75,19 @@ fn best_matches(prng: &mut Prng) -> Subject {
         let codes = random_codes(prng, side, DICTIONARY);
         let matcher = CodeMatcher::new(&codes, side);
         for read in random_codes(prng, side, READ_CODES) {
-            subject.check(
-                our_best_match(&codes, side, read),
-                matcher.best(read),
-                format_args!("read {read:X}, side {side}, codes {codes:X?}"),
-            );
+            let [ours, theirs] = [our_best_match(&codes, side, read), matcher.best(read)];
+            let asked = format_args!("read {read:X}, side {side}, codes {codes:X?}");
+            subject.check(ours, theirs, asked);
         }
     }
     subject
 }
 
 /// The first of the codes and turns with the fewest differing bits.
-fn our_best_match(codes: &[u64], side: u8, read: u64) -> Option<CodeMatch> {
+fn our_best_match(codes: &[u64], side: u8, read: u64) -> Option<(u32, u8, u32)> {
     let candidates = (0..).zip(codes).flat_map(|(id, &code)| {
-        TURNS.map(move |turn| CodeMatch {
-            id,
-            turn,
-            differing: ours::differing_bits(read, ours::rotate_code(code, side, turn)),
-        })
+        let differing = move |turn| ours::differing_bits(read, ours::rotate_code(code, side, turn));
+        TURNS.map(move |turn| (id, turn, differing(turn)))
     });
-    candidates.min_by_key(|candidate| candidate.differing)
+    candidates.min_by_key(|&(_, _, differing)| differing)
 }

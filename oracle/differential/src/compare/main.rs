@@ -3,14 +3,12 @@
 
 mod alignments;
 mod codes;
-mod corners;
+mod entries;
 mod entry;
 mod layout;
 mod links;
-mod marker_cells;
 mod matches;
 mod records;
-mod refusals;
 mod scores;
 mod subject;
 
@@ -23,11 +21,11 @@ type Group = (&'static str, fn() -> Vec<Subject>);
 const GROUPS: [Group; 11] = [
     ("codes", codes::compare),
     ("layout", layout::compare),
-    ("refusals", refusals::compare),
+    ("refusals", entries::refusals),
     ("alignments", alignments::compare),
     ("scores", scores::compare),
-    ("cells", marker_cells::compare),
-    ("corners", corners::compare),
+    ("cells", entries::cells),
+    ("corners", entries::corners),
     ("links", links::compare),
     ("records", records::compare),
     ("matches", matches::compare),

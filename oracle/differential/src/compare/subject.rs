@@ -1,11 +1,12 @@
 //! What is counted and shown for one subject of the comparison.
 
+use cases::floats::float_bits;
 use std::fmt::{self, Arguments, Debug, Display, Formatter};
 
 /// No more differences of one subject than this are shown.
 const SHOWN: usize = 5;
 
-#[derive(Clone)]
+#[derive(Clone, Default)]
 pub struct Subject {
     name: String,
     pub compared: u64,
@@ -17,9 +18,7 @@ impl Subject {
     pub fn new(name: impl Into<String>) -> Self {
         Self {
             name: name.into(),
-            compared: 0,
-            different: 0,
-            shown: Vec::new(),
+            ..Self::default()
         }
     }
 
@@ -31,27 +30,52 @@ impl Subject {
         }
         self.different += 1;
         if self.shown.len() < SHOWN {
-            self.shown.push(format!(
-                "{asked}: ours {ours:X?}, theirs {theirs:X?} (hexadecimal)"
-            ));
+            let answers = format!("ours {ours:X?}, theirs {theirs:X?} (hexadecimal)");
+            self.shown.push(format!("{asked}: {answers}"));
         }
+    }
+
+    /// The same of floats, in every bit; all NaNs count as one.
+    pub fn check_float(&mut self, ours: f32, theirs: f32, asked: Arguments) {
+        self.check(float_bits(ours), float_bits(theirs), asked);
+    }
+}
+
+/// Subjects by their names, in the order in which they first come up.
+#[derive(Default)]
+pub struct Subjects(pub Vec<Subject>);
+
+impl Subjects {
+    pub fn of(&mut self, name: &str) -> &mut Subject {
+        let known = self.0.iter().position(|subject| subject.name == name);
+        let place = known.unwrap_or(self.0.len());
+        if known.is_none() {
+            self.0.push(Subject::new(name));
+        }
+        &mut self.0[place]
+    }
+}
+
+/// The first bytes of a record, and how many there are.
+pub struct Bytes<'a>(pub &'a [u8]);
+
+impl Display for Bytes<'_> {
+    fn fmt(&self, f: &mut Formatter) -> fmt::Result {
+        let first = &self.0[..self.0.len().min(80)];
+        write!(f, "{} bytes {first:02X?}", self.0.len())
     }
 }
 
 impl Display for Subject {
     fn fmt(&self, f: &mut Formatter) -> fmt::Result {
-        let Self {
-            name,
-            compared,
-            different,
-            shown,
-        } = self;
-        writeln!(f, "{name}: {compared} compared, {different} different")?;
-        shown.iter().try_for_each(|line| writeln!(f, "    {line}"))
+        let [compared, different] = [self.compared, self.different];
+        writeln!(
+            f,
+            "{}: {compared} compared, {different} different",
+            self.name
+        )?;
+        self.shown
+            .iter()
+            .try_for_each(|line| writeln!(f, "    {line}"))
     }
-}
-
-/// The bits of a float, by which floats are compared. All NaNs count as one.
-pub fn float_bits(x: f32) -> u32 {
-    if x.is_nan() { f32::NAN } else { x }.to_bits()
 }

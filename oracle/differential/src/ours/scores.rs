@@ -3,10 +3,15 @@
 use cases::cells::Cell;
 
 unsafe extern "C" {
-    safe fn oracle_table_entry(i: usize) -> f32;
-    safe fn oracle_cell_weight(border_threshold: f32, sampled: bool, fraction: f32) -> f32;
-    safe fn oracle_null_score(bits: u8) -> f32;
-    safe fn oracle_evidence(score: f32, bits: u8) -> f32;
+    /// An entry of the built-in table.
+    #[link_name = "oracle_table_entry"]
+    pub safe fn table_entry(i: usize) -> f32;
+    #[link_name = "oracle_cell_weight"]
+    pub safe fn cell_weight(border_threshold: f32, sampled: bool, fraction: f32) -> f32;
+    #[link_name = "oracle_null_score"]
+    pub safe fn null_score(bits: u8) -> f32;
+    #[link_name = "oracle_evidence"]
+    pub safe fn evidence(score: f32, bits: u8) -> f32;
 
     fn oracle_is_table(table: *const f32, len: usize) -> u8;
     fn oracle_score(
@@ -37,23 +42,6 @@ unsafe extern "C" {
         bits: u8,
         border: u8,
     ) -> u64;
-}
-
-/// An entry of the built-in table.
-pub fn table_entry(i: usize) -> f32 {
-    oracle_table_entry(i)
-}
-
-pub fn cell_weight(border_threshold: f32, sampled: bool, fraction: f32) -> f32 {
-    oracle_cell_weight(border_threshold, sampled, fraction)
-}
-
-pub fn null_score(bits: u8) -> f32 {
-    oracle_null_score(bits)
-}
-
-pub fn evidence(score: f32, bits: u8) -> f32 {
-    oracle_evidence(score, bits)
 }
 
 // SAFETY, below: each pointer and the length behind it are those of one slice. The functions only read them, but for

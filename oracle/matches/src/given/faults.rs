@@ -1,12 +1,13 @@
 //! Good shots with one fault or two, so that every question is answered with no and the order of the questions shows.
 
 use super::Given;
+use super::numbers::odd_entries;
 use super::scene::{Look, Scene, markers_of};
 use crate::answer::MARKER_WORDS;
-use cases::floats::{BAD_CELL_SIZES, BAD_MARKER_SIZES, NOT_FINITE};
+use cases::floats::{ABOVE_1, BAD_CELL_SIZES, BAD_MARKER_SIZES, INF, LEAST, MAX, NAN, NOT_FINITE};
 use cases::prng::Prng;
-use cases::tables::{ODD_ENTRIES, PLACES};
-use records::{Cell, Shot, settings, write};
+use cases::tables::PLACES;
+use records::{Cell, Shot, UNSAMPLED, settings, write};
 
 struct Faulty {
     shot: Shot,
@@ -44,7 +45,7 @@ const FAULTS: [Fault; 18] = [
         shot.codes.truncate(needed.saturating_sub(missing).max(1));
     },
     |prng, Faulty { shot, .. }| {
-        let place = prng.below(shot.codes.len().max(1) as u64) as usize;
+        let place = prng.place(shot.codes.len().max(1));
         let bit = u32::from(shot.bits).pow(2);
         if let Some(code) = shot.codes.get_mut(place) {
             *code |= 1u64.checked_shl(bit).unwrap_or(0);
@@ -61,31 +62,24 @@ const FAULTS: [Fault; 18] = [
         }
     },
     |prng, Faulty { shot, .. }| {
-        let bad: Vec<f32> = ODD_ENTRIES
-            .into_iter()
-            .filter(|entry| !(-8.0..=0.0).contains(entry))
-            .collect();
+        let [_, bad] = odd_entries();
         shot.map |= settings::TABLE;
         shot.table[prng.pick(&PLACES)] = prng.pick(&bad).to_bits();
     },
     |_, Faulty { shot, .. }| shot.cells.clear(),
     |prng, Faulty { shot, .. }| {
         let far = prng.pick(&[-4097, 4097, i16::MIN, i16::MAX]);
-        let count = shot.cells.len() as u64;
+        let count = shot.cells.len();
         match (prng.below(3), shot.cells.is_empty()) {
             (0, _) | (_, true) => shot.cells.resize(prng.pick(&[257, 300]), UNSAMPLED),
-            (1, _) => shot.cells[prng.below(count) as usize].u = far,
-            _ => shot.cells[prng.below(count) as usize].v = far,
+            (1, _) => shot.cells[prng.place(count)].u = far,
+            _ => shot.cells[prng.place(count)].v = far,
         }
     },
     |prng, Faulty { shot, .. }| {
-        let samples = shot
-            .cells
-            .iter_mut()
-            .filter_map(|cell| cell.sample.as_mut());
-        let mut samples: Vec<_> = samples.collect();
+        let mut samples: Vec<_> = shot.samples_mut().collect();
         if !samples.is_empty() {
-            let place = prng.below(samples.len() as u64) as usize;
+            let place = prng.place(samples.len());
             samples[place].fraction = prng.pick(&BAD_FRACTIONS).to_bits();
         }
     },
@@ -99,38 +93,19 @@ const FAULTS: [Fault; 18] = [
         }
     },
     |prng, Faulty { shot, .. }| {
-        shot.map |= settings::MINIMUM_MARGIN;
-        shot.minimum_margin = prng.pick(&[f32::MAX, 20.0, 1e30]).to_bits();
+        shot.set_minimum_margin(prng.pick(&[MAX, 20.0, 1e30]));
     },
     |prng, Faulty { shot, .. }| {
         if shot.map & settings::MINIMUM_MARGIN == 0 {
-            shot.map |= settings::MINIMUM_MARGIN;
-            shot.minimum_margin = prng.pick(&[0.0f32, -0.0, -1.0]).to_bits();
+            shot.set_minimum_margin(prng.pick(&[0.0, -0.0, -1.0]));
         }
-        for cell in &mut shot.cells {
-            if let Some(sample) = &mut cell.sample {
-                sample.fraction = prng.pick(&[0.0f32, -0.0]).to_bits();
-            }
+        for sample in shot.samples_mut() {
+            sample.fraction = prng.pick(&[0.0f32, -0.0]).to_bits();
         }
     },
 ];
 
-const UNSAMPLED: Cell = Cell {
-    u: 0,
-    v: 0,
-    sample: None,
-};
-
-const BAD_FRACTIONS: [f32; 8] = [
-    -f32::from_bits(1),
-    -0.5,
-    1.0f32.next_up(),
-    2.0,
-    f32::MAX,
-    f32::INFINITY,
-    f32::NEG_INFINITY,
-    f32::NAN,
-];
+const BAD_FRACTIONS: [f32; 8] = [-LEAST, -0.5, ABOVE_1, 2.0, MAX, INF, -INF, NAN];
 
 /// One fault, or two of which the later question goes unasked.
 pub fn given(prng: &mut Prng) -> Given {
@@ -149,8 +124,7 @@ impl Faulty {
     /// Grids are made whole again where bits or border have changed.
     fn given(mut self, prng: &mut Prng) -> Given {
         let greys = self.shot.greys();
-        let samples = self.shot.cells.iter_mut();
-        for sample in samples.filter_map(|cell| cell.sample.as_mut()) {
+        for sample in self.shot.samples_mut() {
             sample.grid.resize(greys, 77);
         }
         let mut record = write(&self.shot).bytes;
@@ -159,11 +133,7 @@ impl Faulty {
         }
         let needed = self.shot.cells.len() * MARKER_WORDS;
         let short = prng.pick(&[1, 1, 17, MARKER_WORDS, needed]);
-        let places = if self.is_list_short {
-            needed.saturating_sub(short)
-        } else {
-            needed
-        };
+        let places = needed.saturating_sub(if self.is_list_short { short } else { 0 });
         Given { record, places }
     }
 }

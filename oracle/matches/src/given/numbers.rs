@@ -1,10 +1,10 @@
 //! Shots with telling numbers: weights, tables and settings.
 
-use super::scene::{LOOKS, Look, Scene};
-use crate::answer::Answer;
+use super::scene::{Look, Scene};
 use crate::questions::{FORMULAS, match_shot};
 use cases::floats::{
-    BORDER_THRESHOLDS, FRACTIONS, GOOD_CELL_SIZES, GOOD_MARKER_SIZES, PIXELS, random_finite,
+    ABOVE_1, BELOW_1, BORDER_THRESHOLDS, FRACTIONS, GOOD_CELL_SIZES, GOOD_MARKER_SIZES, LEAST, MAX,
+    MIN, NORMAL, PIXELS, SUBNORMAL, random_finite,
 };
 use cases::prng::Prng;
 use cases::tables::ODD_ENTRIES;
@@ -13,39 +13,20 @@ use std::f32::consts::LN_2;
 use theirs::is_table;
 
 const MARGINS: [f32; 17] = [
-    0.05,
-    0.0,
-    -0.0,
-    -1.0,
-    f32::MIN,
-    f32::MIN_POSITIVE,
-    1e-40,
-    -1e-40,
-    1e-7,
-    0.01,
-    0.25,
-    0.5,
-    1.0f32.next_down(),
-    1.0,
-    1.0f32.next_up(),
-    2.5,
-    f32::MAX,
+    0.05, 0.0, -0.0, -1.0, MIN, NORMAL, SUBNORMAL, -SUBNORMAL, 1e-7, 0.01, 0.25, 0.5, BELOW_1, 1.0,
+    ABOVE_1, 2.5, MAX,
 ];
 
 fn any_shot(prng: &mut Prng) -> Shot {
-    let scene = Scene::random(prng);
-    let look = prng.pick(&LOOKS);
-    scene.shot(prng, look)
+    Scene::random(prng).any_shot(prng)
 }
 
 fn set_margin(prng: &mut Prng, shot: &mut Shot) {
-    shot.map |= settings::MINIMUM_MARGIN;
-    let margin = if prng.below(5) == 0 {
-        prng.below(2001) as f32 / 1000.0
-    } else {
-        prng.pick(&MARGINS)
+    let margin = match prng.below(5) {
+        0 => prng.below(2001) as f32 / 1000.0,
+        _ => prng.pick(&MARGINS),
     };
-    shot.minimum_margin = margin.to_bits();
+    shot.set_minimum_margin(margin);
 }
 
 fn set_border_threshold(prng: &mut Prng, shot: &mut Shot) {
@@ -56,20 +37,20 @@ fn set_border_threshold(prng: &mut Prng, shot: &mut Shot) {
 /// Fractions that make weights 0, subnormal, 1 and between; and all weights 0 now and then.
 pub fn weights(prng: &mut Prng) -> Shot {
     let mut shot = any_shot(prng);
-    let few = [0.0f32, -0.0, f32::from_bits(1)];
+    let few = [0.0f32, -0.0, LEAST];
     let fractions = prng.pick(&[&FRACTIONS[..], &FRACTIONS[..], &few[..], &few[..2]]);
     for cell in &mut shot.cells {
         if let Some(sample) = &mut cell.sample {
             sample.fraction = prng.pick(fractions).to_bits();
         }
-        if prng.below(6) == 0 {
+        if prng.one_in(6) {
             cell.sample = None;
         }
     }
-    if prng.below(2) == 0 {
+    if prng.one_in(2) {
         set_border_threshold(prng, &mut shot);
     }
-    if prng.below(2) == 0 {
+    if prng.one_in(2) {
         set_margin(prng, &mut shot);
     }
     shot
@@ -78,18 +59,17 @@ pub fn weights(prng: &mut Prng) -> Shot {
 /// Each setting by itself or with the others.
 pub fn any_settings(prng: &mut Prng) -> Shot {
     let mut shot = any_shot(prng);
-    if prng.below(3) != 0 {
+    if !prng.one_in(3) {
         set_margin(prng, &mut shot);
     }
-    if prng.below(3) != 0 {
+    if !prng.one_in(3) {
         set_border_threshold(prng, &mut shot);
     }
-    if prng.below(3) != 0 {
+    if !prng.one_in(3) {
         shot.map |= settings::PX_PER_SQUARE;
-        let px = if prng.below(3) == 0 {
-            random_finite(prng)
-        } else {
-            prng.pick(&PIXELS)
+        let px = match prng.below(3) {
+            0 => random_finite(prng),
+            _ => prng.pick(&PIXELS),
         };
         shot.px_per_square = px.to_bits();
     }
@@ -99,12 +79,9 @@ pub fn any_settings(prng: &mut Prng) -> Shot {
 /// A minimum that is just the margin of the shot, or the next number to it.
 pub fn minimum_at_the_margin(prng: &mut Prng) -> Shot {
     let mut shot = any_shot(prng);
-    shot.map |= settings::MINIMUM_MARGIN;
-    shot.minimum_margin = f32::MAX.to_bits();
-    let Answer::Refused { values, .. } = match_shot(&shot, usize::MAX) else {
-        unreachable!("no margin is so large");
-    };
-    let margin = f32::from_bits(values[0]);
+    shot.set_minimum_margin(MAX);
+    let refused = match_shot(&shot, usize::MAX).expect_err("no margin is so large");
+    let margin = f32::from_bits(refused.words.first().copied().unwrap_or(0));
     let near = [margin, margin, margin.next_up(), margin.next_down()];
     shot.minimum_margin = prng.pick(&near).to_bits();
     shot
@@ -115,10 +92,8 @@ pub fn odd_floats(prng: &mut Prng) -> Shot {
     let mut shot = any_settings(prng);
     shot.cell_size = prng.pick(&GOOD_CELL_SIZES).to_bits();
     shot.marker_size_rel = prng.pick(&GOOD_MARKER_SIZES).to_bits();
-    for cell in &mut shot.cells {
-        if let Some(sample) = &mut cell.sample
-            && prng.below(2) == 0
-        {
+    for sample in shot.samples_mut() {
+        if prng.one_in(2) {
             sample.fraction = prng.pick(&FRACTIONS).to_bits();
         }
     }
@@ -128,9 +103,8 @@ pub fn odd_floats(prng: &mut Prng) -> Shot {
 /// The Rust answers for these.
 pub fn table_by_formula(prng: &mut Prng) -> Shot {
     let mut shot = any_settings(prng);
-    let (_, table) = FORMULAS[prng.below(FORMULAS.len() as u64) as usize];
     shot.map |= settings::TABLE;
-    shot.table = table;
+    (_, shot.table) = FORMULAS[prng.place(FORMULAS.len())];
     shot
 }
 
@@ -144,13 +118,10 @@ pub fn any_table(prng: &mut Prng) -> Shot {
 
 /// Entries of many sizes, of a few values, of one, or rising; both zeros and subnormal ones among them.
 fn random_table(prng: &mut Prng) -> [f32; TABLE_LENGTH] {
-    let odd: Vec<f32> = ODD_ENTRIES
-        .into_iter()
-        .filter(|entry| (-8.0..=0.0).contains(entry))
-        .collect();
+    let [odd, _] = odd_entries();
     let step = |prng: &mut Prng| prng.below((1 << 24) + 1) as f32 / (1 << 21) as f32 - 8.0;
     let small = |prng: &mut Prng| -f32::from_bits(prng.draw() as u32 % 0x4100_0001);
-    let few = [(); 3].map(|()| step(prng));
+    let few = prng.many(3, step);
     // What a bit of the null score adds, by which evidence may be just 0, and less.
     let at_most_null = [-LN_2, -LN_2, -1.0];
     let kind = prng.below(7);
@@ -166,13 +137,20 @@ fn random_table(prng: &mut Prng) -> [f32; TABLE_LENGTH] {
     if kind == 6 {
         table.sort_by(f32::total_cmp);
     }
-    if prng.below(3) == 0 {
+    if prng.one_in(3) {
         for _ in 0..20 {
-            table[prng.below(TABLE_LENGTH as u64) as usize] = prng.pick(&odd);
+            table[prng.place(TABLE_LENGTH)] = prng.pick(&odd);
         }
     }
     assert!(is_table(&table), "every entry is from -8 to 0");
     table
+}
+
+/// Odd entries that question 10 lets pass, and those that it refuses.
+pub fn odd_entries() -> [Vec<f32>; 2] {
+    let is_entry = |entry: &f32| (-8.0..=0.0).contains(entry);
+    let (good, bad) = ODD_ENTRIES.into_iter().partition(is_entry);
+    [good, bad]
 }
 
 /// Cells as they should be, for a look.

@@ -1,10 +1,9 @@
 //! Which placements there are: single cells, cells along the rim, cells that just fit or just do not, far cells, many cells.
 
-use super::scene::{LOOKS, Look, Scene, shuffle};
+use super::scene::{Look, Scene};
+use cases::corner_lists::{FARTHEST, rectangle};
 use cases::prng::Prng;
-use records::{Cell, Shot, settings};
-
-const FARTHEST: i32 = 4096;
+use records::{Cell, Shot};
 
 pub fn shot(prng: &mut Prng) -> Shot {
     let kinds: [fn(&mut Prng) -> Shot; 5] = [
@@ -19,8 +18,8 @@ pub fn shot(prng: &mut Prng) -> Shot {
 
 fn any_board(prng: &mut Prng) -> Scene {
     let most = prng.pick(&[3, 7, 7, 15, 31]);
-    let [rows, cols] = [(); 2].map(|()| 2 + prng.below(most) as u8);
-    Scene::of_board(prng, rows, cols)
+    let size = prng.two(|prng| 2 + prng.below(most) as u8);
+    Scene::of_board(prng, size)
 }
 
 fn any_square(prng: &mut Prng, scene: &Scene) -> [i32; 2] {
@@ -30,15 +29,14 @@ fn any_square(prng: &mut Prng, scene: &Scene) -> [i32; 2] {
 fn one_cell(prng: &mut Prng) -> Shot {
     let mut scene = any_board(prng);
     scene.squares = vec![any_square(prng, &scene)];
-    let look = prng.pick(&LOOKS);
-    scene.shot(prng, look)
+    scene.any_shot(prng)
 }
 
 /// Some squares of the rim, among them opposite corners half of the time, so that few translations fit.
 fn along_the_rim(prng: &mut Prng) -> Shot {
     let mut scene = any_board(prng);
     let last = [scene.cols, scene.rows].map(|n| i32::from(n) - 1);
-    if prng.below(2) == 0 {
+    if prng.one_in(2) {
         scene.squares = vec![[0, 0], last];
     }
     for _ in 0..1 + prng.below(6) {
@@ -47,28 +45,25 @@ fn along_the_rim(prng: &mut Prng) -> Shot {
         square[axis] = prng.pick(&[0, last[axis]]);
         scene.squares.push(square);
     }
-    shuffle(prng, &mut scene.squares);
-    let look = prng.pick(&LOOKS);
-    scene.shot(prng, look)
+    prng.shuffle(&mut scene.squares);
+    scene.any_shot(prng)
 }
 
 /// As wide or as high as the board, or by one more; a board that is not square may take them in two turns only.
 fn just_fitting(prng: &mut Prng) -> Shot {
     let mut scene = any_board(prng);
     let [cols, rows] = [scene.cols, scene.rows].map(i32::from);
-    let [width, height] = [cols, rows].map(|n| n - 1 + prng.pick(&[0, 0, 0, 1]));
-    let [width, height] = if prng.below(4) == 0 {
-        [height, width]
-    } else {
-        [width, height]
-    };
+    let mut size = [cols, rows].map(|n| n - 1 + prng.pick(&[0, 0, 0, 1]));
+    if prng.one_in(4) {
+        size.reverse();
+    }
+    let [width, height] = size;
     scene.squares = vec![any_square(prng, &scene), any_square(prng, &scene)];
-    let look = prng.pick(&LOOKS);
-    let mut shot = scene.shot(prng, look);
+    let mut shot = scene.any_shot(prng);
     let [u, v] = scene.translation.map(|x| x.clamp(-4000, 4000));
     let corners = [[0, 0], [width, 0], [0, height], [width, height]];
-    for [du, dv] in corners.into_iter().take(2 + prng.below(3) as usize) {
-        let sample = shot.cells[prng.below(2) as usize].sample.clone();
+    for [du, dv] in corners.into_iter().take(2 + prng.place(3)) {
+        let sample = shot.cells[prng.place(2)].sample.clone();
         let [u, v] = [u + du, v + dv].map(|x| x as i16);
         shot.cells.push(Cell { u, v, sample });
     }
@@ -87,8 +82,7 @@ fn far_off(prng: &mut Prng) -> Shot {
         let high = axis(k).max().expect("a cell");
         prng.pick(&[-FARTHEST - low, FARTHEST - high, 0])
     });
-    let look = prng.pick(&LOOKS);
-    let mut shot = scene.shot(prng, look);
+    let mut shot = scene.any_shot(prng);
     for cell in &mut shot.cells {
         cell.u += shifts[0] as i16;
         cell.v += shifts[1] as i16;
@@ -108,25 +102,22 @@ fn no_marker_seen(prng: &mut Prng) -> Shot {
 /// 250 to 257 cells, on boards where they have few places or many.
 pub fn many_cells(prng: &mut Prng) -> Shot {
     let [rows, cols] = prng.pick(&[[16, 17], [17, 17], [16, 32], [32, 32], [22, 12], [32, 9]]);
-    let mut scene = Scene::of_board(prng, rows, cols);
+    let mut scene = Scene::of_board(prng, [rows, cols]);
     scene.border = 1;
-    let all = (0..i32::from(rows)).flat_map(|j| (0..i32::from(cols)).map(move |i| [i, j]));
+    let all = rectangle([0, 0], [cols.into(), rows.into()]);
     scene.squares = match prng.below(3) {
         0 => all.filter(|[i, j]| (i + j) % 2 == 1).collect(),
         1 => all.filter(|&[i, j]| i < 16 && j < 16).collect(),
         _ => all.collect(),
     };
-    if prng.below(2) == 0 {
-        shuffle(prng, &mut scene.squares);
+    if prng.one_in(2) {
+        prng.shuffle(&mut scene.squares);
     }
-    scene
-        .squares
-        .truncate(prng.pick(&[250, 255, 256, 256, 256, 257]));
-    let look = prng.pick(&LOOKS);
-    let mut shot = scene.shot(prng, look);
-    if prng.below(2) == 0 {
-        shot.map |= settings::MINIMUM_MARGIN;
-        shot.minimum_margin = 0;
+    let most = prng.pick(&[250, 255, 256, 256, 256, 257]);
+    scene.squares.truncate(most);
+    let mut shot = scene.any_shot(prng);
+    if prng.one_in(2) {
+        shot.set_minimum_margin(0.0);
     }
     shot
 }

@@ -3,7 +3,9 @@
 use crate::model::{turned_code, turned_point};
 use cases::cells::Cell as Grid;
 use cases::codes::random_code;
+use cases::corner_lists::rectangle;
 use cases::floats::random_fraction;
+use cases::layout::marker_squares;
 use cases::prng::Prng;
 use records::{Cell, Sample, Shot};
 
@@ -39,12 +41,12 @@ impl Scene {
     /// A board of 2 to 8 rows and columns, now and then up to 32, with random codes and a part of it seen.
     pub fn random(prng: &mut Prng) -> Self {
         let most = prng.pick(&[3, 5, 7, 7, 7, 7, 7, 7, 31]);
-        let [rows, cols] = [(); 2].map(|()| 2 + prng.below(most) as u8);
-        Self::of_board(prng, rows, cols).with_part_seen(prng)
+        let size = prng.two(|prng| 2 + prng.below(most) as u8);
+        Self::of_board(prng, size).with_part_seen(prng)
     }
 
     /// Nothing of it is seen yet. Most codes are of 2 to 5 bits a side.
-    pub fn of_board(prng: &mut Prng, rows: u8, cols: u8) -> Self {
+    pub fn of_board(prng: &mut Prng, [rows, cols]: [u8; 2]) -> Self {
         let bits = prng.pick(&[1, 2, 2, 3, 3, 4, 4, 4, 5, 6, 7, 8]);
         let markers = markers_of(rows, cols) + prng.pick(&[0, 0, 0, 1, 3]);
         let far = prng.pick(&[1, 3, 40, 4000]);
@@ -54,8 +56,8 @@ impl Scene {
             bits,
             border: prng.pick(&[1, 1, 1, 2, 3, 4]),
             turn: prng.below(4) as u8,
-            translation: [(); 2].map(|()| prng.below(2 * far + 1) as i32 - far as i32),
-            codes: (0..markers).map(|_| random_code(prng, bits)).collect(),
+            translation: prng.two(|prng| prng.below(2 * far + 1) as i32 - far as i32),
+            codes: prng.many(markers, |prng| random_code(prng, bits)),
             squares: Vec::new(),
         }
     }
@@ -66,17 +68,14 @@ impl Scene {
         let left = prng.below((i32::from(self.cols) - cols + 1) as u64) as i32;
         let top = prng.below((i32::from(self.rows) - rows + 1) as u64) as i32;
         let missing = prng.pick(&[0, 0, 1, 3, 6]);
-        let all = (top..top + rows).flat_map(|j| (left..left + cols).map(move |i| [i, j]));
-        let seen: Vec<[i32; 2]> = all.filter(|_| prng.below(8) >= missing).collect();
-        self.squares = if seen.is_empty() {
-            vec![[left, top]]
-        } else {
-            seen
-        };
-        let most = prng.pick(&[1, 2, 5, 12, 30, 60]);
-        self.squares.truncate(most);
-        if prng.below(2) == 0 {
-            shuffle(prng, &mut self.squares);
+        let all = rectangle([left, top], [cols, rows]);
+        self.squares = all.filter(|_| prng.below(8) >= missing).collect();
+        if self.squares.is_empty() {
+            self.squares.push([left, top]);
+        }
+        self.squares.truncate(prng.pick(&[1, 2, 5, 12, 30, 60]));
+        if prng.one_in(2) {
+            prng.shuffle(&mut self.squares);
         }
         self
     }
@@ -88,10 +87,16 @@ impl Scene {
         turned_point(back, [i - tx, j - ty]).map(|x| x as i16)
     }
 
-    fn id(&self, [i, j]: [i32; 2]) -> Option<usize> {
-        let place = j * i32::from(self.cols) + i;
-        let before = (0..place).filter(|p| is_odd(*p, self.cols)).count();
-        is_odd(place, self.cols).then_some(before)
+    /// The code of the marker in a square.
+    fn code(&self, square: [i32; 2]) -> Option<u64> {
+        let mut squares = marker_squares(self.rows.into(), self.cols.into());
+        let id = squares.position(|marker| marker.map(u32::cast_signed) == square);
+        id.map(|id| self.codes[id])
+    }
+
+    pub fn any_shot(&self, prng: &mut Prng) -> Shot {
+        let look = prng.pick(&LOOKS);
+        self.shot(prng, look)
     }
 
     pub fn shot(&self, prng: &mut Prng, look: Look) -> Shot {
@@ -113,10 +118,10 @@ impl Scene {
 
     fn sample(&self, prng: &mut Prng, square: [i32; 2], look: Look) -> Option<Sample> {
         let size = [self.bits, self.border];
-        let shown = self.id(square).map(|id| self.codes[id]);
-        let is_odd_one = prng.below(8) == 0;
+        let shown = self.code(square);
+        let is_odd_one = prng.one_in(8);
         let grid = match (look, shown) {
-            (Look::Noisy, _) if is_odd_one && prng.below(2) == 0 => return None,
+            (Look::Noisy, _) if is_odd_one && prng.one_in(2) => return None,
             (Look::Noisy, Some(_)) if is_odd_one => Grid::random(prng, size),
             (Look::Random, _) => Grid::random(prng, size),
             (_, Some(code)) => {
@@ -127,37 +132,18 @@ impl Scene {
         };
         let fraction = match look {
             Look::Clear => 1.0,
-            _ if prng.below(3) == 0 => random_fraction(prng),
+            _ if prng.one_in(3) => random_fraction(prng),
             _ => 1.0,
         };
-        Some(Sample {
-            fraction: fraction.to_bits(),
-            threshold: grid.threshold,
-            grid: grid.grid,
-        })
+        Some(Sample::new(fraction, grid.threshold, grid.grid))
     }
 }
 
 /// A square without a marker: white, with some dirt now and then.
-fn plain(prng: &mut Prng, [bits, border]: [u8; 2]) -> Grid {
-    let side = Grid::side(bits, border);
+fn plain(prng: &mut Prng, size: [u8; 2]) -> Grid {
     let dirt = prng.pick(&[1, 1, 60]);
-    Grid {
-        bits,
-        border,
-        threshold: 60 + prng.below(190) as u8,
-        grid: (0..side * side)
-            .map(|_| 255 - prng.below(dirt) as u8)
-            .collect(),
-    }
-}
-
-fn is_odd(place: i32, cols: u8) -> bool {
-    (place / i32::from(cols) + place % i32::from(cols)) % 2 == 1
-}
-
-pub fn shuffle<T>(prng: &mut Prng, list: &mut [T]) {
-    for i in (1..list.len()).rev() {
-        list.swap(i, prng.below(i as u64 + 1) as usize);
-    }
+    let threshold = 60 + prng.below(190) as u8;
+    let greys = Grid::side(size).pow(2);
+    let grid = prng.many(greys, |prng| 255 - prng.below(dirt) as u8);
+    Grid::new(size, threshold, grid)
 }

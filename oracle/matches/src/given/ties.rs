@@ -1,9 +1,10 @@
 //! Shots in which placements tie: codes, grids or cells that are alike.
 
-use super::scene::{LOOKS, Look, Scene};
+use super::scene::{Look, Scene};
 use cases::codes::{all_ones, patterns};
+use cases::floats::NORMAL;
 use cases::prng::Prng;
-use records::{Shot, settings};
+use records::{Sample, Shot};
 
 type Change = fn(&mut Prng, &mut Shot);
 
@@ -14,8 +15,8 @@ const CHANGES: [Change; 10] = [
     two_codes,
     equal_grids,
     two_grids,
-    greys_at_the_threshold,
-    greys_next_to_the_threshold,
+    |_, shot| for_each_grey(shot, |threshold| threshold),
+    |_, shot| for_each_grey(shot, |threshold| threshold.saturating_sub(1)),
     one_grey,
     repeated_cells,
     any_margin,
@@ -23,23 +24,18 @@ const CHANGES: [Change; 10] = [
 
 /// One change or two, half of the time with a minimum margin that lets a tie pass.
 pub fn shot(prng: &mut Prng) -> Shot {
-    let scene = Scene::random(prng);
-    let look = prng.pick(&LOOKS);
-    let mut shot = scene.shot(prng, look);
+    let mut shot = Scene::random(prng).any_shot(prng);
     for _ in 0..1 + prng.below(2) {
         prng.pick(&CHANGES)(prng, &mut shot);
     }
-    if prng.below(2) == 0 {
+    if prng.one_in(2) {
         any_margin(prng, &mut shot);
     }
     shot
 }
 
 fn any_margin(prng: &mut Prng, shot: &mut Shot) {
-    shot.map |= settings::MINIMUM_MARGIN;
-    shot.minimum_margin = prng
-        .pick(&[0.0f32, -0.0, -1.0, f32::MIN_POSITIVE])
-        .to_bits();
+    shot.set_minimum_margin(prng.pick(&[0.0, -0.0, -1.0, NORMAL]));
 }
 
 fn equal_codes(_: &mut Prng, shot: &mut Shot) {
@@ -59,29 +55,21 @@ fn two_codes(prng: &mut Prng, shot: &mut Shot) {
 }
 
 fn equal_grids(prng: &mut Prng, shot: &mut Shot) {
-    let place = prng.below(shot.cells.len() as u64) as usize;
-    let sample = shot.cells[place].sample.clone();
+    let sample = any_sample(prng, shot);
     for cell in &mut shot.cells {
         cell.sample = sample.clone();
     }
 }
 
 fn two_grids(prng: &mut Prng, shot: &mut Shot) {
-    let two = [(); 2].map(|()| {
-        let place = prng.below(shot.cells.len() as u64) as usize;
-        shot.cells[place].sample.clone()
-    });
+    let two = prng.two(|prng| any_sample(prng, shot));
     for cell in &mut shot.cells {
-        cell.sample = two[prng.below(2) as usize].clone();
+        cell.sample = two[prng.place(2)].clone();
     }
 }
 
-fn greys_at_the_threshold(_: &mut Prng, shot: &mut Shot) {
-    for_each_grey(shot, |threshold| threshold);
-}
-
-fn greys_next_to_the_threshold(_: &mut Prng, shot: &mut Shot) {
-    for_each_grey(shot, |threshold| threshold.saturating_sub(1));
+fn any_sample(prng: &mut Prng, shot: &Shot) -> Option<Sample> {
+    shot.cells[prng.place(shot.cells.len())].sample.clone()
 }
 
 fn one_grey(prng: &mut Prng, shot: &mut Shot) {
@@ -90,11 +78,7 @@ fn one_grey(prng: &mut Prng, shot: &mut Shot) {
 }
 
 fn for_each_grey(shot: &mut Shot, grey: impl Fn(u8) -> u8) {
-    let samples = shot
-        .cells
-        .iter_mut()
-        .filter_map(|cell| cell.sample.as_mut());
-    for sample in samples {
+    for sample in shot.samples_mut() {
         sample.grid.fill(grey(sample.threshold));
     }
 }
@@ -102,23 +86,22 @@ fn for_each_grey(shot: &mut Shot, grey: impl Fn(u8) -> u8) {
 /// The same cell several times, as it is or with another's samples.
 fn repeated_cells(prng: &mut Prng, shot: &mut Shot) {
     for _ in 0..1 + prng.below(4) {
-        let [from, other] = [(); 2].map(|()| prng.below(shot.cells.len() as u64) as usize);
+        let [from, other] = prng.two(|prng| prng.place(shot.cells.len()));
         let mut cell = shot.cells[from].clone();
-        if prng.below(2) == 0 {
+        if prng.one_in(2) {
             cell.sample = shot.cells[other].sample.clone();
         }
-        let at = prng.below(shot.cells.len() as u64 + 1) as usize;
-        shot.cells.insert(at, cell);
+        shot.cells.insert(prng.place(shot.cells.len() + 1), cell);
     }
 }
 
 /// Boards of 2 by 2, 2 by 3, 3 by 2 and 3 by 3 squares, on which most placements are alike.
 pub fn tiny_board(prng: &mut Prng) -> Shot {
-    let [rows, cols] = prng.pick(&[[2, 2], [2, 3], [3, 2], [3, 3]]);
-    let scene = Scene::of_board(prng, rows, cols).with_part_seen(prng);
+    let size = prng.pick(&[[2, 2], [2, 3], [3, 2], [3, 3]]);
+    let scene = Scene::of_board(prng, size).with_part_seen(prng);
     let look = prng.pick(&[Look::Clear, Look::Noisy, Look::Random]);
     let mut shot = scene.shot(prng, look);
-    if prng.below(2) == 0 {
+    if prng.one_in(2) {
         prng.pick(&CHANGES)(prng, &mut shot);
     }
     shot

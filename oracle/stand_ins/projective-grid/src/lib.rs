@@ -1,6 +1,9 @@
 //! Stand-in for projective-grid: a point of the integer grid and the affine transforms of it.
 
-pub mod expert;
+/// The path under which upstream looks for the transforms.
+pub mod expert {
+    pub mod lattice;
+}
 
 #[derive(Clone, Copy, Debug, Default, PartialEq, Eq, Hash, PartialOrd, Ord)]
 pub struct Coord {

@@ -62,14 +62,12 @@ impl MarkerDetection {
         }
     }
 
-    #[must_use]
     pub const fn with_scores(mut self, score: f32, border_score: f32) -> Self {
         self.score = score;
         self.border_score = border_score;
         self
     }
 
-    #[must_use]
     pub const fn with_corners_img(mut self, corners_img: [Point2<f32>; 4]) -> Self {
         self.corners_img = Some(corners_img);
         self

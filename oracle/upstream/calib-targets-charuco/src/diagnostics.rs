@@ -6,8 +6,7 @@ use super::hypothesis::rotation_index_for;
 use super::score_matrix::{build_score_matrix, ScoreMatrix};
 use super::{match_board_core, BoardMatchConfig, DiagHypothesis, MatchSink};
 use crate::board::CharucoBoard;
-use crate::match_run::{Gate, MatchRun, Selected, NO_PICTURE};
-use crate::settings::ScoreSettings;
+use crate::public::{Gate, MatchRun, MatchSettings, Selected, NO_PICTURE};
 use calib_targets_aruco::{CellSamples, MarkerCell, MarkerDetection, ScanDecodeConfig};
 use calib_targets_core::GridAlignment;
 
@@ -22,21 +21,21 @@ impl BoardMatchDiagnostics {
     pub fn new(
         board: &CharucoBoard,
         samples: &[Option<CellSamples>],
-        settings: ScoreSettings,
+        settings: MatchSettings,
     ) -> Option<Self> {
-        let config = BoardMatchConfig {
-            bit_likelihood_slope: settings.bit_likelihood_slope,
-            per_bit_floor: settings.per_bit_floor,
-            cell_weight_border_threshold: settings.cell_weight_border_threshold,
-            ..BoardMatchConfig::default()
-        };
-        let matrix = build_score_matrix(board, samples, &config)?;
+        let matrix = build_score_matrix(board, samples, &settings.0)?;
         Some(Self { matrix })
     }
 
     /// Cell by cell, in each cell marker by marker, of each marker the four turns.
-    pub fn scores(&self) -> &[f32] {
+    pub fn all(&self) -> &[f32] {
         &self.matrix.scores
+    }
+
+    /// Marker by marker, of each marker the four turns.
+    pub fn of_cell(&self, cell: usize) -> &[f32] {
+        let count = self.matrix.num_markers * 4;
+        &self.matrix.scores[cell * count..][..count]
     }
 
     /// What `cell_weight` gives for each cell, and 0 where the cell is not sampled.

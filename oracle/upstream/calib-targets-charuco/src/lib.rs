@@ -1,10 +1,7 @@
 //! Upstream's `alignment.rs`, `board.rs`, `board_match/`, with a driver for it, `corner_mapping.rs`, `link_check.rs` and
 //! `marker_sampling.rs`.
 
-mod charuco_corners;
-mod marker_cells;
-mod match_run;
-mod settings;
+mod public;
 include!(concat!(env!("OUT_DIR"), "/alignment.rs"));
 include!(concat!(env!("OUT_DIR"), "/board.rs"));
 include!(concat!(env!("OUT_DIR"), "/board_match.rs"));
@@ -15,11 +12,10 @@ include!(concat!(env!("OUT_DIR"), "/marker_sampling.rs"));
 pub use board::{CharucoBoard, CharucoBoardError, CharucoBoardSpec, MarkerLayout};
 pub use board_match::BoardMatchDiagnostics as ScoredCells;
 pub use board_match::DiagHypothesis;
-pub use charuco_corners::charuco_corners;
 pub use link_check::{
     validate_marker_corner_links, CharucoMarkerCornerLinks, LinkCheckMode, LinkViolation,
     LinkViolationKind, MarkerCornerLink,
 };
-pub use marker_cells::marker_cells;
-pub use match_run::{count_of_markers, Gate, MatchRun, MatchSettings, Selected};
-pub use settings::ScoreSettings;
+pub use public::{
+    charuco_corners, count_of_markers, marker_cells, Gate, MatchRun, MatchSettings, Selected,
+};

@@ -26,25 +26,21 @@ impl LabeledCorner {
         }
     }
 
-    #[must_use]
     pub const fn with_position_covariance(mut self, covariance: Option<[[f32; 2]; 2]>) -> Self {
         self.position_covariance = covariance;
         self
     }
 
-    #[must_use]
     pub const fn with_grid(mut self, grid: Coord) -> Self {
         self.grid = Some(grid);
         self
     }
 
-    #[must_use]
     pub const fn with_id(mut self, id: u32) -> Self {
         self.id = Some(id);
         self
     }
 
-    #[must_use]
     pub const fn with_target_position(mut self, target: Point2<f32>) -> Self {
         self.target_position = Some(target);
         self

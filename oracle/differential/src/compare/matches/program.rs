@@ -3,7 +3,7 @@
 use super::Shown;
 use crate::subject::Subject;
 use matches::given::{Given, KINDS};
-use matches::{MOST_PLACES, match_record};
+use matches::{MOST_PLACES, match_record, text};
 use std::env;
 use std::ffi::OsString;
 use std::io::{self, Write};
@@ -21,36 +21,31 @@ pub fn compare() -> Vec<Subject> {
     let mut subject = Subject::new("program place");
     for kind in &KINDS {
         for (place, given) in kind.first(OF_EACH_KIND).enumerate() {
-            let answer = match_record(&given.record, &mut [0; MOST_PLACES]);
-            subject.check(
-                printed(&program, &given),
-                Ok((true, answer.to_string())),
-                format_args!("{}, {}", kind.name, Shown(place, &given)),
-            );
+            let matched = match_record(&given.record, MOST_PLACES);
+            let ours = printed(&program, &given);
+            let ours = ours.map_err(|error| format!("{}: {error}", program.display()));
+            let shown = Shown(kind, place, &given);
+            subject.check(ours, Ok((true, text(&matched))), format_args!("{shown}"));
         }
     }
     vec![subject]
 }
 
 /// Whether it ended well, and what it printed; or why it could not be run.
-fn printed(program: &OsString, given: &Given) -> Result<(bool, String), String> {
-    let run = || -> io::Result<(bool, String)> {
-        let mut child = Command::new(program)
-            .stdin(Stdio::piped())
-            .stdout(Stdio::piped())
-            .spawn()?;
-        let mut stdin = child.stdin.take().expect("a pipe");
+fn printed(program: &OsString, given: &Given) -> io::Result<(bool, String)> {
+    let mut command = Command::new(program);
+    command.stdin(Stdio::piped()).stdout(Stdio::piped());
+    let mut child = command.spawn()?;
+    let mut stdin = child.stdin.take().expect("a pipe");
+    let written = stdin.write_all(&given.record);
+    drop(stdin);
+    let output = child.wait_with_output()?;
+    match written {
         // A program that has seen enough may leave the rest of a record that is too long.
-        let written = stdin.write_all(&given.record);
-        drop(stdin);
-        let output = child.wait_with_output()?;
-        if let Err(error) = written
-            && error.kind() != io::ErrorKind::BrokenPipe
-        {
-            return Err(error);
+        Err(error) if error.kind() != io::ErrorKind::BrokenPipe => Err(error),
+        _ => {
+            let text = String::from_utf8_lossy(&output.stdout).into_owned();
+            Ok((output.status.success(), text))
         }
-        let text = String::from_utf8_lossy(&output.stdout).into_owned();
-        Ok((output.status.success(), text))
-    };
-    run().map_err(|error| format!("{}: {error}", program.display()))
+    }
 }

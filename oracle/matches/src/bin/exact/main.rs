@@ -5,7 +5,8 @@ mod search;
 
 use matches::exact::{self, Worst};
 use matches::given::KINDS;
-use matches::{Answer, match_record};
+use matches::match_record;
+use records::built_in_table;
 use search::Search;
 use std::process::ExitCode;
 
@@ -45,12 +46,10 @@ fn main() -> ExitCode {
 fn of_many_shots() -> usize {
     let mut classes = [Class::default(); CLASSES.len()];
     let mut large = 0;
-    for given in KINDS
-        .iter()
-        .flat_map(|kind| kind.first(OF_EACH_KIND.min(kind.count)))
-    {
-        let answer = match_record(&given.record, &mut vec![0; given.places]);
-        let (Answer::Placed(_), Some(read)) = (answer, records::read(&given.record)) else {
+    let kinds = KINDS.iter();
+    for given in kinds.flat_map(|kind| kind.first(OF_EACH_KIND.min(kind.count))) {
+        let matched = match_record(&given.record, given.places);
+        let (Ok(_), Some(read)) = (matched, records::read(&given.record)) else {
             continue;
         };
         let cells = read.shot.cells.len();
@@ -78,17 +77,13 @@ fn of_bad_shots() -> usize {
     for cells in SEARCHED {
         for (name, table) in [
             ("any table", search::near_the_floor()),
-            ("built-in", search::built_in()),
+            ("built-in", built_in_table()),
         ] {
             let mut ratio = 0.0f64;
             for is_up in [true, false] {
                 let shot = Search::new(table, cells, is_up).run();
-                let answer = matches::match_shot(&shot, usize::MAX);
-                assert_eq!(
-                    answer.number(),
-                    0,
-                    "a search ends with a shot that is placed"
-                );
+                let matched = matches::match_shot(&shot, usize::MAX);
+                matched.expect("a search ends with a shot that is placed");
                 let worst = exact::worst(&shot);
                 ratio = ratio.max(worst.ratio.unwrap_or(0.0));
                 broken += usize::from(worst.breaks_the_rule);

@@ -7,7 +7,7 @@
 
 use cases::prng::Prng;
 use matches::Wide;
-use records::{Cell, Sample, Shot, TABLE_LENGTH, built_in_table, settings};
+use records::{Cell, Sample, Shot, TABLE_LENGTH, UNSAMPLED, built_in_table, settings};
 use theirs::null_score;
 
 const BITS: u8 = 8;
@@ -23,16 +23,8 @@ type Table = [u32; TABLE_LENGTH];
 
 /// Entries just above -8, an ulp apart; what the cells show adds 0.
 pub fn near_the_floor() -> Table {
-    let mut table = [0; TABLE_LENGTH];
     let floor = (-8.0f32).to_bits();
-    for (entry, below) in table[..=MIDDLE].iter_mut().zip(0..) {
-        *entry = floor - below;
-    }
-    table
-}
-
-pub fn built_in() -> Table {
-    built_in_table()
+    std::array::from_fn(|k| if k <= MIDDLE { floor - k as u32 } else { 0 })
 }
 
 /// A cell by the differences of threshold and grey in its bits, 1 to 255, and its weight.
@@ -78,7 +70,7 @@ impl Search {
         }
         let mut error = self.error(&self.parts);
         for _ in 0..CHANGES {
-            if self.prng.below(8) == 0 && !self.is_table_fixed && self.cells <= 16 {
+            if self.prng.one_in(8) && !self.is_table_fixed && self.cells <= 16 {
                 self.change_table(&mut error);
             } else {
                 self.change_cell(&mut error);
@@ -92,13 +84,10 @@ impl Search {
     }
 
     fn part(&self, row: &Row) -> Part {
-        let mut score = 0.0f32;
-        let mut exact = Wide::ZERO;
-        for &difference in &row.differences {
-            let entry = self.entry(difference);
-            score += entry;
-            exact = exact + Wide::of_float(entry);
-        }
+        let entries = row.differences.map(|difference| self.entry(difference));
+        let score = entries.iter().fold(0.0, |sum, entry| sum + entry);
+        let exact = entries.map(Wide::of_float);
+        let exact = exact.into_iter().fold(Wide::ZERO, |sum, entry| sum + entry);
         let null_score = null_score(BITS);
         Part {
             reported: row.weight * (score - null_score),
@@ -119,9 +108,7 @@ impl Search {
         for _ in 0..TRIED {
             let row = self.greedy_row();
             let part = self.part(&row);
-            self.parts.push(part);
-            let error = self.error(&self.parts);
-            self.parts.pop();
+            let error = self.error(&[&self.parts[..], &[part]].concat());
             if best.as_ref().is_none_or(|&(most, ..)| error > most) {
                 best = Some((error, row, part));
             }
@@ -136,17 +123,14 @@ impl Search {
         let mut score = 0.0f32;
         let mut differences = [1; ENTRIES];
         for place in &mut differences {
-            let tried = (0..48).map(|_| 1 + self.prng.below(255) as u8);
-            let tried: Vec<u8> = tried.collect();
+            let tried = self.prng.many(48, |prng| 1 + prng.below(255) as u8);
             let error = |difference: u8| {
                 let entry = self.entry(difference);
                 let error = f64::from(score + entry) - (f64::from(score) + f64::from(entry));
                 if self.is_up { error } else { -error }
             };
-            let best = tried
-                .into_iter()
-                .max_by(|&a, &b| error(a).total_cmp(&error(b)));
-            *place = best.expect("some entries were tried");
+            let best = |&a: &u8, &b: &u8| error(a).total_cmp(&error(b));
+            *place = tried.into_iter().max_by(best).expect("some were tried");
             score += self.entry(*place);
         }
         Row {
@@ -161,16 +145,16 @@ impl Search {
     }
 
     fn change_cell(&mut self, error: &mut f64) {
-        let cell = self.prng.below(self.cells as u64) as usize;
+        let cell = self.prng.place(self.cells);
         let mut row = self.rows[cell].clone();
         match self.prng.below(4) {
             0 => row.weight = self.weight(),
             1 => {
-                let [a, b] = [(); 2].map(|()| self.prng.below(ENTRIES as u64) as usize);
+                let [a, b] = self.prng.two(|prng| prng.place(ENTRIES));
                 row.differences.swap(a, b);
             }
             _ => {
-                let place = self.prng.below(ENTRIES as u64) as usize;
+                let place = self.prng.place(ENTRIES);
                 row.differences[place] = 1 + self.prng.below(255) as u8;
             }
         }
@@ -185,7 +169,7 @@ impl Search {
     }
 
     fn change_table(&mut self, error: &mut f64) {
-        let place = self.prng.below(MIDDLE as u64) as usize;
+        let place = self.prng.place(MIDDLE);
         let before = self.table[place];
         let lower = self.prng.pick(&[64, 4096, 1 << 22]);
         self.table[place] = (-8.0f32).to_bits() - self.prng.below(lower) as u32;
@@ -201,9 +185,8 @@ impl Search {
 
     fn shot(self) -> Shot {
         let cells = self.rows.iter().map(|row| Cell {
-            u: 0,
-            v: 0,
             sample: Some(sample(row)),
+            ..UNSAMPLED
         });
         Shot {
             map: settings::MINIMUM_MARGIN | settings::BORDER_THRESHOLD | settings::TABLE,
@@ -224,9 +207,5 @@ fn sample(row: &Row) -> Sample {
         let [column, line] = [1 + k % usize::from(BITS), 1 + k / usize::from(BITS)];
         grid[line * SIDE + column] = 255 - difference;
     }
-    Sample {
-        fraction: row.weight.to_bits(),
-        threshold: 255,
-        grid,
-    }
+    Sample::new(row.weight, 255, grid)
 }

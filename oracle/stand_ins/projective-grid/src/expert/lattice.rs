@@ -26,7 +26,6 @@ impl GridTransform {
         self.translation
     }
 
-    #[must_use]
     pub const fn with_translation(mut self, translation: [i32; 2]) -> Self {
         self.translation = translation;
         self

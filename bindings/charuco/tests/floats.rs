@@ -1,0 +1,218 @@
+//! The caller's floats: records answered under other settings of MXCSR. Through the crate every answer is that of the default setting, bit for
+//! bit. Through the C function itself some answer differs under each setting, so that the comparison can fail.
+
+use charuco::words::{self, BoardSpec, CornerInput};
+use std::arch::asm;
+
+/// Round to nearest, subnormal numbers kept, exceptions masked.
+const DEFAULT: u32 = 0x1F80;
+
+const SETTINGS: [(&str, u32); 6] = [
+    ("flush-to-zero", DEFAULT | 0x8000),
+    ("denormals-are-zero", DEFAULT | 0x0040),
+    ("both", DEFAULT | 0x8040),
+    ("round down", DEFAULT | 0x2000),
+    ("round up", DEFAULT | 0x4000),
+    ("round toward zero", DEFAULT | 0x6000),
+];
+
+const UNMASKED: u32 = 0;
+
+unsafe extern "C" {
+    fn charuco_match_board(
+        bytes: *const u8,
+        n: usize,
+        markers: *mut u32,
+        n_markers: usize,
+        values: *mut u32,
+        n_values: usize,
+    ) -> u32;
+}
+
+/// Calls with a setting of MXCSR, and gives what it is after the call.
+fn under(setting: u32, question: &mut Question, ask: extern "C" fn(&mut Question)) -> u32 {
+    let mut words = [setting, 0, 0];
+    // SAFETY: `ask` gets the argument that it takes; r12 is kept by a function that is called, and MXCSR is put back in the same block.
+    unsafe {
+        asm!(
+            "stmxcsr dword ptr [r12 + 8]",
+            "ldmxcsr dword ptr [r12]",
+            "call {ask}",
+            "stmxcsr dword ptr [r12 + 4]",
+            "ldmxcsr dword ptr [r12 + 8]",
+            ask = in(reg) ask,
+            in("rdi") &raw mut *question,
+            in("r12") words.as_mut_ptr(),
+            clobber_abi("C"),
+        );
+    }
+    words[1]
+}
+
+/// A record and what is answered for it. No float is computed with here, so that a setting changes nothing but the library's answers.
+struct Question {
+    record: Vec<u8>,
+    spec: BoardSpec,
+    codes: [u64; 1024],
+    markers: [u32; 256 * 18],
+    corners: [u32; 961 * 6],
+    numbers: [u32; 2],
+    values: [u32; 17],
+    count: [u32; 1],
+}
+
+type Answers = (Vec<u32>, Vec<u32>);
+
+impl Question {
+    fn new(record: Vec<u8>) -> Self {
+        Self {
+            spec: charuco::read_header(&record).expect("a whole record").spec,
+            record,
+            // Every code that a board asks for is there; which they are makes no difference to corners.
+            codes: [0; 1024],
+            markers: [0; 256 * 18],
+            corners: [0; 961 * 6],
+            numbers: [0; 2],
+            values: [0; 17],
+            count: [0; 1],
+        }
+    }
+
+    /// The words of Match and of the corner entry; these are then cleared.
+    fn take(&mut self) -> Answers {
+        let mut matched = vec![self.numbers[0]];
+        matched.extend(self.values);
+        matched.extend(self.markers);
+        let mut mapped = vec![self.numbers[1], self.count[0]];
+        mapped.extend(self.corners);
+        self.markers.fill(0);
+        self.corners.fill(0);
+        self.numbers.fill(0);
+        self.values.fill(0);
+        self.count.fill(0);
+        (matched, mapped)
+    }
+}
+
+extern "C" fn through_the_crate(q: &mut Question) {
+    q.numbers[0] = words::match_board(&q.record, &mut q.markers, &mut q.values);
+    let input = CornerInput {
+        scores: &[1.0; 4],
+        grid: &[1, 0, 0, 1, 1, 0, 1, 2, 1, 1, 0, 4],
+        alignment: (0, 1, 1),
+    };
+    q.numbers[1] =
+        words::map_charuco_corners(&q.spec, &q.codes, input, &mut q.corners, &mut q.count);
+}
+
+extern "C" fn through_c(q: &mut Question) {
+    q.numbers[0] = unsafe {
+        charuco_match_board(
+            q.record.as_ptr(),
+            q.record.len(),
+            q.markers.as_mut_ptr(),
+            q.markers.len(),
+            q.values.as_mut_ptr(),
+            q.values.len(),
+        )
+    };
+}
+
+struct Random(u64);
+
+impl Random {
+    fn below(&mut self, n: u32) -> u32 {
+        self.0 ^= self.0 << 13;
+        self.0 ^= self.0 >> 7;
+        self.0 ^= self.0 << 17;
+        (self.0 >> 32) as u32 % n
+    }
+
+    /// The bits of a float above 0 and at most 1, a third of them subnormal.
+    fn fraction(&mut self) -> u32 {
+        match self.below(3) {
+            0 => 1 + self.below(0x7F_FFFF),
+            1 => 0x80_0000 + self.below(0x3F00_0000),
+            _ => 0x3980_0000 + self.below(0x0600_0001),
+        }
+    }
+}
+
+/// A sheet with fractions, sizes and some greys of its own.
+fn vary(sheet: &[u8], random: &mut Random) -> Vec<u8> {
+    let mut record = sheet.to_vec();
+    let header = charuco::read_header(sheet).expect("a whole record");
+    let settings = 4 * (header.map & 7).count_ones() + 2044 * (header.map >> 3);
+    let sizes = 1 + settings as usize + 4;
+    let all_subnormal = random.below(2) == 0;
+    record[sizes..sizes + 4].copy_from_slice(&random.fraction().to_le_bytes());
+    for k in 0..header.cells {
+        let mut words = [0; 2];
+        assert_eq!(words::grid(sheet, k, &mut words), 0);
+        let [start, length] = words.map(|word| word as usize);
+        if length == 0 {
+            continue;
+        }
+        let bits = if all_subnormal {
+            1 + random.below(0x7F_FFFF)
+        } else {
+            random.fraction()
+        };
+        record[start - 5..start - 1].copy_from_slice(&bits.to_le_bytes());
+        for grey in &mut record[start..start + length] {
+            *grey ^= random.below(64) as u8;
+        }
+    }
+    record
+}
+
+fn sheets() -> Vec<Vec<u8>> {
+    let folder = concat!(env!("CARGO_MANIFEST_DIR"), "/../../samples");
+    let files = std::fs::read_dir(folder).expect("the folder of the samples");
+    let mut paths: Vec<_> = files.map(|file| file.expect("a file").path()).collect();
+    paths.retain(|path| path.extension().is_some_and(|end| end == "shot"));
+    paths.sort();
+    let read = |path| std::fs::read(path).expect("a sheet");
+    paths.into_iter().map(read).collect()
+}
+
+#[test]
+fn answers_do_not_depend_on_the_callers_floats() {
+    let mut random = Random(0x2545_F491_4F6C_DD1D);
+    let sheets = sheets();
+    assert!(sheets.len() >= 5);
+    let varied = 150;
+    let mut differing = [0; SETTINGS.len()];
+    let mut placed = 0;
+    for sheet in &sheets {
+        for k in 0..=varied {
+            let record = if k == 0 {
+                sheet.clone()
+            } else {
+                vary(sheet, &mut random)
+            };
+            let mut question = Question::new(record);
+            assert_eq!(
+                under(DEFAULT, &mut question, through_the_crate) & !0x3F,
+                DEFAULT
+            );
+            let expected = question.take();
+            placed += usize::from(expected.0[0] == 0);
+            for ((name, setting), differing) in SETTINGS.iter().zip(&mut differing) {
+                let after = under(*setting, &mut question, through_the_crate);
+                assert_eq!(after, *setting, "{name}: MXCSR is not as it was");
+                assert!(question.take() == expected, "{name}");
+                under(*setting, &mut question, through_c);
+                *differing += usize::from(question.take().0 != expected.0);
+            }
+            assert_eq!(under(UNMASKED, &mut question, through_the_crate), UNMASKED);
+            assert!(question.take() == expected, "exceptions unmasked");
+        }
+    }
+    println!("{} records, {placed} placed", sheets.len() * (varied + 1));
+    for ((name, _), differing) in SETTINGS.iter().zip(differing) {
+        println!("{name}: {differing} differ where the C function is called as it is");
+        assert!(differing > 0, "{name}: no answer differs");
+    }
+    assert!(placed > 0);
+}

@@ -1,0 +1,12 @@
+-- `replay::entries::marker_cells` is safe: the lists are as long as the parts that are lent. Assumes nothing.
+use native.Mathlib.Omega.{arith}
+use mathlib.Core.Path.{sym}
+use lib.Seq.{length-take-le}
+use borrow.Author.Needs.{needs}
+use Rattle.replay.proofs.entries.marker_cells.Statement.{statement}
+use Rattle.replay.proofs.entries.marker_cells.Tie as tie
+
+pub marker-cells-spec : {M : Type 1} → statement M
+marker-cells-spec =
+    tie.close (tie.spec (λ c κs. search needs) (λ c. search needs) (λ c κs. search needs) (λ c. search needs)
+    (λ c. sym (length-take-le _ _ (omega arith))) (λ c κs. search needs) (λ c. search needs))

@@ -1,0 +1,12 @@
+-- `replay::rows::answer_with_list` is safe: the lists are as long as the parts that are lent. Assumes nothing.
+use native.Mathlib.Omega.{arith}
+use mathlib.Core.Path.{sym}
+use lib.Seq.{length-take-le}
+use borrow.Author.Needs.{needs}
+use Rattle.replay.proofs.rows.answer_with_list.Statement.{statement}
+use Rattle.replay.proofs.rows.answer_with_list.Tie as tie
+
+pub answer-with-list-spec : {M : Type 1} → statement M
+answer-with-list-spec =
+    tie.close (tie.spec (λ c κs. search needs) (λ c κs. search needs) (λ c. search needs) (λ c. sym (length-take-le _ _ (omega arith)))
+    (λ c κs. search needs) (λ c. search needs))

@@ -1,0 +1,184 @@
+// The lines of the standard input, one at a time. Words are upper-case hexadecimal, one space apart; a line that starts with # is a comment.
+ghost use Prim.Native.Nat.{_<_};
+use libc::STDIN_FILENO;
+
+// A line as far as it is read. A comment has no words; a line that is not read has one, of no known kind.
+pub struct Line {
+    // The words that have ended, and how many.
+    pub words: [u64; 32],
+    pub count: usize,
+    // May there be a line after it?
+    pub more: bool,
+    // The word after them, and whether it has a digit yet.
+    word: u64,
+    started: bool,
+    // Has it a byte yet, is it a comment, has it a byte that is not expected?
+    begun: bool,
+    comment: bool,
+    broken: bool,
+}
+
+// The value of a digit; 16 for every other byte.
+fn digit_value(byte: u8) -> u8 {
+    if byte < b'0' {
+        return 16;
+    }
+    if byte <= b'9' {
+        return byte - b'0';
+    }
+    if byte < b'A' {
+        return 16;
+    }
+    if byte <= b'F' {
+        return byte - b'A' + 10;
+    }
+    16
+}
+
+impl Line {
+    fn new() -> Line {
+        Line {
+            words: [0; 32],
+            count: 0,
+            more: true,
+            word: 0,
+            started: false,
+            begun: false,
+            comment: false,
+            broken: false,
+        }
+    }
+
+    fn refused(mut self) -> Line {
+        self.broken = true;
+        self
+    }
+
+    // Refused: what is no digit, a digit after a leading zero, a 17th digit.
+    fn with_digit(mut self, digit: u8) -> Line {
+        let word = self.word;
+        if 15 < digit {
+            return self.refused();
+        }
+        if self.started && word == 0 {
+            return self.refused();
+        }
+        if 0xFFF_FFFF_FFFF_FFFF < word {
+            return self.refused();
+        }
+        self.word = word * 16 + (digit as u64);
+        self.started = true;
+        self
+    }
+
+    // Refused: no digit, a 33rd word.
+    fn word_ended(mut self) -> Line {
+        let word = self.word;
+        let at = self.count;
+        if !self.started {
+            return self.refused();
+        }
+        if 31 < at {
+            return self.refused();
+        }
+        self.words[at] = word;
+        self.count = at + 1;
+        self.word = 0;
+        self.started = false;
+        self
+    }
+
+    // Any byte but a line feed.
+    fn step(mut self, byte: u8) -> Line {
+        if self.comment {
+            return self;
+        }
+        if !self.begun && byte == b'#' {
+            self.begun = true;
+            self.comment = true;
+            return self;
+        }
+        self.begun = true;
+        if byte == b' ' {
+            return self.word_ended();
+        }
+        self.with_digit(digit_value(byte))
+    }
+
+    fn without_words(mut self) -> Line {
+        self.count = 0;
+        self
+    }
+
+    fn unread(mut self) -> Line {
+        self.words[0] = u64::MAX;
+        self.count = 1;
+        self
+    }
+
+    // At a line feed.
+    fn at_line_feed(self) -> Line {
+        if self.comment {
+            return self.without_words();
+        }
+        let line = self.word_ended();
+        if line.broken {
+            return line.unread();
+        }
+        line
+    }
+
+    // Where there is no byte: a line with no line feed is not read, and neither is one at which a read fails.
+    fn at_end(mut self, failed: bool) -> Line {
+        self.more = false;
+        if failed || (self.begun && !self.comment) {
+            return self.unread();
+        }
+        self.without_words()
+    }
+}
+
+// A byte, and what `read` answered: 1, 0 at the end of the input, or -1 if it failed.
+struct Got {
+    byte: u8,
+    count: isize,
+}
+
+// The input is small enough to be read byte by byte.
+fn next_byte() -> Got {
+    let mut buffer: [u8; 1] = [0];
+    let count = libc::read(STDIN_FILENO, &mut buffer);
+    Got {
+        byte: buffer[0],
+        count,
+    }
+}
+
+// Nothing says that a line ends, and a loop has to: it counts its turns down from a number that no run uses up.
+pub fn next_line() -> Line {
+    let mut line = Line::new();
+    let mut turns = u64::MAX;
+    while turns > 0 {
+        turns -= 1;
+        let got = next_byte();
+        if got.count < 1 {
+            return line.at_end(got.count < 0);
+        }
+        if got.byte == b'\n' {
+            return line.at_line_feed();
+        }
+        line = line.step(got.byte);
+    }
+    line.at_end(true)
+}
+
+// Likewise for an input.
+pub fn turns_left(turns: u64, more: bool) -> u64
+    requires { ⌜ 0 < turns ⌝ }
+    ensures { λ r. ⌜ r < turns ⌝ }
+{
+    if more {
+        return turns - 1;
+    }
+    0
+}

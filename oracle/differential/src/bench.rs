@@ -1,0 +1,234 @@
+//! What the benchmarks share. Both sides take their turn in every round.
+
+pub mod heap;
+mod stack;
+
+use crate::entries::Input;
+use std::fmt::Display;
+use std::hint::black_box;
+use std::panic;
+use std::process::ExitCode;
+use std::time::Instant;
+
+const ROUNDS: usize = 31;
+
+/// A short case is repeated until a round of the Rust takes about so many nanoseconds.
+const LENGTH_OF_A_ROUND: f64 = 5e6;
+
+/// A case that takes the Rust longer than this has one round.
+const LONG: f64 = 1e9;
+
+/// Runs that are ready to be timed.
+pub type Runs<'a> = Box<dyn FnOnce() + Send + 'a>;
+
+/// So many runs, each a call.
+pub fn runs<'a, T>(count: usize, mut call: impl FnMut() -> T + Send + 'a) -> Runs<'a> {
+    Box::new(move || {
+        for _ in 0..count {
+            black_box(call());
+        }
+    })
+}
+
+pub trait Case {
+    /// What these runs are lent or use up is made before they are timed.
+    fn runs_of_ours(&self, count: usize) -> Runs<'_>;
+
+    fn runs_of_theirs(&self, count: usize) -> Runs<'_>;
+
+    /// Do both sides answer alike?
+    fn agrees(&self) -> bool;
+
+    /// How many units a run has, by which times are divided.
+    fn units(&self) -> usize {
+        1
+    }
+
+    /// Runs of a round, if their number is fixed.
+    fn fixed_runs(&self) -> Option<usize> {
+        None
+    }
+}
+
+/// What a benchmark is asked for on its command line: `[ours|theirs|both [ROUNDS [CASE]]]`.
+struct Arguments {
+    ours: bool,
+    theirs: bool,
+    rounds: usize,
+    case: Option<usize>,
+}
+
+impl Arguments {
+    /// None if they are not understood, for a benchmark with so many cases.
+    fn read(cases: usize) -> Option<Self> {
+        let words: Vec<String> = std::env::args().skip(1).collect();
+        let side = words.first().map_or("both", String::as_str);
+        let rounds = words.get(1).map_or(Ok(ROUNDS), |word| word.parse()).ok()?;
+        let case = words.get(2).map(|word| word.parse()).transpose().ok()?;
+        let is_known = ["ours", "theirs", "both"].contains(&side)
+            && words.len() <= 3
+            && rounds > 0
+            && case.is_none_or(|case| case < cases);
+        is_known.then_some(Self {
+            ours: side != "theirs",
+            theirs: side != "ours",
+            rounds,
+            case,
+        })
+    }
+}
+
+/// What a benchmark prints.
+pub struct Bench {
+    pub program: &'static str,
+    /// What a time is for.
+    pub unit: &'static str,
+    /// Whether the memory of a call is told. This takes the allocator `heap::Counting`.
+    pub tells_memory: bool,
+    /// Printed before all cases.
+    pub first: fn(),
+}
+
+impl Bench {
+    /// One that tells the memory too.
+    pub const fn with_memory(program: &'static str, unit: &'static str) -> Self {
+        Self {
+            program,
+            unit,
+            tells_memory: true,
+            first: || (),
+        }
+    }
+
+    /// Ends with 1 if the sides differ.
+    pub fn run<C: Case>(&self, cases: Vec<(impl Display, C)>) -> ExitCode {
+        let Some(arguments) = Arguments::read(cases.len()) else {
+            let program = self.program;
+            eprintln!("usage: {program} [ours|theirs|both [ROUNDS [CASE]]]");
+            return ExitCode::FAILURE;
+        };
+        if checks_overflow() {
+            let advice = "use --profile speed";
+            println!("Built with checks for overflow, which slow the Rust down: {advice}.");
+        }
+        if arguments.case.is_none() {
+            (self.first)();
+        }
+        let mut agree = true;
+        for (number, (name, case)) in cases.iter().enumerate() {
+            if arguments.case.is_none_or(|case| case == number) {
+                println!("case {number}: {name}");
+                agree &= self.measure(case, &arguments);
+                if self.tells_memory {
+                    print_memory("ours", || case.runs_of_ours(1));
+                    print_memory("theirs", || case.runs_of_theirs(1));
+                }
+            }
+        }
+        ExitCode::from(u8::from(!agree))
+    }
+
+    /// Prints the times. Do the answers agree, if both sides are asked?
+    fn measure(&self, case: &impl Case, arguments: &Arguments) -> bool {
+        let mut rounds = arguments.rounds;
+        let count = case.fixed_runs().unwrap_or_else(|| {
+            let length = nanoseconds(case.runs_of_theirs(1));
+            if length > LONG {
+                rounds = 1;
+            }
+            (LENGTH_OF_A_ROUND / length).ceil() as usize
+        });
+        let units = (count * case.units()) as f64;
+        let [mut ours, mut theirs] = [const { Vec::new() }; 2];
+        for _ in 0..rounds {
+            if arguments.ours {
+                ours.push(nanoseconds(case.runs_of_ours(count)) / units);
+            }
+            if arguments.theirs {
+                theirs.push(nanoseconds(case.runs_of_theirs(count)) / units);
+            }
+        }
+        let ours = self.print_times("ours", ours);
+        let theirs = self.print_times("theirs", theirs);
+        let (Some(ours), Some(theirs)) = (ours, theirs) else {
+            return true;
+        };
+        let [best, median] = [0, 1].map(|i| ours[i] / theirs[i]);
+        println!("    ours / theirs  best {best:.3},         median {median:.3}");
+        let agrees = case.agrees();
+        if !agrees {
+            println!("    the answers differ");
+        }
+        agrees
+    }
+
+    /// The best round and the median one, unless there is none.
+    fn print_times(&self, side: &str, mut times: Vec<f64>) -> Option<[f64; 2]> {
+        times.sort_by(f64::total_cmp);
+        let [best, median] = [*times.first()?, times[times.len() / 2]];
+        let unit = self.unit;
+        println!("    {side:6}  best {best:8.2} ns a {unit}, median {median:8.2}");
+        Some([best, median])
+    }
+}
+
+pub fn nanoseconds(round: impl FnOnce()) -> f64 {
+    let start = Instant::now();
+    round();
+    start.elapsed().as_nanos() as f64
+}
+
+/// Whether the program is built with checks for overflow.
+fn checks_overflow() -> bool {
+    let hook = panic::take_hook();
+    panic::set_hook(Box::new(|_| ()));
+    let overflows = panic::catch_unwind(|| black_box(u8::MAX) + black_box(1)).is_err();
+    panic::set_hook(hook);
+    overflows
+}
+
+/// What a call uses besides what it is given: the most bytes of the heap at a time, and how deep it goes into the stack.
+fn print_memory<'a>(side: &str, run: impl Fn() -> Runs<'a>) {
+    let heap = heap::most_used(run());
+    let stack = stack::used(run());
+    println!("    {side:6}  {heap:9} bytes of heap, {stack:7} of stack");
+}
+
+/// An entry that tells first how many results there are.
+pub struct EntryCase {
+    input: Box<dyn Input + Sync>,
+    /// The results of the Rust, counted.
+    theirs: Box<dyn Fn() -> usize + Sync>,
+}
+
+impl EntryCase {
+    pub fn new(
+        input: impl Input + Sync + 'static,
+        theirs: impl Fn() -> usize + Sync + 'static,
+    ) -> Self {
+        Self {
+            input: Box::new(input),
+            theirs: Box::new(theirs),
+        }
+    }
+}
+
+impl Case for EntryCase {
+    fn runs_of_ours(&self, count: usize) -> Runs<'_> {
+        let mut values = [0; 2];
+        let mut lent = vec![0; self.input.places()];
+        let ours = self.input.ours();
+        runs(count, move || ours(&mut values, black_box(&mut lent)))
+    }
+
+    fn runs_of_theirs(&self, count: usize) -> Runs<'_> {
+        runs(count, &self.theirs)
+    }
+
+    /// Whether there are as many results. The Rust does not refuse too many cells.
+    fn agrees(&self) -> bool {
+        let mut values = [0; 2];
+        let number = self.input.ours()(&mut values, &mut vec![0; self.input.places()]);
+        number == 20 || number == 0 && values[0] as usize == (self.theirs)()
+    }
+}

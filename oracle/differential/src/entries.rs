@@ -1,0 +1,108 @@
+//! The entries of our library, as every Rust program asks them, and the answers that are expected.
+
+use cases::answer::Answer;
+use cases::boards::BoardArguments;
+use cases::corner_entry::CornerInput;
+use cases::corner_lists::CornerLists;
+use cases::link_entry::LinkInput;
+use charuco::{BoardSpec, words};
+use matches::given::Given;
+use std::slice::from_raw_parts_mut;
+
+/// A call of our library: it writes `values` and the list that is lent, and answers a number.
+pub type Call<'a> = Box<dyn Fn(&mut [u32], &mut [u32]) -> u32 + Send + 'a>;
+
+/// An input of an entry.
+pub trait Input {
+    /// The length of the list that is lent.
+    fn places(&self) -> usize;
+
+    fn ours(&self) -> Call<'_>;
+
+    fn theirs(&self) -> Answer;
+}
+
+impl Input for CornerLists {
+    fn places(&self) -> usize {
+        self.places
+    }
+
+    fn ours(&self) -> Call<'_> {
+        Box::new(|values, lent| {
+            // SAFETY: these are the words of one slice, and each is as good an i32.
+            let cells = unsafe { from_raw_parts_mut(lent.as_mut_ptr().cast(), lent.len()) };
+            words::build_marker_cells(&self.scores, &self.grid, &self.inliers, cells, values)
+        })
+    }
+
+    fn theirs(&self) -> Answer {
+        theirs::marker_cells(self)
+    }
+}
+
+impl Input for CornerInput {
+    fn places(&self) -> usize {
+        self.lists.places
+    }
+
+    fn ours(&self) -> Call<'_> {
+        let [tx, ty] = self.translation;
+        let corners = words::CornerInput {
+            scores: &self.lists.scores,
+            grid: &self.lists.grid,
+            alignment: (self.turn, tx, ty),
+        };
+        let (spec, codes) = (spec(&self.board), self.board.codes());
+        Box::new(move |values, lent| {
+            words::map_charuco_corners(&spec, codes, corners, lent, values)
+        })
+    }
+
+    fn theirs(&self) -> Answer {
+        theirs::map_charuco_corners(self)
+    }
+}
+
+impl Input for LinkInput {
+    fn places(&self) -> usize {
+        self.places
+    }
+
+    fn ours(&self) -> Call<'_> {
+        let (spec, codes) = (spec(&self.board), self.board.codes());
+        let mode = u32::from(self.all_four);
+        Box::new(move |values, lent| {
+            words::validate_marker_corner_links(&spec, codes, &self.words, mode, lent, values)
+        })
+    }
+
+    /// By the rules, which have the order of document 01.
+    fn theirs(&self) -> Answer {
+        theirs::links_by_rules(self)
+    }
+}
+
+impl Input for Given {
+    fn places(&self) -> usize {
+        self.places
+    }
+
+    fn ours(&self) -> Call<'_> {
+        Box::new(|values, lent| words::match_board(&self.record, lent, values))
+    }
+
+    fn theirs(&self) -> Answer {
+        matches::told(&matches::match_record(&self.record, self.places))
+    }
+}
+
+const fn spec(board: &BoardArguments) -> BoardSpec {
+    BoardSpec {
+        rows: board.rows,
+        cols: board.cols,
+        bits: board.bits,
+        border_bits: board.border_bits,
+        cell_size: board.cell_size,
+        marker_size_rel: board.marker_size_rel,
+    }
+}

@@ -1,3 +1,0 @@
-//! The path under which upstream looks for the transforms.
-
-pub mod lattice;

@@ -1,0 +1,131 @@
+//! Whether the answers in the file would show that any two words or fields are exchanged, that a word is left out, or that a
+//! kind of line is spelled otherwise; and whether every number of a refusal comes up.
+
+use crate::kinds::{self, Kind};
+use crate::script::Asked;
+use cases::answer::Answer;
+use std::collections::{BTreeMap, BTreeSet};
+
+/// What no input tells apart.
+struct Alike {
+    /// Words with one value.
+    same: &'static [usize],
+    /// Pairs of words that are always equal.
+    equal: &'static [[usize; 2]],
+}
+
+const fn alike(same: &'static [usize], equal: &'static [[usize; 2]]) -> Alike {
+    Alike { same, equal }
+}
+
+const NONE: Alike = alike(&[], &[]);
+
+/// A best placement always has a number, since without one no marker is emitted; there is always a runner-up, since cells
+/// that fit in a turn also fit in the opposite one; and the corners are turned as the cells are.
+const MATCH: Alike = alike(&[3, 5], &[[3, 5], [0, 13]]);
+
+/// The sides of a rectified cell are upright and level.
+const RECT_CORNERS: Alike = alike(&[], &[[1, 3], [2, 4], [0, 6], [5, 7]]);
+const MARKERS: Alike = alike(&[], &[[11, 13], [12, 14], [10, 16], [15, 17]]);
+
+/// Has every word two values, and are no two words equal in all answers, but for those that are named?
+fn check_told<T: Ord>(name: &str, answers: &[Vec<T>], alike: &Alike) {
+    let first = answers.first();
+    let words = first.unwrap_or_else(|| panic!("no answer of {name}")).len();
+    let values = |word: usize| {
+        let values: BTreeSet<&T> = answers.iter().map(|answer| &answer[word]).collect();
+        values.len()
+    };
+    let same: Vec<usize> = (0..words).filter(|&word| values(word) < 2).collect();
+    assert_eq!(same, alike.same, "words of {name} with one value");
+    let pairs = (0..words).flat_map(|b| (0..b).map(move |a| [a, b]));
+    let is_equal = |[a, b]: &[usize; 2]| answers.iter().all(|answer| answer[*a] == answer[*b]);
+    let equal: Vec<[usize; 2]> = pairs.filter(is_equal).collect();
+    assert_eq!(equal, alike.equal, "equal words of {name}");
+}
+
+pub fn check(asked: &[Asked]) {
+    for &kind in kinds::ALL {
+        let answers = asked.iter().filter(|asked| asked.kind == kind);
+        let answers: Vec<&Answer> = answers.map(|asked| &asked.answer).collect();
+        check_kind(kind, &answers);
+    }
+    check_text(asked);
+}
+
+/// Refusals tell words of their own.
+fn check_kind(kind: Kind, answers: &[&Answer]) {
+    let name = kind.name;
+    let numbers: BTreeSet<u32> = answers.iter().map(|answer| answer.number).collect();
+    let expected: BTreeSet<u32> = kind.numbers.iter().copied().collect();
+    assert_eq!(numbers, expected, "numbers of {name}");
+    for number in numbers {
+        let of_number = answers.iter().filter(|answer| answer.number == number);
+        let words: Vec<Vec<u32>> = of_number.map(|answer| answer.words.clone()).collect();
+        let alike = match (kind, number) {
+            (kinds::MATCH, 0) => &MATCH,
+            (kinds::RECT_CORNERS, _) => &RECT_CORNERS,
+            _ => &NONE,
+        };
+        check_told(&format!("{name}, answer {number}"), &words, alike);
+    }
+    if kind.of_result > 0 {
+        let results = answers
+            .iter()
+            .flat_map(|answer| answer.list.chunks(kind.of_result));
+        let results: Vec<Vec<u32>> = results.map(<[u32]>::to_vec).collect();
+        let is_match = kind == kinds::MATCH;
+        let alike = if is_match { &MARKERS } else { &NONE };
+        check_told(&format!("results of {name}"), &results, alike);
+    }
+}
+
+/// The lines but for refusals.
+const LINES: [&str; 10] = [
+    "placed",
+    "best",
+    "best none",
+    "next",
+    "next none",
+    "next absent",
+    "margin",
+    "placements",
+    "corners",
+    "marker",
+];
+
+/// The fields of every kind of line.
+fn check_text(asked: &[Asked]) {
+    let mut lines: BTreeMap<String, Vec<Vec<&str>>> = BTreeMap::new();
+    for line in asked.iter().flat_map(|asked| asked.text.lines()) {
+        let words: Vec<&str> = line.split(' ').collect();
+        let kind = match words[..] {
+            ["refused", number, ..] => format!("refused {number}"),
+            [line, .., "none"] => format!("{line} none"),
+            ["next", "absent"] => "next absent".into(),
+            _ => words[0].into(),
+        };
+        lines.entry(kind).or_default().push(words[1..].to_vec());
+    }
+    // The program always has places enough, so that 14 does not come up.
+    let refusals = kinds::MATCH.numbers.iter().filter(|&&n| n != 0 && n != 14);
+    let mut expected: BTreeSet<String> = refusals.map(|n| format!("refused {n}")).collect();
+    expected.extend(LINES.map(String::from));
+    let kinds: BTreeSet<String> = lines.keys().cloned().collect();
+    assert_eq!(kinds, expected, "kinds of lines");
+    for (kind, lines) in &lines {
+        // The number of a refusal, and the words that say that there is no evidence or no runner-up.
+        let same: &[usize] = match kind.as_str() {
+            "best none" | "next none" => &[3],
+            "next absent" => &[0],
+            refused if refused.starts_with("refused") => &[0],
+            _ => &[],
+        };
+        check_told(&format!("the line {kind}"), lines, &Alike { same, ..NONE });
+    }
+    let is_zero = |field: &str| field.chars().all(|digit| digit == '0');
+    for field in 0..lines["marker"][0].len() {
+        let somewhere = lines["marker"].iter().any(|fields| !is_zero(fields[field]));
+        assert!(somewhere, "field {field} of a marker");
+    }
+}

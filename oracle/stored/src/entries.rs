@@ -1,0 +1,181 @@
+//! The entries for cells, corners and links, and through that for corners the questions about a board.
+
+use crate::kinds::{CELLS, CORNERS, LINKS};
+use crate::script::{MOST_PLACES, Script, few, float, signed};
+use cases::answer::Answer;
+use cases::boards::{self, BASES, BoardArguments, double_changes};
+use cases::corner_entry::{self, CornerInput, alignments, full_board, most_corners};
+use cases::corner_lists::{
+    self, CornerLists, WORDS_OF_A_CORNER, far, most_of_each, random_grid, random_list, shapes,
+    traps,
+};
+use cases::link_entry::{self, LinkInput, many_links, most_of_one_link, whole_board};
+use cases::prng::Prng;
+use theirs::{map_charuco_corners, unordered};
+
+pub fn ask_cells(script: &mut Script) {
+    let mut prng = Prng::new(23);
+    // Longer lists are left to those with the most of each.
+    let short = |lists: &CornerLists| lists.count() <= 40 && lists.inliers.len() <= 80;
+    let mut inputs: Vec<CornerLists> = shapes().into_iter().filter(short).collect();
+    let changed = corner_lists::single_changes().into_iter().filter(short);
+    inputs.extend(changed.filter(|_| prng.one_in(2)));
+    inputs.extend(traps(&mut prng).into_iter().take(20));
+    inputs.extend(far().into_iter().take(1));
+    inputs.extend(prng.many(50, random_list));
+    inputs.extend(prng.many(4, random_grid));
+    inputs.extend(most_of_each());
+    for lists in &inputs {
+        ask_lists(script, lists);
+    }
+}
+
+/// The file has no grid words past those of the corners.
+fn ask_lists(script: &mut Script, lists: &CornerLists) {
+    let counts = [lists.count(), lists.grid.len(), lists.places].map(|count| count as u64);
+    if lists.grid.len() > lists.count() * WORDS_OF_A_CORNER || lists.places > MOST_PLACES {
+        return;
+    }
+    let mut words = corner_words(lists);
+    words.extend(lists.inliers.iter().map(|&index| index as u64));
+    script.give_words(&words);
+    script.ask_with_list(CELLS, &counts, theirs::marker_cells(lists), lists.places);
+}
+
+/// Four words for each corner. Where grid words are missing, others stand in the file; they are not lent.
+fn corner_words(lists: &CornerLists) -> Vec<u64> {
+    let mut grid = lists.grid.clone();
+    grid.resize(lists.count() * WORDS_OF_A_CORNER, 1);
+    let (points, _) = grid.as_chunks::<WORDS_OF_A_CORNER>();
+    let corners = points.iter().zip(&lists.scores);
+    corners
+        .flat_map(|(&[has, u, v], &score)| [signed(has), signed(u), signed(v), float(score)])
+        .collect()
+}
+
+/// So many of a list have each number for an answer.
+const OF_EACH_NUMBER: usize = 4;
+
+/// Boards with two changes are drawn until each of the numbers 0 to 8 has come up so often.
+const BOARDS_OF_EACH_NUMBER: usize = 36;
+
+/// The arguments that are those of a board.
+fn board_arguments(board: &BoardArguments) -> [u64; 9] {
+    [
+        board.rows.into(),
+        board.cols.into(),
+        board.bits.into(),
+        board.border_bits.into(),
+        float(board.cell_size),
+        float(board.marker_size_rel),
+        board.code_count as u64,
+        board.place as u64,
+        board.value,
+    ]
+}
+
+/// Good boards with one change, then with two.
+pub fn ask_boards(script: &mut Script) {
+    for board in boards::single_changes(BASES[0]) {
+        ask_corner_input(script, &CornerInput::without_corners(board));
+    }
+    let mut prng = Prng::new(13);
+    let boards = BASES.map(double_changes).concat();
+    let mut is_new = few(BOARDS_OF_EACH_NUMBER);
+    let mut left = 9 * BOARDS_OF_EACH_NUMBER;
+    while left > 0 {
+        let input = CornerInput::without_corners(prng.pick(&boards));
+        if is_new(map_charuco_corners(&input).number) {
+            ask_corner_input(script, &input);
+            left -= 1;
+        }
+    }
+}
+
+pub fn ask_corners(script: &mut Script) {
+    let mut prng = Prng::new(27);
+    // Longer lists are left to those with the most corners.
+    let short = |CornerInput { lists, .. }: &CornerInput| {
+        lists.count() <= 16 && lists.grid.len() <= lists.count() * WORDS_OF_A_CORNER
+    };
+    let mut inputs = alignments();
+    inputs.retain(|input| input.turn < 6 || input.turn == 255);
+    for (mut all, most) in [
+        (corner_entry::single_changes(), 24),
+        (corner_entry::pairs_of_refusals(), OF_EACH_NUMBER),
+        (
+            corner_entry::on_changed_boards(&mut prng, 100),
+            OF_EACH_NUMBER,
+        ),
+    ] {
+        prng.shuffle(&mut all);
+        let mut is_new = few(most);
+        all.retain(|input| short(input) && is_new(map_charuco_corners(input).number));
+        inputs.append(&mut all);
+    }
+    let random = prng.many(900, corner_entry::random_input).into_iter();
+    inputs.extend(random.filter(short).take(90));
+    let full = prng.many(200, full_board).into_iter();
+    inputs.extend(full.filter(short).take(10));
+    inputs.extend(most_corners());
+    for input in &inputs {
+        ask_corner_input(script, input);
+    }
+}
+
+fn ask_corner_input(script: &mut Script, input: &CornerInput) {
+    script.give_words(&corner_words(&input.lists));
+    let CornerInput { lists, turn, .. } = input;
+    let [tx, ty] = input.translation.map(signed);
+    let [words, places] = [lists.grid.len(), lists.places].map(|length| length as u64);
+    let others = [(*turn).into(), tx, ty, words, places];
+    let arguments = [&board_arguments(&input.board)[..], &others].concat();
+    let answer = map_charuco_corners(input);
+    script.ask_with_list(CORNERS, &arguments, answer, lists.places);
+}
+
+pub fn ask_links(script: &mut Script) {
+    let mut prng = Prng::new(28);
+    let short = |input: &LinkInput| input.links().len() <= 30;
+    let mut inputs = link_entry::single_changes();
+    inputs.retain(short);
+    let refused = [
+        link_entry::pairs_of_refusals(),
+        link_entry::on_changed_boards(&mut prng, 100),
+    ];
+    for mut all in refused {
+        let mut is_new = few(OF_EACH_NUMBER);
+        all.retain(|input| short(input) && is_new(links_answer(input).number));
+        inputs.append(&mut all);
+    }
+    inputs.extend(prng.many(110, link_entry::random_input));
+    let whole = prng.many(200, whole_board).into_iter();
+    let whole = whole.filter(|input| short(input) && !input.words.is_empty());
+    inputs.extend(whole.take(10));
+    let spreads = [
+        link_entry::ONE_MARKER,
+        link_entry::EQUAL_KEYS,
+        link_entry::EQUAL_KEYS_OF_ONE_MARKER,
+        link_entry::ANY_CORNER,
+    ];
+    inputs.extend(spreads.map(|spread| many_links(&mut prng, spread, 200, true)));
+    inputs.extend(most_of_one_link());
+    for input in &inputs {
+        ask_link_input(script, input);
+    }
+}
+
+/// By the rules, which must be those of the Rust but for the order.
+fn links_answer(input: &LinkInput) -> Answer {
+    let answer = theirs::links_by_rules(input);
+    assert_eq!(unordered(&answer), theirs::links_by_rust(input), "{input}");
+    answer
+}
+
+fn ask_link_input(script: &mut Script, input: &LinkInput) {
+    let words: Vec<u64> = input.words.iter().copied().map(u64::from).collect();
+    script.give_words(&words);
+    let last = [input.all_four.into(), input.places as u64];
+    let arguments = [&board_arguments(&input.board)[..], &last].concat();
+    script.ask_with_list(LINKS, &arguments, links_answer(input), input.places);
+}

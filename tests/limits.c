@@ -1,0 +1,115 @@
+/*
+ * What the header says of sizes, tried at both sides of each limit: the most codes and cells that a whole record holds, and the most corners
+ * that a board has. What it says of lists of corners: which words question 18 looks at, and which corner an id gets. And what it says of two
+ * cells with the same (u, v).
+ */
+#include <stdio.h>
+#include <stdlib.h>
+#include <string.h>
+
+#include "charuco.h"
+
+static uint8_t record[CHARUCO_MAX_RECORD_BYTES + 8];
+static uint64_t codes[CHARUCO_MAX_CODES];
+static float scores[CHARUCO_MAX_CORNERS];
+static int32_t grid[CHARUCO_MAX_CORNERS * CHARUCO_GRID_POINT_WORDS];
+static uint32_t corners[CHARUCO_MAX_BOARD_CORNERS * CHARUCO_CORNER_WORDS];
+
+static void check(int holds, const char *what)
+{
+    if (!holds) {
+        printf("limits: %s\n", what);
+        exit(1);
+    }
+}
+
+static void put_u16(size_t at, size_t x)
+{
+    record[at] = (uint8_t)x;
+    record[at + 1] = (uint8_t)(x >> 8);
+}
+
+/* A record of zeros but for its two counts: with no optional field, and with no sampled cell. */
+static uint32_t read_counts(size_t n_codes, size_t n_cells, uint32_t *words)
+{
+    memset(record, 0, sizeof record);
+    put_u16(13, n_codes);
+    put_u16(15 + 8 * n_codes, n_cells);
+    return charuco_read_header(record, 17 + 8 * n_codes + (n_cells + 7) / 8 + 4 * n_cells, words, CHARUCO_HEADER_WORDS);
+}
+
+/* All corners of a board of 32 by 32, and its rim, with room for so many words. */
+static uint32_t map_corners(size_t words, uint32_t *count)
+{
+    for (int32_t k = 0; k < CHARUCO_MAX_CORNERS; k++) {
+        grid[3 * k] = 1;
+        grid[3 * k + 1] = k % 32;
+        grid[3 * k + 2] = k / 32;
+    }
+    return charuco_map_charuco_corners(32, 32, 8, 1, 1.0f, 0.5f, codes, 512, scores, CHARUCO_MAX_CORNERS, grid,
+                                       CHARUCO_MAX_CORNERS * CHARUCO_GRID_POINT_WORDS, 0, 0, 0, corners, words, count, 1);
+}
+
+/* Corners on the diagonal of a board of 5 by 5, from (1, 1) on; one corner more, of this score and these words; and words past the last corner. */
+static uint32_t map_diagonal(float score, int32_t labelled, int32_t u, int32_t v, size_t words, uint32_t *count)
+{
+    const int32_t last[2 * CHARUCO_GRID_POINT_WORDS] = {labelled, u, v, 1, 4097, 4097};
+    for (int32_t k = 0; k < 4; k++) {
+        const int32_t point[CHARUCO_GRID_POINT_WORDS] = {1, k + 1, k + 1};
+        memcpy(grid + k * CHARUCO_GRID_POINT_WORDS, point, sizeof point);
+        scores[k] = 0.0f;
+    }
+    memcpy(grid + 4 * CHARUCO_GRID_POINT_WORDS, last, sizeof last);
+    scores[4] = score;
+    return charuco_map_charuco_corners(5, 5, 8, 1, 1.0f, 0.5f, codes, 12, scores, 5, grid, words, 0, 0, 0, corners, 16 * CHARUCO_CORNER_WORDS,
+                                       count, CHARUCO_COUNT_WORDS);
+}
+
+static void check_corner_lists(void)
+{
+    const size_t all = 5 * CHARUCO_GRID_POINT_WORDS;
+    const float infinite = 2.0f * 3.0e38f;
+    uint32_t count = 0;
+    check(map_diagonal(0.0f, 1, 1, 2, all, &count) == 0 && count == 5, "a corner of the diagonal is missing");
+    check(map_diagonal(0.0f, 1, 1, 2, all - 3, &count) == 0 && count == 4, "a corner without words has a grid point");
+    check(map_diagonal(0.0f, 1, 1, 2, all + 3, &count) == 0 && count == 5, "words past the last corner are read");
+    check(map_diagonal(0.0f, 1, 4097, 0, all, &count) == CHARUCO_CORNERS_OUT_OF_RANGE, "a grid point out of range passes");
+    check(map_diagonal(0.0f, 0, 4097, 0, all, &count) == 0 && count == 4, "u is judged without a grid point");
+    check(map_diagonal(infinite, 0, 0, 0, all, &count) == CHARUCO_CORNERS_OUT_OF_RANGE, "a score is not judged without a grid point");
+    check(map_diagonal(0.0f, 1, 2, 2, all, &count) == 0 && count == 4 && corners[CHARUCO_CORNER_WORDS + CHARUCO_CORNER_INDEX] == 1,
+          "of two corners with one score the later one is taken");
+    check(map_diagonal(1.0f, 1, 2, 2, all, &count) == 0 && count == 4 && corners[CHARUCO_CORNER_WORDS + CHARUCO_CORNER_INDEX] == 4,
+          "the corner with the lesser score is taken");
+}
+
+/* Document 01's record, with the built-in table and its cell twice: both show marker 0. */
+static void check_same_cells(void)
+{
+    static const uint8_t front[] = {0, 2, 2, 2, 1, 0, 0, 128, 63, 0, 0, 0, 63, 2, 0, 1, 0, 0, 0, 0, 0, 0, 0, 15, 0, 0, 0, 0, 0, 0, 0, 2, 0, 3};
+    static const uint8_t cell[] = {0, 0, 0, 0, 0, 0, 128, 63, 128, 0, 0, 0, 0, 0, 0, 255, 0, 0, 255, 255, 0, 0, 0, 0, 0};
+    uint32_t markers[2 * CHARUCO_MARKER_WORDS], match[CHARUCO_MATCH_WORDS];
+    memcpy(record, front, sizeof front);
+    memcpy(record + sizeof front, cell, sizeof cell);
+    memcpy(record + sizeof front + sizeof cell, cell, sizeof cell);
+    check(charuco_match_board(record, sizeof front + 2 * sizeof cell, markers, 2 * CHARUCO_MARKER_WORDS, match, CHARUCO_MATCH_WORDS) == 0
+          && match[CHARUCO_MATCH_MARKERS] == 2, "two cells with one (u, v) are not both emitted");
+    for (uint32_t k = 0; k < 2; k++) {
+        const uint32_t *marker = markers + k * CHARUCO_MARKER_WORDS;
+        check(marker[CHARUCO_MARKER_CELL] == k && marker[CHARUCO_MARKER_ID] == 0, "the cells show another marker, or in another order");
+    }
+}
+
+int main(void)
+{
+    uint32_t words[CHARUCO_HEADER_WORDS], count = 0;
+    check(read_counts(CHARUCO_MAX_RECORD_CODES, 0, words) == 0 && words[CHARUCO_HEADER_CODES] == CHARUCO_MAX_RECORD_CODES, "the most codes are not read");
+    check(read_counts(CHARUCO_MAX_RECORD_CODES + 1, 0, words) == CHARUCO_INVALID_RECORD, "a record holds more codes");
+    check(read_counts(0, CHARUCO_MAX_RECORD_CELLS, words) == 0 && words[CHARUCO_HEADER_CELLS] == CHARUCO_MAX_RECORD_CELLS, "the most cells are not read");
+    check(read_counts(0, CHARUCO_MAX_RECORD_CELLS + 1, words) == CHARUCO_INVALID_RECORD, "a record holds more cells");
+    check(map_corners(CHARUCO_MAX_BOARD_CORNERS * CHARUCO_CORNER_WORDS - 1, &count) == CHARUCO_LIST_TOO_SHORT, "fewer words are enough");
+    check(map_corners(CHARUCO_MAX_BOARD_CORNERS * CHARUCO_CORNER_WORDS, &count) == 0 && count == CHARUCO_MAX_BOARD_CORNERS, "a corner is missing");
+    check_corner_lists();
+    check_same_cells();
+    printf("limits: %d codes, %d cells, %d corners\n", CHARUCO_MAX_RECORD_CODES, CHARUCO_MAX_RECORD_CELLS, CHARUCO_MAX_BOARD_CORNERS);
+    return 0;
+}

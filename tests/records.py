@@ -1,0 +1,104 @@
+"""Writes the shot records of tests/programs, from document 01 alone: python3 tests/records.py DIRECTORY
+
+full.shot     256 cells, each with a marker that is read, on a board of 32 x 32 squares
+whole.shot    65,535 bytes, the longest record that question 21 lets through
+longer.shot   one byte more, which question 21 refuses
+seven.shot    samples/lane4.shot with a board of 32 x 32 squares, for which its dictionary is too small
+neighbours.shot   samples/lane4.shot with a minimum margin that is the next float above its margin
+high.shot     samples/glare.shot with a minimum margin of 100
+"""
+
+import struct
+import sys
+from pathlib import Path
+
+SAMPLES = Path(__file__).resolve().parent.parent / "samples"
+
+
+class Numbers:
+    """Whole numbers that look random, the same in each run."""
+
+    def __init__(self, seed):
+        self.state = seed
+
+    def below(self, limit):
+        self.state = (self.state * 6364136223846793005 + 1442695040888963407) % 2**64
+        return (self.state >> 33) % limit
+
+
+def turned(code, n, turn):
+    out = 0
+    for y in range(n):
+        for x in range(n):
+            sx, sy = [(x, y), (y, n - 1 - x), (n - 1 - x, n - 1 - y), (n - 1 - y, x)][turn]
+            out |= (code >> (sy * n + sx) & 1) << (y * n + x)
+    return out
+
+
+def grid(code, bits, border, numbers):
+    """The greys of a marker: black is near 30, white near 220."""
+    side = bits + 2 * border
+    greys = bytearray()
+    for row in range(side):
+        for column in range(side):
+            x, y = column - border, row - border
+            black = not (0 <= x < bits and 0 <= y < bits) or code >> (y * bits + x) & 1
+            greys.append((30 if black else 220) + numbers.below(31) - 15)
+    return bytes(greys)
+
+
+def record(settings, bits, border, codes, cells):
+    """`settings` are minimum margin, border threshold and px_per_square; a cell is u, v, fraction, threshold, grid."""
+    given = sum(1 << k for k, value in enumerate(settings) if value is not None)
+    out = struct.pack("<B", given)
+    out += b"".join(struct.pack("<f", value) for value in settings if value is not None)
+    out += struct.pack("<4B2f", 32, 32, bits, border, 0.04, 0.75)
+    out += struct.pack(f"<H{len(codes)}Q", len(codes), *codes)
+    out += struct.pack("<H", len(cells)) + ((1 << len(cells)) - 1).to_bytes((len(cells) + 7) // 8, "little")
+    for u, v, fraction, threshold, greys in cells:
+        out += struct.pack("<2hfB", u, v, fraction, threshold) + greys
+    return out
+
+
+def sheet(settings, bits, border, code_count, squares, turn, tx, ty, numbers):
+    """A board of 32 x 32 squares of which `squares` are seen, so that `turn`, tx, ty bring the cells back to them."""
+    codes = []
+    while len(codes) < code_count:
+        code = numbers.below(2**31) << 33 ^ numbers.below(2**31) << 11 ^ numbers.below(2**31)
+        code %= 1 << bits * bits
+        if code not in codes:
+            codes.append(code)
+    ids = {}
+    for j in range(32):
+        for i in range(32):
+            if (i + j) % 2 == 1:
+                ids[i, j] = len(ids)
+    cells = []
+    for i, j in squares:
+        x, y = i - tx, j - ty
+        u, v = [(x, y), (-y, x), (-x, -y), (y, -x)][turn]
+        seen = turned(codes[ids[i, j]], bits, turn)
+        cells.append((u, v, 0.5 + numbers.below(128) / 256, 120 + numbers.below(16), grid(seen, bits, border, numbers)))
+    return record(settings, bits, border, codes, cells)
+
+
+def main(out):
+    markers = [(i, j) for j in range(32) for i in range(32) if (i + j) % 2 == 1]
+    full = sheet((None, None, None), 8, 1, 512, markers[128:384], 2, -3900, -3890, Numbers(1))
+    # 1 + 4 + 12 + 2 + 600 x 8 + 2 + 29 + 229 x (9 + 16 x 16) bytes
+    whole = sheet((0.25, None, None), 8, 4, 600, markers[100:329], 1, 4000, -3900, Numbers(2))
+    assert len(whole) == 65535
+    (out / "full.shot").write_bytes(full)
+    (out / "whole.shot").write_bytes(whole)
+    (out / "longer.shot").write_bytes(whole + b"\0")
+
+    lane4 = (SAMPLES / "lane4.shot").read_bytes()
+    glare = (SAMPLES / "glare.shot").read_bytes()
+    assert lane4[0] == 0 and glare[0] == 3
+    (out / "seven.shot").write_bytes(lane4[:1] + b"\x20\x20" + lane4[3:])
+    (out / "neighbours.shot").write_bytes(b"\x01" + struct.pack("<I", 0x3F7E9301) + lane4[1:])
+    (out / "high.shot").write_bytes(glare[:1] + struct.pack("<f", 100) + glare[5:])
+
+
+if __name__ == "__main__":
+    main(Path(sys.argv[1]))
