@@ -185,13 +185,13 @@ enum {
  * arguments. They are the frames of the compiled functions, and examples/small_stack.c measures them. What memcpy and memset take
  * beyond a return address is not in them, nor is what a dynamic linker takes that looks these up at their first call.
  */
-#define CHARUCO_STACK_READ_HEADER 400
-#define CHARUCO_STACK_TABLE_ENTRY 2128
-#define CHARUCO_STACK_CODE 104
-#define CHARUCO_STACK_CELL 120
-#define CHARUCO_STACK_GRID 400
+#define CHARUCO_STACK_READ_HEADER 392
+#define CHARUCO_STACK_TABLE_ENTRY 2248
+#define CHARUCO_STACK_CODE 184
+#define CHARUCO_STACK_CELL 216
+#define CHARUCO_STACK_GRID 472
 #define CHARUCO_STACK_BUILD_MARKER_CELLS 30808
-#define CHARUCO_STACK_MATCH_BOARD 13504
+#define CHARUCO_STACK_MATCH_BOARD 16200
 #define CHARUCO_STACK_MAP_CHARUCO_CORNERS 2232
 #define CHARUCO_STACK_VALIDATE_MARKER_CORNER_LINKS 32920
 

@@ -1,5 +1,4 @@
--- Which squares hold markers, for either parity: of two squares side by side or one over the other one does, and a step of two
--- changes nothing. Assumes nothing.
+-- Which squares hold markers, for either parity: squares agree or differ by the parity of i + j, so of two side by side one does. Assumes nothing.
 use mathlib.Core.Path.{_≡_, refl, sym, ap, _∙_}
 use mathlib.Core.Bool.{Bool, true, false, not, false≢true}
 use Prim.Native.Nat.{ℕ, _+_, _%_, _<_}
@@ -27,13 +26,6 @@ module _ (p i j : ℕ) where
 
   pub right-of : p < 2 → holdsMarker p (i + 1) j ≡ not (holdsMarker p i j)
   right-of bit = differ bit (i + 1) j (omega arith)
-
-  pub under : p < 2 → holdsMarker p i (j + 1) ≡ not (holdsMarker p i j)
-  under bit = differ bit i (j + 1) (omega arith)
-
-  -- markers are on every second row of a column
-  pub second-row : holdsMarker p i (j + 2) ≡ holdsMarker p i j
-  second-row = agree i (j + 2) (omega arith)
 
   -- a square moved by (a, b) agrees with itself or with the one on its right, as a + b is even or odd
   pub moved-even : (a b : ℕ) → (a + b) % 2 ≡ 0 → holdsMarker p (i + a) (j + b) ≡ holdsMarker p i j

@@ -1,19 +1,17 @@
--- The answer of the questions before 15: how the program comes to it, and what it tells. Assumes nothing.
+-- The answer of the questions before 15 to a whole record: how the program comes to it, and what it tells. Assumes nothing.
 use mathlib.Core.Path.{_≡_, refl, sym, ap, ap₂, _∙_}
-use mathlib.Core.Bool.{Bool, true, false, cond}
 use mathlib.Core.List.{List}
-use mathlib.Core.Option.{Option, none, some, Option·none-ne-some}
+use mathlib.Core.Option.{Option, none, some}
 use Prim.Native.Nat.{ℕ}
 use native.Mathlib.Omega.{arith}
 use Rattle.refusal.specs.declared.Refusal.{Refusal}
-use Rattle.refusal.specs.declared.Refusal.the-variants as refusal
 use Rattle.board.specs.declared.Board.{Board}
 use Rattle.board.specs.declared.NewBoard.{NewBoard}
 use Rattle.board.specs.declared.NewBoard.the-variants as new
 use Rattle.board.specs.Questions.{newBoard, boardOf}
 use Rattle.board.proofs.Asked.{made, after-made, after-refused}
 use Rattle.score_matrix.specs.declared.BoardMatchConfig.{BoardMatchConfig}
-use Rattle.shot_record.specs.Shots.{Shot, shot, wholeRecord, parse}
+use Rattle.shot_record.specs.Shots.{Shot, shot, parse}
 use Rattle.shot_record.specs.Answers.{configOf, specOf}
 use Rattle.shot_record.proofs.Whole.{Whole, parse-whole}
 use Rattle.board_match.specs.declared.Asked.the-variants as answered
@@ -28,47 +26,6 @@ that-refused : (o : Option Refusal) (r : Refusal) → answer.Refused r ≡ toldA
 that-refused none r e = let z : _≡_ {A = ℕ} 0 1 = cc in absurd (omega arith)
 that-refused (some q) r e = cc
 
--- ---- how the program comes to it
-module _ (bytes : List ℕ) (words : ℕ) where
-  abbrev s : Shot
-  s = shot bytes
-
-  abbrev board : NewBoard
-  board = newBoard (specOf s) (s .codes)
-
-  pub record-refused : parse bytes ≡ none → answered.Refused refusal.InvalidRecord ≡ askedAnswer bytes words
-  record-refused e = sym (ap (λ (o : Option Shot). askedWith (afterRecord o words) s) e)
-
-  module _ (w : Whole bytes) where
-    refused-with : (r : Refusal) → askedBefore15 s words ≡ some r → answered.Refused r ≡ askedAnswer bytes words
-    refused-with r e =
-        sym (ap (λ (o : Option Refusal). askedWith o s) (ap (λ (o : Option Shot). afterRecord o words) (parse-whole bytes w) ∙ e))
-
-    pub board-refused : (r : Refusal) → new.Refused r ≡ board → answered.Refused r ≡ askedAnswer bytes words
-    board-refused r e = refused-with r (after-refused (specOf s) (s .codes) (askedFrom9 s words none) r (sym e))
-
-    module _ (b : Board) (e : new.Made b ≡ board) where
-      left : askedBefore15 s words ≡ askedFrom9 s words none
-      left = after-made (specOf s) (s .codes) (askedFrom9 s words none) b (sym e)
-
-      pub later-refused : (r : Refusal) → answer.Refused r ≡ toldAnswer (askedFrom9 s words none) → answered.Refused r ≡ askedAnswer bytes words
-      later-refused r q = refused-with r (left ∙ that-refused (askedFrom9 s words none) r q)
-
-      pub all-passed : (c : BoardMatchConfig) → c ≡ configOf s → answer.Passed ≡ toldAnswer (askedFrom9 s words none)
-          → answered.Passed b c ≡ askedAnswer bytes words
-      all-passed c f q =
-          ap₂ answered.Passed (made (specOf s) (s .codes) b (sym e) .1) f
-          ∙ sym
-          (ap (λ (o : Option Refusal). askedWith o s)
-          (ap (λ (o : Option Shot). afterRecord o words) (parse-whole bytes w) ∙ left ∙ nothing-refused (askedFrom9 s words none) q))
-
--- ---- what it tells
-pub record Told (bytes : List ℕ) (words : ℕ) (b : Board) (c : BoardMatchConfig) : Type 0 where
-  pub is-whole : wholeRecord bytes ≡ true
-  pub board-is : b ≡ boardOf (specOf (shot bytes))
-  pub config-is : c ≡ configOf (shot bytes)
-  pub none-refused : askedBefore15 (shot bytes) words ≡ none
-
 passed-if : (o : Option Refusal) (t : Shot) (b : Board) (c : BoardMatchConfig) → askedWith o t ≡ answered.Passed b c → (o ≡ none)
     × (b ≡ boardOf (specOf t)) × (c ≡ configOf t)
 passed-if none t b c e = (refl, cc, cc)
@@ -78,17 +35,41 @@ refused-if : (o : Option Refusal) (t : Shot) (r : Refusal) → askedWith o t ≡
 refused-if none t r e = let z : _≡_ {A = ℕ} 0 1 = cc in absurd (omega arith)
 refused-if (some q) t r e = cc
 
-record-if : (w : Bool) (t : Shot) (words : ℕ) → afterRecord (cond w (some t) none) words ≡ none → (w ≡ true) × (askedBefore15 t words ≡ none)
-record-if true t words e = (refl, e)
-record-if false t words e = absurd (Option·none-ne-some refusal.InvalidRecord (sym e))
+module _ (bytes : List ℕ) (words : ℕ) (w : Whole bytes) where
+  abbrev s : Shot
+  s = shot bytes
 
-module _ (bytes : List ℕ) (words : ℕ) where
-  pub told-passed : (b : Board) (c : BoardMatchConfig) → askedAnswer bytes words ≡ answered.Passed b c → Told bytes words b c
-  unfolding parse
-  told-passed b c e =
-      let p = passed-if (afterRecord (parse bytes) words) (shot bytes) b c e in
-      let q = record-if (wholeRecord bytes) (shot bytes) words (p .0) in
-      record { is-whole = q .0; board-is = p .1; config-is = p .2; none-refused = q .1 }
+  abbrev board : NewBoard
+  board = newBoard (specOf s) (s .codes)
 
-  pub told-refused : (r : Refusal) → askedAnswer bytes words ≡ answered.Refused r → afterRecord (parse bytes) words ≡ some r
-  told-refused r e = refused-if (afterRecord (parse bytes) words) (shot bytes) r e
+  asked-is : askedAnswer bytes words ≡ askedWith (askedBefore15 s words) s
+  asked-is = ap (λ (o : Option Shot). askedWith (afterRecord o words) s) (parse-whole bytes w)
+
+  -- ---- how the program comes to it
+  refused-with : (r : Refusal) → askedBefore15 s words ≡ some r → answered.Refused r ≡ askedAnswer bytes words
+  refused-with r e = sym (asked-is ∙ ap (λ (o : Option Refusal). askedWith o s) e)
+
+  pub board-refused : (r : Refusal) → new.Refused r ≡ board → answered.Refused r ≡ askedAnswer bytes words
+  board-refused r e = refused-with r (after-refused (specOf s) (s .codes) (askedFrom9 s words none) r (sym e))
+
+  module _ (b : Board) (e : new.Made b ≡ board) where
+    left : askedBefore15 s words ≡ askedFrom9 s words none
+    left = after-made (specOf s) (s .codes) (askedFrom9 s words none) b (sym e)
+
+    pub later-refused : (r : Refusal) → answer.Refused r ≡ toldAnswer (askedFrom9 s words none) → answered.Refused r ≡ askedAnswer bytes words
+    later-refused r q = refused-with r (left ∙ that-refused (askedFrom9 s words none) r q)
+
+    pub all-passed : (c : BoardMatchConfig) → c ≡ configOf s → answer.Passed ≡ toldAnswer (askedFrom9 s words none)
+        → answered.Passed b c ≡ askedAnswer bytes words
+    all-passed c f q =
+        ap₂ answered.Passed (made (specOf s) (s .codes) b (sym e) .1) f
+        ∙ sym (asked-is ∙ ap (λ (o : Option Refusal). askedWith o s) (left ∙ nothing-refused (askedFrom9 s words none) q))
+
+  -- ---- what it tells
+  pub told-passed : (b : Board) (c : BoardMatchConfig) → answered.Passed b c ≡ askedAnswer bytes words → (askedBefore15 s words ≡ none)
+      × (b ≡ boardOf (specOf s)) × (c ≡ configOf s)
+  told-passed b c e = passed-if (askedBefore15 s words) s b c (sym (e ∙ asked-is))
+
+  pub told-refused : (r : Refusal) → answered.Refused r ≡ askedAnswer bytes words → afterRecord (parse bytes) words ≡ some r
+  told-refused r e =
+      ap (λ (o : Option Shot). afterRecord o words) (parse-whole bytes w) ∙ refused-if (askedBefore15 s words) s r (sym (e ∙ asked-is))

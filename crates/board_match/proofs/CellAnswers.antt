@@ -1,40 +1,50 @@
--- The questions of a cell that is read from a whole record are those of the shot's cell. Assumes nothing.
-use mathlib.Core.Path.{_≡_, refl, sym, ap, _∙_}
+-- The questions 12 and 13 of the cells in the index are those of the shot's cells. Assumes nothing.
+use mathlib.Core.Path.{_≡_, refl, sym, ap, ap₂, _∙_}
+use mathlib.Core.Bool.{Bool, _&&_}
 use mathlib.Core.List.{List}
 use mathlib.Core.Option.{Option, none, some}
-use Prim.Native.Nat.{ℕ, _<_}
+use Prim.Native.Nat.{ℕ, _≤_, _<_}
+use native.Mathlib.Omega.{arith}
+use lib.IntN.{ℤ}
 use lib.ListN.{length}
 use borrow.Author.Tests.{eq-eqb}
+use Rattle.integers.specs.Distance.{isWithin}
 use Rattle.shot_record.specs.Fields.{bitsOf, borderOf, gridSize, cellCount}
-use Rattle.shot_record.specs.Shots.{Sample, Cell, shot, cellOf}
-use Rattle.shot_record.specs.Answers.{cellWith, cellRead}
+use Rattle.shot_record.specs.Shots.{Sample, Cell, Shot, shot, cellOf}
+use Rattle.shot_record.specs.Answers.{borderWith}
+use Rattle.shot_record.specs.Index.{Entry, Index}
 use Rattle.shot_record.specs.Writing.{IfSampled}
 use Rattle.shot_record.proofs.Reading.{Small}
 use Rattle.shot_record.proofs.Whole.{Whole}
-use Rattle.shot_record.proofs.CellReads.{cell-is, cell-fits}
-use Rattle.board_match.specs.Reads.{placedRead, fractionRead}
+use Rattle.shot_record.proofs.CellReads.{cell-count, cell-is, cell-fits}
 use Rattle.hypothesis.specs.Placements.{noCell, cell}
-use Rattle.board_match.specs.Questions.{placedAnswer, sampleAnswer}
-
-placed-with : (c : Cell) (o : Option Sample) → placedRead (cellWith c o) ≡ placedAnswer c
-placed-with c none = refl
-placed-with c (some s) = refl
+use Rattle.board_match.specs.Questions.{every, placedAnswer, sampleAnswer, samplesAnswer}
+use Rattle.board_match.specs.Entries.{placedIn, borderAnswer, sampledIn}
+use Rattle.board_match.proofs.Every.{same-answers}
 
 -- a grid that fits is whole
-sampled-with : (size : ℕ) (c : Cell) (o : Option Sample) → IfSampled size o → fractionRead (cellWith c o) ≡ sampleAnswer size o
-sampled-with size c none f = refl
-sampled-with size c (some s) f = rw (eq-eqb (length (s .grid)) size (f .size)) refl
+border-with : (size : ℕ) (o : Option Sample) → IfSampled size o → borderAnswer (borderWith o) ≡ sampleAnswer size o
+border-with size none f = refl
+border-with size (some s) f = rw (eq-eqb (length (s .grid)) size (f .size)) refl
 
-module _ (bytes : List ℕ) (k : ℕ) (inside : k < cellCount bytes) where
-  is-cell : cellOf bytes k ≡ cell (shot bytes) k
-  is-cell = sym (cell-is bytes k noCell inside)
+module _ (bytes index : List ℕ) (i : Index bytes index) (count : ℕ) (all : count ≡ cellCount bytes) (few : count ≤ 256) where
+  abbrev s : Shot
+  s = shot bytes
 
-  pub placed-is : placedRead (cellRead (some (cellOf bytes k))) ≡ placedAnswer (cell (shot bytes) k)
-  placed-is = placed-with (cellOf bytes k) (cellOf bytes k .sample) ∙ ap placedAnswer is-cell
+  -- of every cell
+  each-cell : (f : ℕ → Bool) (g : Cell → Bool) → ((k : ℕ) → k < cellCount bytes → Entry bytes index k → f k ≡ g (cellOf bytes k))
+      → every f count ≡ every (λ (k : ℕ). g (cell s k)) (length (s .cells))
+  each-cell f g e =
+      same-answers f (λ (k : ℕ). g (cell s k)) count (λ k h.
+      let l : k < cellCount bytes = omega (arith, h, all) in
+      e k l (i k l (omega (arith, h, few))) ∙ ap g (sym (cell-is bytes k noCell l)))
+      ∙ ap (every (λ (k : ℕ). g (cell s k))) (all ∙ sym (cell-count bytes))
 
-  pub sample-is : Whole bytes → Small bytes
-      → fractionRead (cellRead (some (cellOf bytes k))) ≡ sampleAnswer (gridSize (shot bytes .bits) (shot bytes .border)) (cell (shot bytes) k .sample)
-  sample-is w s =
+  pub placed-are : every (placedIn index) count ≡ every (λ (k : ℕ). placedAnswer (cell s k)) (length (s .cells))
+  placed-are = each-cell (placedIn index) placedAnswer (λ k h e. ap₂ (λ (u v : ℤ). isWithin 4096 u && isWithin 4096 v) (e .u) (e .v))
+
+  pub samples-are : Whole bytes → Small bytes → every (sampledIn index) count ≡ samplesAnswer s
+  samples-are w small =
       let size = gridSize (bitsOf bytes) (borderOf bytes) in
-      sampled-with size (cellOf bytes k) (cellOf bytes k .sample) (cell-fits bytes w k inside s .sample)
-      ∙ ap (λ (c : Cell). sampleAnswer size (c .sample)) is-cell
+      each-cell (sampledIn index) (λ (c : Cell). sampleAnswer size (c .sample))
+      (λ k h e. ap borderAnswer (e .border) ∙ border-with size (cellOf bytes k .sample) (cell-fits bytes w k h small .sample))

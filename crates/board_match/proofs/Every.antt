@@ -1,23 +1,16 @@
--- A test that each of 0 to n − 1 passes. Assumes nothing.
-use mathlib.Core.Path.{_≡_, refl, sym, _∙_}
-use mathlib.Core.Bool.{Bool, true, false, false≢true}
+-- A test that each of 0 to n − 1 passes, as a loop asks it. Assumes nothing.
+use mathlib.Core.Path.{_≡_, refl, sym, ap, ap₂, _∙_}
+use mathlib.Core.Bool.{Bool, true, false, false≢true, not, _&&_}
 use mathlib.Core.Logic.{_⊎_, inl, inr}
-use Prim.Native.Nat.{ℕ, zero, suc, _+_, _<_}
+use Prim.Native.Nat.{ℕ, zero, suc, _+_, _≤_, _<_}
 use native.Mathlib.Nat.{eq-or-lt-of-le, le-of-suc-le-suc}
 use native.Mathlib.Numerals.{add-one}
 use native.Mathlib.Omega.{arith}
+use borrow.Author.Tests.{not-true, not-false}
 use Rattle.refusal.proofs.Questions.{both}
 use Rattle.board_match.specs.Questions.{every}
 
 module _ (test : ℕ → Bool) where
-  pub none-tested : every test 0 ≡ true
-  unfolding every
-  none-tested = refl
-
-  pub one-more : (k : ℕ) → every test k ≡ true → test k ≡ true → every test (k + 1) ≡ true
-  unfolding every
-  one-more k e t = rw (add-one k, e, t)
-
   pub each : (n : ℕ) → every test n ≡ true → (k : ℕ) → k < n → test k ≡ true
   unfolding every
   each zero e k h = absurd (omega arith)
@@ -27,9 +20,29 @@ module _ (test : ℕ → Bool) where
       go (inl z) t ih = rw z t
       go (inr l) t ih = ih l
 
-  pub one-out : (n k : ℕ) → k < n → test k ≡ false → every test n ≡ false
-  one-out n k h t = go (every test n) refl
+  -- ---- in a loop: before it, after k that passes, at k that does not, and after the last
+  pub none-tested : every test 0 ≡ true
+  unfolding every
+  none-tested = refl
+
+  pub one-more : (k : ℕ) (answer : Bool) → every test k ≡ true → test k ≡ answer → not answer ≡ false → every test (k + 1) ≡ true
+  unfolding every
+  one-more k answer e t passes = rw (add-one k, e, t ∙ not-false answer passes)
+
+  pub one-out : (n k : ℕ) (answer : Bool) → k < n → test k ≡ answer → not answer ≡ true → false ≡ every test n
+  one-out n k answer h t fails = go (every test n) refl
     where
-      go : (b : Bool) → every test n ≡ b → every test n ≡ false
-      go true e = let z = each n e k h in absurd (false≢true (sym t ∙ z))
-      go false e = e
+      go : (b : Bool) → every test n ≡ b → false ≡ b
+      go true e = absurd (false≢true (sym (t ∙ not-true answer fails) ∙ each n e k h))
+      go false e = refl
+
+  pub all-tested : (n k : ℕ) → k ≤ n → n ≤ k → every test k ≡ true → true ≡ every test n
+  all-tested n k h l e =
+      let last : k ≡ n = omega arith in
+      sym e ∙ ap (every test) last
+
+-- two tests that agree on 0 to n − 1
+pub same-answers : (f g : ℕ → Bool) (n : ℕ) → ((k : ℕ) → k < n → f k ≡ g k) → every f n ≡ every g n
+unfolding every
+same-answers f g zero e = refl
+same-answers f g (suc n) e = ap₂ _&&_ (same-answers f g n (λ k h. e k (omega (arith, h)))) (e n (omega arith))

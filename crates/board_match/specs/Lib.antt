@@ -1,5 +1,5 @@
 pub mod Questions
-pub mod Reads
+pub mod Entries
 pub mod Match
 pub mod Accuracy
 pub mod Corners

@@ -1,12 +1,12 @@
 // Match (board_match/mod.rs): where a board lies under the cells of a shot record. Uses `refusal`, `floats`, `grid_alignment`, `board`,
-// `score_matrix`, `shot_record`, `ranking`, `hypothesis` and `emit`, and for its definitions and laws `integers`.
+// `score_matrix`, `shot_record`, `ranking`, `hypothesis` and `emit`, and for its definitions and laws `integers` and `lent_list`.
 ghost use mathlib.Core.Path.{_≡_};
 ghost use mathlib.Core.List.{map};
 ghost use mathlib.Core.Option.{none};
 ghost use lib.ListN.{length};
-ghost use Rattle.shot_record.specs.Fields.{fieldsOf};
 ghost use Rattle.shot_record.specs.Shots.{shot};
-ghost use Rattle.shot_record.specs.Answers.{ofPattern, starts as startsOf};
+ghost use Rattle.shot_record.specs.Answers.{ofPattern};
+ghost use Rattle.shot_record.specs.Index.{Indexed};
 ghost use Rattle.hypothesis.specs.Search.{enumerate};
 ghost use Rattle.hypothesis.specs.Inputs.{firstCodes, Loaded};
 ghost use Rattle.board_match.specs.Questions.{askedBefore15, askedAnswer};
@@ -32,6 +32,7 @@ use shot_record::bulk;
 use shot_record::cells;
 use shot_record::fields;
 use shot_record::fields::Fields;
+use shot_record::index;
 
 // A placed shot: the best placement and its runner-up, the margin between them, how many placements there are, the alignment of the corners,
 // and how many markers were emitted.
@@ -58,27 +59,23 @@ pub enum Asked {
     Refused(Refusal),
 }
 
-// The questions 21 and 1 to 14, for a list of results with so many words.
+// The questions 1 to 14 of a record that question 21 let pass, for a list of results with so many words.
 fn before_15(
     bytes: &[u8],
     f: Fields,
     table: &[f32; 511],
     codes: &[u64; 512],
-    starts: &[u16; 256],
+    index: &[u32; 768],
     words: usize,
 ) -> Asked
-    requires { ⌜ (f ≡ fieldsOf (now bytes)) × (now table ≡ map ofPattern (shot (now bytes) .table)) × (now codes ≡ firstCodes (shot (now bytes)))
-        × (now starts ≡ startsOf (now bytes)) ⌝ }
+    requires { ⌜ Indexed (now bytes) f (now index) × (now table ≡ map ofPattern (shot (now bytes) .table)) × (now codes ≡ firstCodes (shot (now bytes))) ⌝ }
     ensures { λ r. ⌜ r ≡ askedAnswer (now (bytes .entry)) words ⌝ }
 {
-    if !cells::is_whole(bytes, f) {
-        return Asked::Refused(Refusal::InvalidRecord);
-    }
     let made = questions::board(bytes, f, codes);
     match made {
         NewBoard::Made(board) => {
             let config = fields::config(bytes, f);
-            let answer = questions::from_9(bytes, f, config, table, starts, words);
+            let answer = questions::from_9(bytes, f, config, table, index, words);
             match answer {
                 Answer::Passed => Asked::Passed { board, config },
                 Answer::Refused(refusal) => Asked::Refused(refusal),
@@ -92,13 +89,13 @@ fn before_15(
 fn emit_best(
     bytes: &[u8],
     inputs: Inputs,
-    starts: &[u16; 256],
+    index: &[u32; 768],
     table: &[f32; 511],
     codes: &[u64; 512],
     selection: Selection,
     markers: &mut [u32],
 ) -> Matched
-    requires { ⌜ Loaded (now bytes) inputs (now starts) (now table) (now codes) × (enumerate (shot (now bytes)) ≡ Enumerated.Selected selection)
+    requires { ⌜ Loaded (now bytes) inputs (now index) (now table) (now codes) × (enumerate (shot (now bytes)) ≡ Enumerated.Selected selection)
         × (askedBefore15 (shot (now bytes)) (length (now markers)) ≡ none) ⌝ }
     ensures { λ r. ⌜ Gives (now (bytes .entry)) (now (markers .entry)) r (now (markers .exit)) ⌝ }
 {
@@ -109,7 +106,7 @@ fn emit_best(
     }
     let best = selection.best;
     let alignment = best.alignment;
-    let count = emit::emit_markers(bytes, inputs, starts, table, codes, alignment, markers);
+    let count = emit::emit_markers(bytes, inputs, index, table, codes, alignment, markers);
     if count == 0 {
         return Matched::Refused(Refusal::NoMarkers);
     }
@@ -128,21 +125,21 @@ fn emit_best(
 fn search_record(
     bytes: &[u8],
     inputs: Inputs,
-    starts: &[u16; 256],
+    index: &[u32; 768],
     table: &[f32; 511],
     codes: &[u64; 512],
     markers: &mut [u32],
 ) -> Matched
-    requires { ⌜ Loaded (now bytes) inputs (now starts) (now table) (now codes) × (askedBefore15 (shot (now bytes)) (length (now markers)) ≡ none) ⌝ }
+    requires { ⌜ Loaded (now bytes) inputs (now index) (now table) (now codes) × (askedBefore15 (shot (now bytes)) (length (now markers)) ≡ none) ⌝ }
     ensures { λ r. ⌜ Gives (now (bytes .entry)) (now (markers .entry)) r (now (markers .exit)) ⌝ }
 {
-    let found = search::enumerate_hypotheses(bytes, inputs, starts, table, codes);
+    let found = search::enumerate_hypotheses(bytes, inputs, index, table, codes);
     match found {
         Enumerated::Absent => Matched::Refused(Refusal::TranslationWindow),
         Enumerated::Selected(selection) => emit_best(
             bytes,
             inputs,
-            starts,
+            index,
             table,
             codes,
             selection,
@@ -159,10 +156,15 @@ pub fn match_board(bytes: &[u8], markers: &mut [u32]) -> Matched
     ensures accuracy { λ r. ⌜ Accuracy (now (bytes .entry)) r ⌝ }
 {
     let f = fields::locate(bytes);
-    let table = bulk::table(bytes);
-    let codes = bulk::codes(bytes);
-    let starts = cells::starts(bytes, f);
-    let asked = before_15(bytes, f, &table, &codes, &starts, markers.len());
+    if !cells::is_whole(bytes, f) {
+        return Matched::Refused(Refusal::InvalidRecord);
+    }
+    let table = bulk::table(bytes, f);
+    let mut codes: [u64; 512] = [0; 512];
+    bulk::codes(&mut codes, bytes, f);
+    let mut index: [u32; 768] = [0; 768];
+    index::fill(&mut index, bytes, f);
+    let asked = before_15(bytes, f, &table, &codes, &index, markers.len());
     match asked {
         Asked::Refused(refusal) => Matched::Refused(refusal),
         Asked::Passed { board, config } => {
@@ -171,7 +173,7 @@ pub fn match_board(bytes: &[u8], markers: &mut [u32]) -> Matched
                 board,
                 config,
             };
-            search_record(bytes, inputs, &starts, &table, &codes, markers)
+            search_record(bytes, inputs, &index, &table, &codes, markers)
         }
     }
 }

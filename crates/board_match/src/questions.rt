@@ -3,28 +3,27 @@ ghost use mathlib.Core.Path.{_≡_};
 ghost use mathlib.Core.Bool.{_&&_};
 ghost use mathlib.Core.List.{map};
 ghost use mathlib.Core.Option.{none};
-ghost use Prim.Native.Nat.{ℕ, _≤_};
-ghost use lib.ListN.{length};
+ghost use Prim.Native.Nat.{_≤_};
 ghost use Rattle.board.specs.Questions.{newBoard};
-ghost use Rattle.shot_record.specs.Fields.{gridSize, fieldsOf};
+ghost use Rattle.shot_record.specs.Fields.{fieldsOf};
 ghost use Rattle.shot_record.specs.Shots.{shot};
-ghost use Rattle.shot_record.specs.Answers.{ofPattern, configOf, specOf, Indexed};
-ghost use Rattle.board_match.specs.Reads.{placedRead, fractionRead};
-ghost use Rattle.hypothesis.specs.Placements.{cell};
+ghost use Rattle.shot_record.specs.Answers.{ofPattern, configOf, specOf};
+ghost use Rattle.shot_record.specs.Index.{Indexed};
 ghost use Rattle.hypothesis.specs.Inputs.{firstCodes};
 ghost use Rattle.integers.specs.Distance.{isWithin as withinOf};
-ghost use Rattle.board_match.specs.Questions.{every, settingsAnswer, placedAnswer, fractionAnswer, sampleAnswer, askedFrom9, toldAnswer};
+ghost use Rattle.board_match.specs.Questions.{every, settingsAnswer, tableAnswer, fractionAnswer, askedFrom9, toldAnswer};
+ghost use Rattle.board_match.specs.Entries.{placedIn, borderAnswer, sampledIn};
 ghost use Rattle.board_match.specs.Match.{marginPasses};
 use board::Board;
 use board::NewBoard;
 use refusal::Refusal;
 use score_matrix::BoardMatchConfig;
+use score_matrix::BorderSample;
 use score_matrix::table;
-use shot_record::ReadCell;
 use shot_record::bulk;
-use shot_record::cells;
 use shot_record::fields;
 use shot_record::fields::Fields;
+use shot_record::index;
 
 pub enum Answer {
     Passed,
@@ -39,7 +38,7 @@ pub fn board(bytes: &[u8], f: Fields, codes: &[u64; 512]) -> NewBoard
     let sized = Board::sized(fields::spec(bytes, f), f.code_count);
     match sized {
         NewBoard::Made(board) => {
-            if !bulk::codes_below(bytes, codes, board.bits) {
+            if !bulk::codes_below(bytes, f, codes, board.bits) {
                 return NewBoard::Refused(Refusal::CodeOutOfRange);
             }
             NewBoard::Made(board)
@@ -61,6 +60,17 @@ fn settings(config: BoardMatchConfig) -> bool
     floats::is_finite(config.px_per_square)
 }
 
+// Question 10. It is asked of a table of the record's own: the built-in one passes.
+fn table_passes(bytes: &[u8], f: Fields, entries: &[f32; 511]) -> bool
+    requires { ⌜ (f ≡ fieldsOf (now bytes)) × (now entries ≡ map ofPattern (shot (now bytes) .table)) ⌝ }
+    ensures { λ r. ⌜ r ≡ tableAnswer (shot (now (bytes .entry))) ⌝ }
+{
+    if !fields::sets_table(f) {
+        return true;
+    }
+    table::is_table(entries)
+}
+
 fn within(z: i16) -> bool
     ensures { λ r. ⌜ r ≡ withinOf 4096 z ⌝ }
 {
@@ -76,32 +86,14 @@ fn point(u: i16, v: i16) -> bool
     within(v)
 }
 
-fn placed(cell: ReadCell) -> bool
-    ensures { λ r. ⌜ r ≡ placedRead cell ⌝ }
+// Question 12 of the cells in the index, at most 256.
+fn all_placed(index: &[u32; 768], count: usize) -> bool
+    requires { ⌜ count ≤ 256 ⌝ }
+    ensures { λ r. ⌜ r ≡ every (placedIn (now (index .entry))) count ⌝ }
 {
-    match cell {
-        ReadCell::Sampled {
-            u,
-            v,
-            fraction: _,
-            threshold: _,
-        } => point(u, v),
-        ReadCell::Unsampled { u, v } => point(u, v),
-        ReadCell::Absent => true,
-        ReadCell::Refused(_) => true,
-    }
-}
-
-// Question 12, for at most 256 cells.
-fn all_placed(bytes: &[u8], f: Fields, starts: &[u16; 256]) -> bool
-    requires { ⌜ Indexed (now bytes) f (now starts) × (f .«cell_count» ≤ 256) ⌝ }
-    ensures { λ r. ⌜ r ≡ every (λ (k : ℕ). placedAnswer (cell (shot (now (bytes .entry))) k)) (length (shot (now (bytes .entry)) .cells)) ⌝ }
-{
-    let count = f.cell_count;
     let mut k = 0;
     while k < count {
-        let read = cells::cell_at(bytes, f, starts, k);
-        if !placed(read) {
+        if !point(index::u(index, k), index::v(index, k)) {
             return false;
         }
         k += 1;
@@ -115,33 +107,23 @@ fn fraction(x: f32) -> bool
     0.0 <= x && x <= 1.0
 }
 
-fn sample(cell: ReadCell) -> bool
-    ensures { λ r. ⌜ r ≡ fractionRead cell ⌝ }
+fn sample(border: BorderSample) -> bool
+    ensures { λ r. ⌜ r ≡ borderAnswer border ⌝ }
 {
-    match cell {
-        ReadCell::Sampled {
-            u: _,
-            v: _,
-            fraction: x,
-            threshold: _,
-        } => fraction(x),
-        ReadCell::Unsampled { u: _, v: _ } => true,
-        ReadCell::Absent => true,
-        ReadCell::Refused(_) => true,
+    match border {
+        BorderSample::BlackFraction(x) => fraction(x),
+        BorderSample::Unsampled => true,
     }
 }
 
-// Question 13, for at most 256 cells. In a whole record every grid is whole.
-fn all_sampled(bytes: &[u8], f: Fields, starts: &[u16; 256]) -> bool
-    requires { ⌜ Indexed (now bytes) f (now starts) × (f .«cell_count» ≤ 256) ⌝ }
-    ensures { λ r. ⌜ r ≡ every (λ (k : ℕ). sampleAnswer (gridSize (shot (now (bytes .entry)) .bits) (shot (now (bytes .entry)) .border))
-        (cell (shot (now (bytes .entry))) k .sample)) (length (shot (now (bytes .entry)) .cells)) ⌝ }
+// Question 13 of the cells in the index, at most 256. In a whole record every grid is whole.
+fn all_sampled(index: &[u32; 768], count: usize) -> bool
+    requires { ⌜ count ≤ 256 ⌝ }
+    ensures { λ r. ⌜ r ≡ every (sampledIn (now (index .entry))) count ⌝ }
 {
-    let count = f.cell_count;
     let mut k = 0;
     while k < count {
-        let read = cells::cell_at(bytes, f, starts, k);
-        if !sample(read) {
+        if !sample(index::border(index, k)) {
             return false;
         }
         k += 1;
@@ -155,16 +137,16 @@ pub fn from_9(
     f: Fields,
     config: BoardMatchConfig,
     entries: &[f32; 511],
-    starts: &[u16; 256],
+    index: &[u32; 768],
     words: usize,
 ) -> Answer
-    requires { ⌜ Indexed (now bytes) f (now starts) × (config ≡ configOf (shot (now bytes))) × (now entries ≡ map ofPattern (shot (now bytes) .table)) ⌝ }
+    requires { ⌜ Indexed (now bytes) f (now index) × (config ≡ configOf (shot (now bytes))) × (now entries ≡ map ofPattern (shot (now bytes) .table)) ⌝ }
     ensures { λ r. ⌜ r ≡ toldAnswer (askedFrom9 (shot (now (bytes .entry))) words none) ⌝ }
 {
     if !settings(config) {
         return Answer::Refused(Refusal::SettingsNotFinite);
     }
-    if !table::is_table(entries) {
+    if !table_passes(bytes, f, entries) {
         return Answer::Refused(Refusal::InvalidTable);
     }
     let count = f.cell_count;
@@ -174,10 +156,10 @@ pub fn from_9(
     if 256 < count {
         return Answer::Refused(Refusal::CellsOutOfRange);
     }
-    if !all_placed(bytes, f, starts) {
+    if !all_placed(index, count) {
         return Answer::Refused(Refusal::CellsOutOfRange);
     }
-    if !all_sampled(bytes, f, starts) {
+    if !all_sampled(index, count) {
         return Answer::Refused(Refusal::InvalidSample);
     }
     if words < 18 * count {

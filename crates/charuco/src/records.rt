@@ -1,10 +1,9 @@
 // Reading a shot record.
 ghost use mathlib.Core.Path.{_≡_};
-ghost use Prim.Native.Nat.{_≤_};
 ghost use Rattle.shot_record.specs.Shots.{parse};
 ghost use Rattle.shot_record.specs.Answers.{headerAnswer, entryAnswer, codeAnswer, cellAnswer, partAnswer, gridAnswer};
 ghost use Rattle.charuco.specs.Answers.{Tells};
-ghost use Rattle.charuco.specs.Records.{headerWords, headerTold, entryTold, codeTold, cellTold, coordinateWord, partWords, gridTold, Lies};
+ghost use Rattle.charuco.specs.Records.{headerWords, headerTold, entryTold, codeTold, cellTold, coordinateWord, gridTold, Lies};
 use super::values;
 use shot_record::Header;
 use shot_record::ReadCell;
@@ -12,7 +11,6 @@ use shot_record::ReadCode;
 use shot_record::ReadEntry;
 use shot_record::ReadHeader;
 use shot_record::cells;
-use shot_record::cells::Part;
 
 fn header_words(h: Header) -> [u32; 12]
     ensures { λ r. ⌜ r ≡ headerWords h ⌝ }
@@ -136,16 +134,6 @@ pub extern "C" fn charuco_cell(bytes: &[u8], k: usize, values: &mut [u32]) -> u3
     tell_cell(shot_record::cell(bytes, k), values)
 }
 
-fn part_words(part: Part) -> [u32; 2]
-    requires { ⌜ part .first ≤ part .end ⌝ }
-    ensures { λ r. ⌜ r ≡ partWords part ⌝ }
-{
-    [
-        values::count_word(part.first),
-        values::count_word(part.end - part.first),
-    ]
-}
-
 // Where in the record the grid of cell k is.
 #[no_mangle]
 pub extern "C" fn charuco_grid(bytes: &[u8], k: usize, values: &mut [u32]) -> u32
@@ -157,7 +145,10 @@ pub extern "C" fn charuco_grid(bytes: &[u8], k: usize, values: &mut [u32]) -> u3
     let part = cells::grid_part(bytes, k);
     match header {
         ReadHeader::Header(_) => {
-            let words = part_words(part);
+            let words = [
+                values::count_word(part.first),
+                values::count_word(part.end - part.first),
+            ];
             values::worked(values, &words)
         }
         ReadHeader::Refused(refusal) => values::refused(values, refusal),

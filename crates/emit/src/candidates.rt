@@ -12,8 +12,8 @@ use board::Numbered;
 use grid_alignment::GridAlignment;
 use grid_alignment::alignments;
 use hypothesis::Inputs;
-use shot_record::ReadCell;
-use shot_record::cells;
+use score_matrix::BorderSample;
+use shot_record::index;
 
 // A sampled cell and the marker that is expected in it, with the marker's turned code.
 pub struct Candidate {
@@ -42,30 +42,26 @@ fn turned_code(codes: &[u64; 512], id: u32, bits: u8, turn: u8) -> u64
     matcher::rotate_code_u64(codes[at], bits, turn)
 }
 
-// What is expected in cell k.
+// What is expected in cell k. The record stands in the contract alone.
 pub fn expected_in(
     bytes: &[u8],
     inputs: Inputs,
-    starts: &[u16; 256],
+    index: &[u32; 768],
     codes: &[u64; 512],
     alignment: GridAlignment,
     k: usize,
 ) -> Expected
-    requires { ⌜ Ready (now bytes) inputs (now starts) × (now codes ≡ firstCodes (shot (now bytes))) × NearAlignment alignment
+    requires { ⌜ Ready (now bytes) inputs (now index) × (now codes ≡ firstCodes (shot (now bytes))) × NearAlignment alignment
         × (k < cellTotal (shot (now bytes))) ⌝ }
     ensures { λ r. ⌜ r ≡ candidateAt (shot (now (bytes .entry))) alignment k ⌝ }
 {
     let board = inputs.board;
-    let read = cells::cell_at(bytes, inputs.fields, starts, k);
-    let ReadCell::Sampled {
-        u,
-        v,
-        fraction,
-        threshold,
-    } = read
-    else {
+    let border = index::border(index, k);
+    let BorderSample::BlackFraction(fraction) = border else {
         return Expected::Absent;
     };
+    let u = index::u(index, k);
+    let v = index::v(index, k);
     let square = alignments::apply(alignment, u, v);
     let found = board.marker_id_at(square.u, square.v);
     let Numbered::Id(id) = found else {
@@ -80,6 +76,6 @@ pub fn expected_in(
         turn,
         code: turned_code(codes, id, board.bits, turn),
         fraction,
-        threshold,
+        threshold: index::threshold(index, k),
     })
 }

@@ -19,19 +19,19 @@ mod words;
 use candidates::Expected;
 use grid_alignment::GridAlignment;
 use hypothesis::Inputs;
-use shot_record::cells;
+use shot_record::index;
 
 // The words of the marker that is expected, if it is emitted, are put from the place `at` on. Gives the place after them.
 fn emit_expected(
     bytes: &[u8],
     inputs: Inputs,
-    starts: &[u16; 256],
+    index: &[u32; 768],
     table: &[f32; 511],
     expected: Expected,
     markers: &mut [u32],
     at: usize,
 ) -> usize
-    requires { ⌜ Ready (now bytes) inputs (now starts) × (now table ≡ tableOf (shot (now bytes))) × OfCell (shot (now bytes)) expected ⌝ }
+    requires { ⌜ Ready (now bytes) inputs (now index) × (now table ≡ tableOf (shot (now bytes))) × OfCell (shot (now bytes)) expected ⌝ }
     requires { ⌜ at + length (flatMap markerWords (emittedFor (shot (now bytes)) expected)) ≤ length (now markers) ⌝ }
     ensures { λ r. ⌜ Put (now (markers .entry)) (now (markers .exit)) at r (flatMap markerWords (emittedFor (shot (now (bytes .entry))) expected)) ⌝ }
 {
@@ -39,7 +39,7 @@ fn emit_expected(
         return at;
     };
     let board = inputs.board;
-    let grid = cells::grid_at(bytes, inputs.fields, starts, c.cell as usize);
+    let grid = index::grid(bytes, inputs.fields, index, c.cell as usize);
     words::emit_marker(
         c,
         grid,
@@ -56,13 +56,13 @@ fn emit_expected(
 pub fn emit_markers(
     bytes: &[u8],
     inputs: Inputs,
-    starts: &[u16; 256],
+    index: &[u32; 768],
     table: &[f32; 511],
     codes: &[u64; 512],
     alignment: GridAlignment,
     markers: &mut [u32],
 ) -> usize
-    requires { ⌜ Loaded (now bytes) inputs (now starts) (now table) (now codes) × NearAlignment alignment ⌝ }
+    requires { ⌜ Loaded (now bytes) inputs (now index) (now table) (now codes) × NearAlignment alignment ⌝ }
     requires { ⌜ 18 * cellTotal (shot (now bytes)) ≤ length (now markers) ⌝ }
     ensures count { λ r. ⌜ r ≡ length (markersOf (shot (now (bytes .entry))) alignment) ⌝ }
     ensures list { λ _. ⌜ now (markers .exit) ≡ inFront (flatMap markerWords (markersOf (shot (now (bytes .entry))) alignment)) (now (markers .entry)) ⌝ }
@@ -72,8 +72,8 @@ pub fn emit_markers(
     let mut at = 0;
     let mut k = 0;
     while k < count {
-        let expected = candidates::expected_in(bytes, inputs, starts, codes, alignment, k);
-        at = emit_expected(bytes, inputs, starts, table, expected, markers, at);
+        let expected = candidates::expected_in(bytes, inputs, index, codes, alignment, k);
+        at = emit_expected(bytes, inputs, index, table, expected, markers, at);
         k += 1;
     }
     at / 18

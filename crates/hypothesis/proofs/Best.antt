@@ -1,7 +1,7 @@
 -- The best placement is one of the shot's placements, with its evidence and a small translation, and so is the runner-up, another one; and what the
 -- answer of the search says of the best and of the number of placements. Assumes nothing.
 use mathlib.Core.Path.{_≡_, refl, sym, ap, _∙_}
-use Prim.Native.Nat.{ℕ, zero, suc, _-_, _/_, _%_, _≤_, _<_}
+use Prim.Native.Nat.{ℕ, zero, suc, _/_, _%_, _≤_, _<_}
 use native.Mathlib.Nat.{div-lt-iff-lt-mul, mod-lt}
 use native.Mathlib.Omega.{arith}
 use mathlib.Core.List.{List, [], _∷_, _++_, map}
@@ -19,12 +19,12 @@ use Rattle.ranking.specs.Rules.{AllFinite, IsFirstGreatest}
 use Rattle.ranking.proofs.Greatest.{empty, greatest-rule}
 use Rattle.hypothesis.specs.declared.Selection.{Selection}
 use Rattle.hypothesis.specs.declared.Enumerated.the-variants as enumerated
-use Rattle.hypothesis.specs.Placements.{cellTotal, frame, movesAcross, movesDown, placements}
+use Rattle.hypothesis.specs.Placements.{frame, movesAcross, movesDown, placements}
 use Rattle.hypothesis.specs.Evidence.{reported}
 use Rattle.hypothesis.specs.Search.{hypothesis, hypotheses, best, runnerUp, selection, selected, enumerate}
 use Rattle.hypothesis.specs.Accuracy.{Placement, RunsUp, Checked}
 use Rattle.hypothesis.specs.Inputs.{PassedShot}
-use Rattle.hypothesis.proofs.Sides.{near-sides}
+use Rattle.hypothesis.proofs.Sides.{near-frame}
 use Rattle.hypothesis.proofs.Places.{Stands, stands}
 use Rattle.hypothesis.proofs.Placements.{positive, distinct}
 use Rattle.hypothesis.proofs.Turned.{across-small, down-small, all-finite}
@@ -50,18 +50,13 @@ small-move : (a n : ℕ) (least : ℤ) → a < n → n ≤ 32 → natAbs least �
 small-move a n least l m h = omega (arith, l, m, h, abs-sub (pos a) least)
 
 module _ (s : Shot) (p : PassedShot s) where
-  -- the frame of a turn lies as near as the cells
-  pub near-frame : (r : ℕ) → (natAbs (frame s r .u) ≤ 4096) × (natAbs (frame s r .v) ≤ 4096)
-  unfolding frame
-  near-frame r = let n = near-sides s p r (cellTotal s - 1) in (n .left, n .top)
-
   pub small-translation : (k : ℕ) (q : GridAlignment) → Stands s 4 k q → (natAbs (q .tx) ≤ 4127) × (natAbs (q .ty) ≤ 4127)
   small-translation k q o =
       let r = o .r in
       let d₀ = positive (movesAcross s r) (movesDown s r) (o .j) (o .inside) in
       let x = small-move (o .j / movesDown s r) (movesAcross s r) (frame s r .u) (div-lt-iff-lt-mul d₀ .1 (o .inside)) (across-small s (p .cols) (p .rows) r)
-      (near-frame r .0) in
-      let y = small-move (o .j % movesDown s r) (movesDown s r) (frame s r .v) (mod-lt (o .j) d₀) (down-small s (p .cols) (p .rows) r) (near-frame r .1) in
+      (near-frame s p r .0) in
+      let y = small-move (o .j % movesDown s r) (movesDown s r) (frame s r .v) (mod-lt (o .j) d₀) (down-small s (p .cols) (p .rows) r) (near-frame s p r .1) in
       rw (o .is) (x, y)
 
   pub best-placed : (b : Hypothesis) → best s ≡ choice.Placement b → BestPlaced s b

@@ -1,9 +1,8 @@
--- The capacity of a placement, cell by cell: what a cell that was read adds to the sum is what the shot's cell adds. Assumes nothing.
+-- The capacity of a placement, cell by cell: what a cell of the index adds to the sum is what the shot's cell adds. Assumes nothing.
 use mathlib.Core.Path.{_≡_, refl, sym, ap, ap₂, _∙_}
 use Prim.Native.Nat.{ℕ, suc, _<_}
 use mathlib.Core.Bool.{Bool, true, false, cond}
 use mathlib.Core.List.{List, [], _∷_, foldl, foldl-append}
-use mathlib.Core.Option.{some}
 use lib.Ieee.{Float, binary32, add, mul, neg, lt}
 use Rattle.floats.specs.Units.{nought}
 use Rattle.grid_alignment.specs.declared.Coord.{Coord}
@@ -14,17 +13,14 @@ use Rattle.board.specs.declared.Numbered.{Numbered}
 use Rattle.board.specs.declared.Numbered.the-variants as numbered
 use Rattle.score_matrix.specs.Scores.{Samples, nullScore}
 use Rattle.lent_list.specs.Front.{upTo}
-use Rattle.shot_record.specs.declared.ReadCell.{ReadCell}
-use Rattle.shot_record.specs.Shots.{Shot, cellOf, shot}
-use Rattle.shot_record.specs.Answers.{cellRead}
+use Rattle.shot_record.specs.Shots.{Shot, shot}
 use Rattle.hypothesis.specs.declared.Inputs.{Inputs}
 use Rattle.hypothesis.specs.Placements.{cellTotal}
 use Rattle.hypothesis.specs.Evidence.{weightOf, samplesOf, expected, Contribution, contributedWith, contributed, contributionsTo, capacityTerm}
 use Rattle.hypothesis.specs.Evidence.{capacitySum}
 use Rattle.hypothesis.specs.Inputs.{Ready}
-use Rattle.hypothesis.specs.Capacity.{withMarker, markerUnder, withRead}
-use Rattle.hypothesis.proofs.ReadCells.{ready-inside, point-read}
-use Rattle.hypothesis.proofs.CountedCells.{weight-is}
+use Rattle.hypothesis.specs.Capacity.{withMarker, markerUnder, withCell}
+use Rattle.hypothesis.proofs.IndexedCells.{point-is, weight-is}
 
 -- ---- one cell more
 module _ (s : Shot) (total most : Float) (most-is : most ≡ neg (nullScore (s .bits))) where
@@ -39,19 +35,18 @@ module _ (s : Shot) (total most : Float) (most-is : most ≡ neg (nullScore (s .
   marker-step w x numbered.Absent = refl
   marker-step w x (numbered.Id m) = if-counted (lt nought w) (record { weight = w; samples = x; id = m })
 
-module _ (bytes : List ℕ) (i : Inputs) (starts : List ℕ) (ready : Ready bytes i starts) (p : GridAlignment) where
+module _ (bytes : List ℕ) (i : Inputs) (index : List ℕ) (ready : Ready bytes i index) (p : GridAlignment) where
   abbrev s : Shot
   s = shot bytes
 
-  -- the sum with cell k, which was read
-  pub capacity-step : (k : ℕ) → k < cellTotal s → (total most : Float) (read : ReadCell) → total ≡ capacitySum s (contributionsTo s p k)
-      → most ≡ neg (nullScore (i .board .bits)) → read ≡ cellRead (some (cellOf bytes k))
-      → withRead total most i p read ≡ capacitySum s (contributionsTo s p (suc k))
+  -- the sum with cell k
+  pub capacity-step : (k : ℕ) → k < cellTotal s → (total most : Float) → total ≡ capacitySum s (contributionsTo s p k)
+      → most ≡ neg (nullScore (i .board .bits)) → withCell total most i p index k ≡ capacitySum s (contributionsTo s p (suc k))
   unfolding upTo contributed expected
-  capacity-step k h total most read so-far most-is e =
+  capacity-step k h total most so-far most-is =
       let null = most-is ∙ ap (λ (b : Board). neg (nullScore (b .bits))) (ready .board) in
-      let at = point-read bytes k (ready-inside bytes i starts ready k h) read e in
-      ap₂ (withMarker total most) (weight-is bytes i starts ready k h read e) (ap₂ (λ (b : Board) (q : Coord). markerUnder b (applied p q)) (ready .board) at)
+      ap₂ (withMarker total most) (weight-is bytes i index ready k h)
+      (ap₂ (λ (b : Board) (q : Coord). markerUnder b (applied p q)) (ready .board) (point-is bytes i index ready k h))
       ∙ marker-step s total most null (weightOf s k) (samplesOf s k) (expected s p k)
       ∙ ap (λ (x : Float). with-cells s x most null (contributed s p k)) so-far
       ∙ sym (foldl-append (λ (x : Float) (c : Contribution). add binary32 x (capacityTerm s c)) nought (contributionsTo s p k) (contributed s p k))

@@ -19,7 +19,7 @@ use Rattle.hypothesis.specs.declared.sums.Counted.{Counted}
 use Rattle.hypothesis.specs.Placements.{cellTotal, movesAcross, movesDown, shifted}
 use Rattle.hypothesis.specs.Evidence.{boardIn, weightOf, samplesOf, expected, Contribution, contributedWith, contributed}
 use Rattle.hypothesis.specs.Sums.{markerAfter, Stays}
-use Rattle.hypothesis.proofs.Columns.{on-square}
+use Rattle.hypothesis.proofs.Moves.{on-square}
 use Rattle.hypothesis.proofs.Frames.{offsetU, offsetV, framed, lands}
 
 -- cell k as one that may count
@@ -32,7 +32,7 @@ module _ (s : Shot) (r k : ℕ) (inside : k < cellTotal s) where
       → Stays (countedCell s r k) (movesAcross s r) (movesDown s r)
   stays fit b c h =
       let f = framed s r k inside in
-      record { bits = b; cols = c; rows = h; wide = omega (arith, f .wide, fit .0); high = omega (arith, f .high, fit .1) }
+      record { bits = b; cols = c; rows = h; wide = omega (arith, f .wide, fit .0); high = omega (arith, f .high, fit .1); some = fit .1 }
 
   module _ (a b : ℕ) (l : a < movesAcross s r) (m : b < movesDown s r) where
     -- what the placement whose frame is moved by (a, b) expects in the cell, and the marker's number, if there is one

@@ -1,18 +1,24 @@
--- The least and the greatest of f 0 to f n: bounds of all of them, and reached. And the distance of two whole numbers in order. Assumes nothing.
-use mathlib.Core.Path.{_≡_, refl, ap}
+-- The least and the greatest of f 0 to f n: bounds of all of them, reached, and exchanged with the other sign. And the distance of two whole numbers in
+-- order. Assumes nothing.
+use mathlib.Core.Path.{_≡_, refl, sym, ap, ap₂, _∙_}
 use mathlib.Core.Logic.{inl, inr}
 use Prim.Native.Nat.{ℕ, zero, suc, _+_, _-_, _≤_, _<_}
 use native.Mathlib.Nat.{eq-or-lt-of-le, le-of-suc-le-suc}
 use native.Mathlib.Omega.{arith}
 use mathlib.Core.Bool.{Bool, true, false, cond}
-use lib.IntN.{ℤ, pos, negsuc, natAbs, _+ℤ_, _-ℤ_}
+use lib.IntN.{ℤ, pos, negsuc, natAbs, negℤ, negℤ-negℤ, _+ℤ_, _-ℤ_}
 use lib.Signed.{leZ}
 use borrow.Author.Tests.{leb-true, leb-false}
-use Rattle.integers.proofs.Parts.{plus, minus, add-is, sub-is-parts, abs-is, parts-le, ext}
+use Rattle.integers.proofs.Parts.{plus, minus, plus-neg, minus-neg, add-is, sub-is-parts, abs-is, abs-neg, parts-le, ext}
 use Rattle.integers.proofs.Distances.{Le}
 use Rattle.grid_alignment.specs.Alignment.{lesser}
 use Rattle.ranking.proofs.Order.{clash}
 use Rattle.hypothesis.specs.Placements.{leastTo, higher, greatestTo, squares}
+
+distance-sym : (x y : ℤ) → natAbs (x -ℤ y) ≡ natAbs (y -ℤ x)
+distance-sym x y =
+    let z = y -ℤ x in
+    ap natAbs (ext (x -ℤ y) (negℤ z) (omega (arith, sub-is-parts x y, sub-is-parts y x, plus-neg z, minus-neg z))) ∙ abs-neg z
 
 -- ---- the tests of order
 passed : (x y : ℤ) → leZ x y ≡ true → Le x y
@@ -37,16 +43,41 @@ least-le x y = go (leZ x y) refl
     go true e = (omega arith, passed x y e)
     go false e = (failed x y e, omega arith)
 
-le-greatest : (x y : ℤ) → Le x (higher x y) × Le y (higher x y)
-le-greatest x y = go (leZ x y) refl
+-- of two in order
+in-order : (x y : ℤ) → Le x y → (lesser x y ≡ x) × (lesser y x ≡ x)
+in-order x y h = (first (leZ x y) refl, second (leZ y x) refl)
   where
-    go : (t : Bool) → leZ x y ≡ t → Le x (cond t y x) × Le y (cond t y x)
-    go true e = (passed x y e, omega arith)
-    go false e = (omega arith, failed x y e)
+    first : (t : Bool) → leZ x y ≡ t → cond t x y ≡ x
+    first true e = refl
+    first false e = ext y x (omega (arith, failed x y e))
+
+    second : (t : Bool) → leZ y x ≡ t → cond t y x ≡ x
+    second true e = ext y x (omega (arith, passed y x e))
+    second false e = refl
+
+-- with the other sign the order is the other one, and the lesser is the greater
+le-opposite : (x y : ℤ) → Le x y → Le (negℤ y) (negℤ x)
+le-opposite x y h = omega (arith, plus-neg x, minus-neg x, plus-neg y, minus-neg y)
+
+lesser-opposite : (x y : ℤ) → lesser (negℤ x) (negℤ y) ≡ negℤ (higher x y)
+lesser-opposite x y = go (leZ x y) refl
+  where
+    go : (t : Bool) → leZ x y ≡ t → lesser (negℤ x) (negℤ y) ≡ negℤ (cond t y x)
+    go true e = in-order (negℤ y) (negℤ x) (le-opposite x y (passed x y e)) .1
+    go false e = in-order (negℤ x) (negℤ y) (le-opposite y x (failed x y e)) .0
 
 -- ---- of f 0 to f n
+abbrev opposite : (ℕ → ℤ) → ℕ → ℤ
+opposite f k = negℤ (f k)
+
+-- z is one of them
+pub record Reached (f : ℕ → ℤ) (n : ℕ) (z : ℤ) : Type 0 where
+  pub k : ℕ
+  pub within : k ≤ n
+  pub is : z ≡ f k
+
 module _ (f : ℕ → ℤ) where
-  pub least-bound : (n k : ℕ) → k ≤ n → Le (leastTo f n) (f k)
+  least-bound : (n k : ℕ) → k ≤ n → Le (leastTo f n) (f k)
   unfolding leastTo
   least-bound zero zero h = omega arith
   least-bound zero (suc k) h = absurd (omega arith)
@@ -54,42 +85,19 @@ module _ (f : ℕ → ℤ) where
       let b = least-le (leastTo f n) (f (suc n)) in
       elim (eq-or-lt-of-le h) [ inl e ↦ rw e (b .1) | inr l ↦ omega (arith, b .0, least-bound n k (le-of-suc-le-suc l)) ]
 
-  pub greatest-bound : (n k : ℕ) → k ≤ n → Le (f k) (greatestTo f n)
-  unfolding greatestTo
-  greatest-bound zero zero h = omega arith
-  greatest-bound zero (suc k) h = absurd (omega arith)
-  greatest-bound (suc n) k h =
-      let b = le-greatest (greatestTo f n) (f (suc n)) in
-      elim (eq-or-lt-of-le h) [ inl e ↦ rw e (b .1) | inr l ↦ omega (arith, b .0, greatest-bound n k (le-of-suc-le-suc l)) ]
-
-  -- z is one of them
-  pub record Reached (n : ℕ) (z : ℤ) : Type 0 where
-    pub k : ℕ
-    pub within : k ≤ n
-    pub is : z ≡ f k
-
-  either : (t : Bool) (n : ℕ) (x : ℤ) → Reached n x → Reached (suc n) (cond t x (f (suc n))) × Reached (suc n) (cond t (f (suc n)) x)
-  either t n x h = go t
-    where
-      earlier : Reached (suc n) x
-      earlier = record { k = h .k; within = omega (arith, h .within); is = h .is }
-
-      last : Reached (suc n) (f (suc n))
-      last = record { k = suc n; within = omega arith; is = refl }
-
-      go : (t : Bool) → Reached (suc n) (cond t x (f (suc n))) × Reached (suc n) (cond t (f (suc n)) x)
-      go true = (earlier, last)
-      go false = (last, earlier)
-
-  pub least-reached : (n : ℕ) → Reached n (leastTo f n)
+  pub least-reached : (n : ℕ) → Reached f n (leastTo f n)
   unfolding leastTo
   least-reached zero = record { k = 0; within = omega arith; is = refl }
-  least-reached (suc n) = either (leZ (leastTo f n) (f (suc n))) n (leastTo f n) (least-reached n) .0
+  least-reached (suc n) = go (leZ (leastTo f n) (f (suc n))) (least-reached n)
+    where
+      go : (t : Bool) → Reached f n (leastTo f n) → Reached f (suc n) (cond t (leastTo f n) (f (suc n)))
+      go true h = record { k = h .k; within = omega (arith, h .within); is = h .is }
+      go false h = record { k = suc n; within = omega arith; is = refl }
 
-  pub greatest-reached : (n : ℕ) → Reached n (greatestTo f n)
-  unfolding greatestTo
-  greatest-reached zero = record { k = 0; within = omega arith; is = refl }
-  greatest-reached (suc n) = either (leZ (greatestTo f n) (f (suc n))) n (greatestTo f n) (greatest-reached n) .1
+  least-opposite : (n : ℕ) → leastTo (opposite f) n ≡ negℤ (greatestTo f n)
+  unfolding leastTo greatestTo
+  least-opposite zero = refl
+  least-opposite (suc n) = rw (least-opposite n) (lesser-opposite (greatestTo f n) (f (suc n)))
 
 -- ---- how far x lies above low
 above-is : (low x : ℤ) → Le low x → natAbs (x -ℤ low) + (plus low + minus x) ≡ plus x + minus low
@@ -100,36 +108,62 @@ above-is low x h =
     let none : plus z + minus z ≤ plus z - minus z = parts-le z (plus z - minus z) (omega arith) (omega arith) in
     omega arith
 
--- ---- f 0 to f n moved so that the least of them is a
+-- what the parts of x and of t add up to
+lands : (x t : ℤ) (i : ℕ) → x +ℤ t ≡ pos i → plus x + plus t ≡ i + (minus x + minus t)
+unfolding plus minus
+lands x t i e = omega (arith, add-is x t, ap plus e, ap minus e)
+
 module _ (f : ℕ → ℤ) (n : ℕ) where
+  abbrev low : ℤ
+  low = leastTo f n
+
+  abbrev high : ℤ
+  high = greatestTo f n
+
+  greatest-is : high ≡ negℤ (leastTo (opposite f) n)
+  greatest-is = sym (ap negℤ (least-opposite f n) ∙ negℤ-negℤ high)
+
+  greatest-bound : (k : ℕ) → k ≤ n → Le (f k) high
+  greatest-bound k h =
+      omega (arith, rw (least-opposite f n) at (least-bound (opposite f) n k h), plus-neg high, minus-neg high, plus-neg (f k), minus-neg (f k))
+
+  greatest-reached : Reached f n high
+  greatest-reached =
+      let r = least-reached (opposite f) n in
+      record { k = r .k; within = r .within; is = greatest-is ∙ ap negℤ (r .is) ∙ negℤ-negℤ (f (r .k)) }
+
+  -- x and y are the least and the greatest, in one order or the other
+  pub record Ends (x y : ℤ) : Type 0 where
+    pub least-is : lesser x y ≡ low
+    pub squares-are : squares x y ≡ squares low high
+
+  order : Le low high
+  order = omega (arith, least-bound f n 0 (omega arith), greatest-bound 0 (omega arith))
+
+  pub kept : Ends low high
+  kept = record { least-is = in-order low high order .0; squares-are = refl }
+
+  -- ---- moved so that the least of them is a
   -- f k lies so far above the least
   abbrev pub offset : ℕ → ℕ
-  offset k = natAbs (f k -ℤ leastTo f n)
+  offset k = natAbs (f k -ℤ low)
 
   abbrev pub width : ℕ
-  width = squares (leastTo f n) (greatestTo f n)
+  width = squares low high
 
-  offset-parts : (k : ℕ) → k ≤ n → offset k + (plus (leastTo f n) + minus (f k)) ≡ plus (f k) + minus (leastTo f n)
-  offset-parts k h = above-is (leastTo f n) (f k) (least-bound f n k h)
+  offset-parts : (k : ℕ) → k ≤ n → offset k + (plus low + minus (f k)) ≡ plus (f k) + minus low
+  offset-parts k h = above-is low (f k) (least-bound f n k h)
 
-  pub offset-is : (k : ℕ) → k ≤ n → f k ≡ leastTo f n +ℤ pos (offset k)
+  pub offset-is : (k : ℕ) → k ≤ n → f k ≡ low +ℤ pos (offset k)
   unfolding plus minus
-  offset-is k h =
-      let low = leastTo f n in
-      ext (f k) (low +ℤ pos (offset k)) (omega (arith, add-is low (pos (offset k)), offset-parts k h))
+  offset-is k h = ext (f k) (low +ℤ pos (offset k)) (omega (arith, add-is low (pos (offset k)), offset-parts k h))
 
   pub offset-below : (k : ℕ) → k ≤ n → offset k < width
-  offset-below k h =
-      let low = leastTo f n in
-      let high = greatestTo f n in
-      let a = least-bound f n k h in
-      let b = greatest-bound f n k h in
-      omega (arith, offset-parts k h, above-is low high (omega arith))
+  offset-below k h = omega (arith, offset-parts k h, greatest-bound k h, above-is low high order)
 
-  pub moved-is : (a k : ℕ) → k ≤ n → f k +ℤ (pos a -ℤ leastTo f n) ≡ pos (offset k + a)
+  pub moved-is : (a k : ℕ) → k ≤ n → f k +ℤ (pos a -ℤ low) ≡ pos (offset k + a)
   unfolding plus minus
   moved-is a k h =
-      let low = leastTo f n in
       ext (f k +ℤ (pos a -ℤ low)) (pos (offset k + a))
       (omega (arith, add-is (f k) (pos a -ℤ low), sub-is-parts (pos a) low, offset-parts k h))
 
@@ -141,31 +175,30 @@ module _ (f : ℕ → ℤ) (n : ℕ) where
 
   pub record Move (t : ℤ) (size : ℕ) : Type 0 where
     pub a : ℕ
-    pub is : t ≡ pos a -ℤ leastTo f n
+    pub is : t ≡ pos a -ℤ low
     pub fits : a + width ≤ size
 
   pub move : (t : ℤ) (size : ℕ) → ((k : ℕ) → k ≤ n → Below t size k) → Move t size
   unfolding plus minus
   move t size h =
-      let low = leastTo f n in
-      let high = greatestTo f n in
       let l = least-reached f n in
-      let g = greatest-reached f n in
+      let g = greatest-reached in
       let bl = h (l .k) (l .within) in
       let bg = h (g .k) (g .within) in
       let a = bl .i in
-      let pl = ap plus (bl .is) in
-      let ml = ap minus (bl .is) in
-      let pg = ap plus (bg .is) in
-      let mg = ap minus (bg .is) in
-      let sl = add-is (f (l .k)) t in
-      let sg = add-is (f (g .k)) t in
-      let ql = ap plus (l .is) in
-      let nl = ap minus (l .is) in
-      let qg = ap plus (g .is) in
-      let ng = ap minus (g .is) in
-      record {
-        a = a;
-        is = ext t (pos a -ℤ low) (omega (arith, sub-is-parts (pos a) low));
-        fits = omega (arith, bg .inside, above-is low high (omega (arith, least-bound f n (g .k) (g .within))));
-      }
+      let x = lands low t a (rw (l .is) (bl .is)) in
+      let y = lands high t (bg .i) (rw (g .is) (bg .is)) in
+      record { a = a; is = ext t (pos a -ℤ low) (omega (arith, sub-is-parts (pos a) low)); fits = omega (arith, bg .inside, above-is low high order) }
+
+-- with the other sign they are exchanged
+pub turned-round : (f : ℕ → ℤ) (n : ℕ) → Ends (opposite f) n (negℤ (leastTo f n)) (negℤ (greatestTo f n))
+turned-round f n =
+    let l = leastTo f n in
+    let g = greatestTo f n in
+    let least : leastTo (opposite f) n ≡ negℤ g = least-opposite f n in
+    let greatest : greatestTo (opposite f) n ≡ negℤ l =
+    greatest-is (opposite f) n ∙ ap (λ (h : ℕ → ℤ). negℤ (leastTo h n)) (λ i k. negℤ-negℤ (f k) i) in
+    record {
+      least-is = in-order (negℤ g) (negℤ l) (le-opposite l g (order f n)) .1 ∙ sym least;
+      squares-are = ap (λ (d : ℕ). d + 1) (distance-sym (negℤ g) (negℤ l)) ∙ sym (ap₂ squares least greatest);
+    }

@@ -7,10 +7,10 @@ pub mod Extremes
 pub mod Frames
 pub mod Places
 pub mod Placements
-pub mod ReadCells
+pub mod IndexedCells
 mod Sides
 mod Capacities
-pub mod Columns
+pub mod Moves
 pub mod Contributions
 pub mod Filled
 pub mod CountedCells

@@ -1,14 +1,13 @@
 -- The sums of a turn: nought before the first cell, and after all cells the evidence of its placements. Assumes nothing.
 use mathlib.Core.Path.{_≡_, refl}
-use Prim.Native.Nat.{ℕ, _+_, _*_, _%_, _≤_, _<_}
-use native.Mathlib.Nat.{mul-le-mul}
+use Prim.Native.Nat.{ℕ, _+_, _*_, _%_, _<_}
+use native.Mathlib.Nat.{mul-le-mul, le-refl, add-mul}
 use native.Mathlib.Omega.{arith}
 use mathlib.Core.Bool.{Bool, true, false, cond}
 use mathlib.Core.List.{List, [], _∷_}
 use lib.Dec.{eqb}
-use lib.ListN.{getD, replicate, length-replicate, getD-replicate}
-use lib.Ieee.{Float, binary32, nan, ofBits, ofFields, odd}
-use Rattle.floats.specs.Units.{nought}
+use lib.ListN.{getD}
+use lib.Ieee.{Float, nan}
 use Rattle.lent_list.specs.Front.{upTo}
 use Rattle.shot_record.specs.Shots.{Shot}
 use Rattle.ranking.specs.declared.Evidence.the-variants as evidence
@@ -16,22 +15,22 @@ use Rattle.hypothesis.specs.declared.turns.Seen.{Seen}
 use Rattle.hypothesis.specs.Placements.{cellTotal, movesAcross, movesDown, shifted}
 use Rattle.hypothesis.specs.Evidence.{Contribution, contributions, reportedSum, reportedOver, reported}
 use Rattle.hypothesis.specs.Turns.{seenAt, Summed}
-use Rattle.hypothesis.specs.Filling.{nonempty, SumsTo, noneSeen}
+use Rattle.hypothesis.specs.Filling.{nonempty, SumsTo, noneSeen, Cleared}
 
 -- ---- no cell yet
 neither : (t : Bool) → cond t false false ≡ false
 neither true = refl
 neither false = refl
 
-inside : (n d a b : ℕ) → n ≤ 32 → d ≤ 32 → a < n → b < d → a * d + b < 1024
-inside n d a b wide high l m = omega (arith, wide, high, l, m, mul-le-mul {n₁ = a} {m₁ = d} {n₂ = 31} {m₂ = 32} (omega (arith, wide, l)) high)
+inside : (n d a b : ℕ) → a < n → b < d → a * d + b < n * d
+inside n d a b l m = omega (arith, m, mul-le-mul {n₁ = a + 1} {m₁ = d} {n₂ = n} {m₂ = d} (omega (arith, l)) (le-refl d), add-mul a 1 d)
 
-pub no-cells : (s : Shot) (r : ℕ) → movesAcross s r ≤ 32 → movesDown s r ≤ 32 → SumsTo s r 0 (replicate 1024 (ofBits binary32 0)) noneSeen
-unfolding upTo ofBits ofFields odd
-no-cells s r wide high =
+pub no-cells : (s : Shot) (r : ℕ) (sums : List Float) → Cleared (movesAcross s r * movesDown s r) sums → SumsTo s r 0 sums noneSeen
+unfolding upTo
+no-cells s r sums clear =
     record {
-      size = length-replicate {A = Float} 1024 nought;
-      value = λ a b l m. getD-replicate {A = Float} 1024 (a * movesDown s r + b) nought nan (inside (movesAcross s r) (movesDown s r) a b wide high l m);
+      size = clear .0;
+      value = λ a b l m. clear .1 (a * movesDown s r + b) (inside (movesAcross s r) (movesDown s r) a b l m);
       told = λ a b l m. neither (eqb ((a + b) % 2) 0);
     }
 

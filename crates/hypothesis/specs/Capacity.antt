@@ -1,17 +1,19 @@
 -- What one cell more makes of the capacity of a placement.
 use mathlib.Core.Bool.{cond}
+use mathlib.Core.List.{List}
+use Prim.Native.Nat.{ℕ}
 use lib.Ieee.{Float, binary32, add, mul, lt}
 use Rattle.floats.specs.Units.{nought}
 use Rattle.grid_alignment.specs.declared.Coord.{Coord}
 use Rattle.grid_alignment.specs.declared.GridAlignment.{GridAlignment}
-use Rattle.grid_alignment.specs.Alignment.{applied}
+use Rattle.grid_alignment.specs.Alignment.{point, applied}
 use Rattle.board.specs.declared.Board.{Board}
 use Rattle.board.specs.declared.Numbered.{Numbered}
 use Rattle.board.specs.declared.Numbered.the-variants as numbered
 use Rattle.board.specs.Layout.{markerOn}
-use Rattle.shot_record.specs.declared.ReadCell.{ReadCell}
+use Rattle.score_matrix.specs.Weights.{weight}
+use Rattle.shot_record.specs.Index.{uIn, vIn, borderIn}
 use Rattle.hypothesis.specs.declared.Inputs.{Inputs}
-use Rattle.hypothesis.specs.Reads.{pointRead, weightRead}
 
 -- with a cell of a weight in which a marker is expected or none
 abbrev pub withMarker : Float → Float → Float → Numbered → Float
@@ -21,6 +23,7 @@ withMarker total most weight (numbered.Id m) = cond (lt nought weight) (add bina
 abbrev pub markerUnder : Board → Coord → Numbered
 markerUnder board q = markerOn board (q .u) (q .v)
 
--- with a cell that was read
-abbrev pub withRead : Float → Float → Inputs → GridAlignment → ReadCell → Float
-withRead total most i p read = withMarker total most (weightRead (i .config) read) (markerUnder (i .board) (applied p (pointRead read)))
+-- with cell k of an index
+abbrev pub withCell : Float → Float → Inputs → GridAlignment → List ℕ → ℕ → Float
+withCell total most i p index k =
+    withMarker total most (weight (i .config) (borderIn index k)) (markerUnder (i .board) (applied p (point (uIn index k) (vIn index k))))

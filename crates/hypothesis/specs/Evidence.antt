@@ -16,13 +16,11 @@ use Rattle.board.specs.declared.Board.{Board}
 use Rattle.board.specs.Layout.{markerOn}
 use Rattle.board.specs.Questions.{boardOf}
 use Rattle.score_matrix.specs.Scores.{Samples, samples, nullScore}
-use Rattle.score_matrix.specs.declared.BorderSample.{BorderSample}
-use Rattle.score_matrix.specs.declared.BorderSample.the-variants as border
 use Rattle.score_matrix.specs.Weights.{weight}
 use Rattle.score_matrix.specs.Accuracy.{weighted, exactWeighted}
 use Rattle.lent_list.specs.Front.{upTo}
 use Rattle.shot_record.specs.Shots.{Sample, Shot}
-use Rattle.shot_record.specs.Answers.{ofPattern, configOf, specOf, gridWith}
+use Rattle.shot_record.specs.Answers.{ofPattern, configOf, specOf, gridWith, borderWith, thresholdWith}
 use Rattle.ranking.specs.declared.Evidence.{Evidence}
 use Rattle.ranking.specs.declared.Evidence.the-variants as evidence
 use Rattle.hypothesis.specs.Placements.{cellTotal, cell, cellPoint}
@@ -38,16 +36,8 @@ abbrev pub codeOf : Shot → ℕ → ℕ → ℕ
 codeOf s r m = turned (s .bits) r (getD (s .codes) m 0)
 
 -- The weight of cell k, and what is sampled of it. An unsampled cell has weight 0, threshold 0 and an empty grid.
-abbrev pub borderWith : Option Sample → BorderSample
-borderWith none = border.Unsampled
-borderWith (some x) = border.BlackFraction (ofPattern (x .fraction))
-
 abbrev pub weightWith : Shot → Option Sample → Float
 weightWith s o = weight (configOf s) (borderWith o)
-
-abbrev pub thresholdWith : Option Sample → ℕ
-thresholdWith none = 0
-thresholdWith (some x) = x .threshold
 
 abbrev pub samplesWith : Shot → Option Sample → Samples
 samplesWith s o = samples (s .bits) (s .border) (thresholdWith o) (gridWith o)

@@ -1,15 +1,36 @@
--- The sides of the cells after a turn, of which the frame is made.
-use Prim.Native.Nat.{ℕ}
+-- The sides of the cells, and the frame that they make after a turn.
+use Prim.Native.Nat.{ℕ, _-_}
+use lib.IntN.{ℤ}
+use Rattle.grid_alignment.specs.declared.Coord.{Coord}
+use Rattle.grid_alignment.specs.Alignment.{point, sends, lesser}
 use Rattle.shot_record.specs.Shots.{Shot}
+use Rattle.hypothesis.specs.declared.Frame.{Frame}
+use Rattle.hypothesis.specs.declared.framing.Extremes.{Extremes}
 use Rattle.hypothesis.specs.declared.framing.Sides.{Sides}
-use Rattle.hypothesis.specs.Placements.{leastTo, greatestTo, turnedU, turnedV}
+use Rattle.hypothesis.specs.Placements.{cellTotal, cell, leastTo, higher, greatestTo, squares}
 
--- the least and the greatest u and v of the cells 0 to n after a turn
-abbrev pub sidesTo : Shot → ℕ → ℕ → Sides
-sidesTo s r n =
-    record {
-      left = leastTo (turnedU s r) n;
-      right = greatestTo (turnedU s r) n;
-      top = leastTo (turnedV s r) n;
-      bottom = greatestTo (turnedV s r) n;
-    }
+-- the least and the greatest of f 0 to f n, and with one number more
+abbrev pub extremesTo : (ℕ → ℤ) → ℕ → Extremes
+extremesTo f n = record { least = leastTo f n; greatest = greatestTo f n }
+
+abbrev pub extremesWith : Extremes → ℤ → Extremes
+extremesWith e x = record { least = lesser (e .least) x; greatest = higher (e .greatest) x }
+
+-- the coordinates of the cells, and their extremes
+abbrev pub us : Shot → ℕ → ℤ
+us s k = cell s k .u
+
+abbrev pub vs : Shot → ℕ → ℤ
+vs s k = cell s k .v
+
+abbrev pub sidesOf : Shot → Sides
+sidesOf s = record { u = extremesTo (us s) (cellTotal s - 1); v = extremesTo (vs s) (cellTotal s - 1) }
+
+-- the frame with two opposite corners p and q
+abbrev pub frameBetween : Coord → Coord → Frame
+frameBetween p q =
+    record { u = lesser (p .u) (q .u); v = lesser (p .v) (q .v); width = squares (p .u) (q .u); height = squares (p .v) (q .v) }
+
+-- the frame after r quarter turns
+abbrev pub frameBy : ℕ → Sides → Frame
+frameBy r e = frameBetween (sends r (point (e .u .least) (e .v .least))) (sends r (point (e .u .greatest) (e .v .greatest)))

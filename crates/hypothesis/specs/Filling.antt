@@ -2,24 +2,27 @@
 use mathlib.Core.Path.{_≡_}
 use mathlib.Core.Bool.{Bool, true, false, _||_}
 use mathlib.Core.List.{List, [], _∷_}
-use Prim.Native.Nat.{ℕ, _+_, _*_, _≤_, _<_}
+use Prim.Native.Nat.{ℕ, _+_, _-_, _*_, _≤_, _<_}
 use lib.ListN.{length, getD}
 use lib.IntN.{natAbs, _-ℤ_}
-use lib.Ieee.{Float, nan}
-use Rattle.grid_alignment.specs.Alignment.{sends}
+use lib.Ieee.{Float, nan, lt}
+use Rattle.floats.specs.Units.{nought}
+use Rattle.grid_alignment.specs.Alignment.{point, sends}
 use Rattle.board.specs.Layout.{parityOf, holdsMarker}
 use Rattle.score_matrix.specs.Scores.{nullScore, score}
+use Rattle.score_matrix.specs.Weights.{weight}
 use Rattle.score_matrix.specs.Likelihoods.{Sources}
-use Rattle.shot_record.specs.declared.ReadCell.{ReadCell}
 use Rattle.shot_record.specs.Shots.{Shot, shot}
+use Rattle.shot_record.specs.Index.{uIn, vIn, borderIn}
 use Rattle.hypothesis.specs.declared.Inputs.{Inputs}
+use Rattle.hypothesis.specs.declared.Frame.{Frame}
 use Rattle.hypothesis.specs.declared.sums.Counted.{Counted}
 use Rattle.hypothesis.specs.declared.fill.Turn.{Turn}
 use Rattle.hypothesis.specs.declared.turns.Seen.{Seen}
 use Rattle.hypothesis.specs.Placements.{frame, movesAcross, movesDown, shifted}
 use Rattle.hypothesis.specs.Evidence.{tableOf, codeOf, samplesOf, contributionsTo, reportedSum}
 use Rattle.hypothesis.specs.Inputs.{Loaded}
-use Rattle.hypothesis.specs.Reads.{pointRead, weightRead}
+use Rattle.hypothesis.specs.Sums.{Added}
 use Rattle.hypothesis.specs.Turns.{seenAt}
 
 abbrev pub nonempty : {A : Type 0} → List A → Bool
@@ -42,25 +45,45 @@ seenWith seen c =
     let p = parityOf (c .board) in
     record { even = seen .even || holdsMarker p (c .i) (c .j); odd = seen .odd || holdsMarker p (c .i + 1) (c .j) }
 
--- a turn, as the search keeps it
+-- so many sums are nought
+abbrev pub Cleared : ℕ → List Float → Type 0
+Cleared n sums = (length sums ≡ 1024) × ((k : ℕ) → k < n → getD sums k nan ≡ nought)
+
+-- a turn, as the search keeps it: from its frame, and of a shot
+abbrev pub turnWith : Inputs → Frame → ℕ → Turn
+turnWith i f r =
+    record { inputs = i; turn = r; u = f .u; v = f .v; across = i .board .cols + 1 - f .width; down = i .board .rows + 1 - f .height }
+
 abbrev pub turnOf : Inputs → Shot → ℕ → Turn
 turnOf i s r = record { inputs = i; turn = r; u = frame s r .u; v = frame s r .v; across = movesAcross s r; down = movesDown s r }
 
 -- What the sums of a turn are made of: the turn of a record that was loaded, on whose board its frame fits, and where the bits of a turned code
 -- come from.
-pub record Turning (bytes starts : List ℕ) (table : List Float) (codes sources : List ℕ) (t : Turn) : Type 0 where
-  pub loaded : Loaded bytes (t .inputs) starts table codes
+pub record Turning (bytes index : List ℕ) (table : List Float) (codes sources : List ℕ) (t : Turn) : Type 0 where
+  pub loaded : Loaded bytes (t .inputs) index table codes
   pub is : t ≡ turnOf (t .inputs) (shot bytes) (t .turn)
   pub sources-are : Sources (t .inputs .board .bits) (t .turn) (t .inputs .board .bits * t .inputs .board .bits) sources
   pub fits : (0 < t .across) × (0 < t .down)
   pub near : (natAbs (t .u) ≤ 4096) × (natAbs (t .v) ≤ 4096)
 
--- a cell that was read, as one that may count
-abbrev pub countedOf : Turn → ReadCell → Counted
-countedOf t read =
-    let p = sends (t .turn) (pointRead read) in
+-- cell k of an index, as the sums take it
+abbrev pub countedOf : Turn → List ℕ → ℕ → Counted
+countedOf t index k =
+    let p = sends (t .turn) (point (uIn index k) (vIn index k)) in
     let i = t .inputs in
-    record { i = natAbs (p .u -ℤ t .u); j = natAbs (p .v -ℤ t .v); weight = weightRead (i .config) read; null = nullScore (i .board .bits); board = i .board }
+    record {
+      i = natAbs (p .u -ℤ t .u);
+      j = natAbs (p .v -ℤ t .v);
+      weight = weight (i .config) (borderIn index k);
+      null = nullScore (i .board .bits);
+      board = i .board;
+    }
+
+-- what a cell makes of the sums and of what is seen: nothing, unless it weighs more than 0
+pub record Counts (c : Counted) (score : ℕ → Float) (across down : ℕ) (before after : List Float) (seen seen' : Seen) : Type 0 where
+  pub size : length after ≡ 1024
+  pub heavy : lt nought (c .weight) ≡ true → Added c score across down before after × (seen' ≡ seenWith seen c)
+  pub light : lt nought (c .weight) ≡ false → (after ≡ before) × (seen' ≡ seen)
 
 -- the scores of cell n after r quarter turns, by the marker's id
 abbrev pub CellScores : Shot → ℕ → ℕ → (ℕ → Float) → Type 0

@@ -8,7 +8,8 @@ use lib.IntN.{natAbs}
 use lib.Ieee.{Float}
 use Rattle.score_matrix.specs.Scores.{side}
 use Rattle.shot_record.specs.Shots.{Sample, Shot, list, shot}
-use Rattle.shot_record.specs.Answers.{configOf, Indexed}
+use Rattle.shot_record.specs.Answers.{configOf}
+use Rattle.shot_record.specs.Index.{Indexed}
 use Rattle.hypothesis.specs.declared.Inputs.{Inputs}
 use Rattle.hypothesis.specs.Placements.{cellTotal, cell}
 use Rattle.hypothesis.specs.Evidence.{boardIn, tableOf}
@@ -27,14 +28,14 @@ pub record PassedShot (s : Shot) : Type 0 where
   pub near : (k : ℕ) → (natAbs (cell s k .u) ≤ 4096) × (natAbs (cell s k .v) ≤ 4096)
   pub grids : (k : ℕ) (x : Sample) → cell s k .sample ≡ some x → length (x .grid) ≡ side (s .bits) (s .border) * side (s .bits) (s .border)
 
-pub record Ready (bytes : List ℕ) (i : Inputs) (starts : List ℕ) : Type 0 where
+pub record Ready (bytes : List ℕ) (i : Inputs) (index : List ℕ) : Type 0 where
   pub passed : PassedShot (shot bytes)
-  pub index : Indexed bytes (i .fields) starts
+  pub indexed : Indexed bytes (i .fields) index
   pub board : i .board ≡ boardIn (shot bytes)
   pub config : i .config ≡ configOf (shot bytes)
 
 -- with the likelihood table and the codes
-pub record Loaded (bytes : List ℕ) (i : Inputs) (starts : List ℕ) (table : List Float) (codes : List ℕ) : Type 0 where
-  pub ready : Ready bytes i starts
+pub record Loaded (bytes : List ℕ) (i : Inputs) (index : List ℕ) (table : List Float) (codes : List ℕ) : Type 0 where
+  pub ready : Ready bytes i index
   pub table-is : table ≡ tableOf (shot bytes)
   pub codes-are : codes ≡ firstCodes (shot bytes)

@@ -4,7 +4,6 @@ pub mod Search
 pub mod Rules
 pub mod Accuracy
 pub mod Inputs
-pub mod Reads
 pub mod Extremes
 pub mod Capacity
 pub mod Sums

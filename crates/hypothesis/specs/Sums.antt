@@ -1,9 +1,10 @@
 -- What one cell adds to the sums of all placements of a turn, as the search keeps them: for the placement with its frame moved by (a, b), where
 -- there are d moves down, the sum stands at place a × d + b. A score is a function of the marker's id, wherever it comes from.
 use mathlib.Core.Path.{_≡_}
-use mathlib.Core.Logic.{_⊎_}
+use mathlib.Core.Bool.{Bool, true, cond}
 use mathlib.Core.List.{List}
-use Prim.Native.Nat.{ℕ, _+_, _*_, _≤_, _<_}
+use Prim.Native.Nat.{ℕ, zero, suc, _+_, _*_, _%_, _/_, _^_, _≤_, _<_}
+use lib.Dec.{ltb}
 use lib.ListN.{length, getD, set}
 use lib.IntN.{pos}
 use lib.Ieee.{Float, nan, binary32, add, sub, mul}
@@ -13,21 +14,16 @@ use Rattle.board.specs.declared.Numbered.{Numbered}
 use Rattle.board.specs.declared.Numbered.the-variants as numbered
 use Rattle.board.specs.Numbering.{numberIf}
 use Rattle.board.specs.Layout.{parityOf, holdsMarker, markerOn}
-use Rattle.score_matrix.specs.declared.turned.Four.{Four}
 use Rattle.score_matrix.specs.Likelihoods.{pickedFrom}
 use Rattle.hypothesis.specs.declared.sums.Counted.{Counted}
+use Rattle.hypothesis.specs.declared.sums.Move.{Move}
 
 -- the sum with a score's weighed evidence, and the list of sums with it at a place
 abbrev pub plusScore : Float → Float → Float → Float → Float
 plusScore weight null score sum = add binary32 sum (mul binary32 weight (sub binary32 score null))
 
-abbrev pub withScore : Float → Float → ℕ → Float → List Float → List Float
-withScore weight null at score sums = set sums at (plusScore weight null score (getD sums at nan))
-
-abbrev pub fourAdded : Float → Float → ℕ → Four → List Float → List Float
-fourAdded weight null at s sums =
-    let put = withScore weight null in
-    put (at + 6) (s .d) (put (at + 4) (s .c) (put (at + 2) (s .b) (put at (s .a) sums)))
+abbrev pub withScore : Counted → ℕ → Float → List Float → List Float
+withScore c at score sums = set sums at (plusScore (c .weight) (c .null) score (getD sums at nan))
 
 -- the marker on the cell's square after a move by (a, b), and whether there is one
 abbrev pub markerAfter : Counted → ℕ → ℕ → Numbered
@@ -41,25 +37,56 @@ plusMarker c score (numbered.Id m) sum = plusScore (c .weight) (c .null) (score 
 abbrev pub plusCell : Counted → (ℕ → Float) → ℕ → ℕ → Float → Float
 plusCell c score a b sum = plusMarker c score (markerAfter c a b) sum
 
--- of column a the rows before b have the cell added, and nothing else is changed
-pub record AddedDown (c : Counted) (score : ℕ → Float) (a down b : ℕ) (entry now : List Float) : Type 0 where
-  pub size : length now ≡ 1024
-  pub done : (r : ℕ) → r < down → r < b → getD now (a * down + r) nan ≡ plusCell c score a r (getD entry (a * down + r) nan)
-  pub left : (r : ℕ) → r < down → b ≤ r → getD now (a * down + r) nan ≡ getD entry (a * down + r) nan
-  pub others : (k : ℕ) → (k < a * down) ⊎ (a * down + down ≤ k) → getD now k nan ≡ getD entry k nan
-
--- the cell is added to all columns
+-- the cell is added to the sums of all moves
 abbrev pub Added : Counted → (ℕ → Float) → ℕ → ℕ → List Float → List Float → Type 0
 Added c score across down entry now =
     (a b : ℕ) → a < across → b < down → getD now (a * down + b) nan ≡ plusCell c score a b (getD entry (a * down + b) nan)
 
--- the cell's square stays on the board in every move
+-- the cell's square stays on the board in every move, and there is one
 pub record Stays (c : Counted) (across down : ℕ) : Type 0 where
   pub bits : c .board .bits ≤ 8
   pub cols : c .board .cols ≤ 32
   pub rows : c .board .rows ≤ 32
   pub wide : c .i + across ≤ c .board .cols
   pub high : c .j + down ≤ c .board .rows
+  pub some : 0 < down
+
+-- ---- the moves that put the cell on a marker. They are ordered by 63 a + b: by a, and then by b, which is below 63. Its parity is that of a + b, by
+-- which markers alternate.
+abbrev pub order : Move → ℕ
+order m = 63 * m .a + m .b
+
+abbrev pub marked : Counted → ℕ → ℕ → Bool
+marked c a b = holdsMarker (parityOf (c .board)) (c .i + a) (c .j + b)
+
+pub record OnMarker (c : Counted) (down : ℕ) (m : Move) : Type 0 where
+  pub row : m .b < down
+  pub on : marked c (m .a) (m .b) ≡ true
+
+-- the first of them from column a on, where b, 0 or 1, is the first row of column a with a marker; and the first of all
+abbrev pub moveFrom : ℕ → ℕ → ℕ → Move
+moveFrom down a b = cond (ltb b down) (record { a = a; b = b }) (record { a = a + 1; b = 0 })
+
+abbrev pub FirstMove : Counted → ℕ → Move → Type 0
+FirstMove c down m = (b : ℕ) × (b < 2) × (marked c 0 b ≡ true) × (m ≡ moveFrom down 0 b)
+
+-- the next one, and the one that comes x later
+abbrev pub nextMove : ℕ → Move → Move
+nextMove down m = cond (ltb (m .b + 2) down) (record { a = m .a; b = m .b + 2 }) (moveFrom down (m .a + 1) ((m .b + 1) % 2))
+
+unfoldable pub moveAfter : ℕ → Move → ℕ → Move
+moveAfter down m zero = m
+moveAfter down m (suc x) = nextMove down (moveAfter down m x)
+
+-- in the first n of them the frame stays on the board
+abbrev pub Inside : ℕ → ℕ → Move → ℕ → Type 0
+Inside across down first n = (y : ℕ) → y < n → moveAfter down first y .a < across
+
+-- the cell is added to the sums of the moves that come before place n of the order
+pub record AddedBefore (c : Counted) (score : ℕ → Float) (across down n : ℕ) (entry now : List Float) : Type 0 where
+  pub size : length now ≡ 1024
+  pub done : (a b : ℕ) → a < across → b < down → 63 * a + b < n → getD now (a * down + b) nan ≡ plusCell c score a b (getD entry (a * down + b) nan)
+  pub left : (a b : ℕ) → a < across → b < down → n ≤ 63 * a + b → getD now (a * down + b) nan ≡ getD entry (a * down + b) nan
 
 -- ---- scores that are worked out from codes: what their bits pick, in the order of a turn
 abbrev pub codeScore : ℕ → List Float → List ℕ → List ℕ → ℕ → Float
@@ -72,14 +99,13 @@ Small n sources = (k : ℕ) → k < n → getD sources k 0 < 64
 abbrev pub NumberOn : Board → ℕ → ℕ → ℕ → Type 0
 NumberOn board i j m = markerOn board (pos i) (pos j) ≡ numberIf (holdsMarker (parityOf board) i j) m
 
--- its code
-abbrev pub CodeOn : Board → List ℕ → ℕ → ℕ → ℕ → Type 0
-CodeOn board codes i j code = (m : ℕ) × NumberOn board i j m × (code ≡ getD codes m 0)
+-- v is the code or the score of the marker after a move, which f gives by its number; and those of eight moves, as far as the frame stays on the board
+abbrev pub OfMarker : {A : Type 0} → Counted → (ℕ → A) → Move → A → Type 0
+OfMarker c f m v = (k : ℕ) × NumberOn (c .board) (c .i + m .a) (c .j + m .b) k × (v ≡ f k)
 
--- its score, after a move by (a, b), and those of the rows b, b + 2, b + 4 and b + 6
-abbrev pub ScoreOn : Counted → (ℕ → Float) → ℕ → ℕ → Float → Type 0
-ScoreOn c score a b x = (m : ℕ) × NumberOn (c .board) (c .i + a) (c .j + b) m × (x ≡ score m)
+abbrev pub OfEight : {A : Type 0} → Counted → (ℕ → A) → ℕ → ℕ → Move → (ℕ → A) → Type 0
+OfEight c f across down first v = (x : ℕ) → x < 8 → Inside across down first (x + 1) → OfMarker c f (moveAfter down first x) (v x)
 
-abbrev pub FourOn : Counted → (ℕ → Float) → ℕ → ℕ → Four → Type 0
-FourOn c score a b x =
-    ScoreOn c score a b (x .a) × ScoreOn c score a (b + 2) (x .b) × ScoreOn c score a (b + 4) (x .c) × ScoreOn c score a (b + 6) (x .d)
+-- lanes with a code as lane x
+abbrev pub withCode : ℕ → ℕ → List ℕ → List ℕ
+withCode x code lanes = set (set lanes x (code % 2 ^ 32)) (x + 8) (code / 2 ^ 32)

@@ -2,7 +2,7 @@
 use mathlib.Core.Path.{_≡_}
 use mathlib.Core.Bool.{Bool, cond}
 use mathlib.Core.List.{List}
-use Prim.Native.Nat.{ℕ, _+_, _*_, _/_, _%_, _<_}
+use Prim.Native.Nat.{ℕ, _+_, _*_, _/_, _%_, _≤_, _<_}
 use lib.Dec.{eqb}
 use lib.ListN.{getD}
 use lib.IntN.{pos, _-ℤ_}
@@ -13,7 +13,7 @@ use Rattle.ranking.specs.declared.Evidence.the-variants as evidence
 use Rattle.ranking.specs.declared.Hypothesis.{Hypothesis}
 use Rattle.ranking.specs.declared.Ranking.{Ranking}
 use Rattle.ranking.specs.Margin.{margin}
-use Rattle.ranking.specs.Ranking.{rankedTo}
+use Rattle.ranking.specs.Ranking.{rankedTo, Held}
 use Rattle.hypothesis.specs.declared.Frame.{Frame}
 use Rattle.hypothesis.specs.declared.Selection.{Selection}
 use Rattle.hypothesis.specs.declared.turns.Seen.{Seen}
@@ -36,6 +36,11 @@ Summed s r sums seen = (a b : ℕ) → a < movesAcross s r → b < movesDown s r
 abbrev pub movedTo : List Float → Seen → Frame → ℕ → ℕ → ℕ → ℕ → Hypothesis
 movedTo sums seen frame r d a b =
     record { alignment = record { turn = r; tx = pos a -ℤ frame .u; ty = pos b -ℤ frame .v }; evidence = evidenceAt sums seen d a b }
+
+-- from row m to row n of column a no placement takes a place of the ranking h
+abbrev pub PassesOver : List Float → Seen → ℕ → ℕ → Ranking → ℕ → ℕ → Type 0
+PassesOver sums seen d a h m n =
+    (m ≤ n) × (n ≤ d) × ((k : Ranking) (frame : Frame) (r : ℕ) → Held k (movedTo sums seen frame r d a) m h → Held k (movedTo sums seen frame r d a) n h)
 
 -- after column a of a turn, and after the columns 0 to n − 1
 abbrev pub rankedColumn : Ranking → List Float → Seen → Frame → ℕ → ℕ → ℕ → Ranking

@@ -1,17 +1,16 @@
-// The capacity of a placement: the evidence that its contributing cells would give if each were certain. Uses the reading of cells.
+// The capacity of a placement: the evidence that its contributing cells would give if each were certain.
 ghost use mathlib.Core.Path.{_≡_};
+ghost use Prim.Native.Nat.{_<_};
 ghost use Rattle.grid_alignment.specs.Alignment.{NearAlignment};
 ghost use Rattle.shot_record.specs.Shots.{shot};
 ghost use Rattle.hypothesis.specs.Evidence.{capacity as capacityOf};
 ghost use Rattle.hypothesis.specs.Inputs.{Ready};
-ghost use Rattle.hypothesis.specs.Capacity.{withMarker, withRead};
-ghost use Rattle.hypothesis.specs.Reads.{NearRead};
+ghost use Rattle.hypothesis.specs.Capacity.{withMarker, withCell};
 use super::Inputs;
-use super::reads;
 use board::Numbered;
 use grid_alignment::GridAlignment;
-use shot_record::ReadCell;
-use shot_record::cells;
+use grid_alignment::alignments;
+use shot_record::index;
 
 // The sum with a cell of a weight in which a marker is expected or none.
 fn with_marker(total: f32, most: f32, weight: f32, marker: Numbered) -> f32
@@ -29,20 +28,28 @@ fn with_marker(total: f32, most: f32, weight: f32, marker: Numbered) -> f32
     }
 }
 
-// The sum with a cell that was read. An unsampled cell has weight 0, and adds nothing.
-fn with_read(total: f32, most: f32, inputs: Inputs, alignment: GridAlignment, read: ReadCell) -> f32
-    requires { ⌜ NearRead read × NearAlignment alignment ⌝ }
-    ensures { λ r. ⌜ r ≡ withRead total most inputs alignment read ⌝ }
+// The sum with cell k. An unsampled cell has weight 0, and adds nothing.
+fn with_cell(
+    total: f32,
+    most: f32,
+    inputs: Inputs,
+    alignment: GridAlignment,
+    index: &[u32; 768],
+    k: usize,
+) -> f32
+    requires { ⌜ NearAlignment alignment × (k < 256) ⌝ }
+    ensures { λ r. ⌜ r ≡ withCell total most inputs alignment (now (index .entry)) k ⌝ }
 {
     let board = inputs.board;
-    let p = reads::turned(alignment.turn, read);
-    let marker = board.marker_id_at(p.u + alignment.tx, p.v + alignment.ty);
-    with_marker(total, most, reads::weight(inputs.config, read), marker)
+    let square = alignments::apply(alignment, index::u(index, k), index::v(index, k));
+    let weight = score_matrix::cell_weight(inputs.config, index::border(index, k));
+    with_marker(total, most, weight, board.marker_id_at(square.u, square.v))
 }
 
-// A contributing cell gives at most its weight times what a certain cell gives, which is the null score without its sign.
-pub fn capacity(bytes: &[u8], inputs: Inputs, starts: &[u16; 256], alignment: GridAlignment) -> f32
-    requires { ⌜ Ready (now bytes) inputs (now starts) × NearAlignment alignment ⌝ }
+// A contributing cell gives at most its weight times what a certain cell gives, which is the null score without its sign. The record stands in the
+// contract alone.
+pub fn capacity(bytes: &[u8], inputs: Inputs, index: &[u32; 768], alignment: GridAlignment) -> f32
+    requires { ⌜ Ready (now bytes) inputs (now index) × NearAlignment alignment ⌝ }
     ensures { λ r. ⌜ r ≡ capacityOf (shot (now (bytes .entry))) alignment ⌝ }
 {
     let fields = inputs.fields;
@@ -52,8 +59,7 @@ pub fn capacity(bytes: &[u8], inputs: Inputs, starts: &[u16; 256], alignment: Gr
     let mut total: f32 = 0.0;
     let mut k = 0;
     while k < count {
-        let read = cells::cell_at(bytes, fields, starts, k);
-        total = with_read(total, most, inputs, alignment, read);
+        total = with_cell(total, most, inputs, alignment, index, k);
         k += 1;
     }
     total

@@ -1,29 +1,26 @@
 // The sums of all placements of one turn, over the cells of a record in order.
 ghost use mathlib.Core.Path.{_≡_};
 ghost use mathlib.Core.Bool.{true};
-ghost use mathlib.Core.Option.{some};
-ghost use Prim.Native.Nat.{_+_, _*_, _<_, _≤_};
+ghost use Prim.Native.Nat.{_*_, _<_, _≤_};
 ghost use lib.ListN.{length};
 ghost use lib.IntN.{natAbs};
 ghost use lib.Ieee.{lt};
 ghost use Rattle.floats.specs.Units.{nought};
 ghost use Rattle.score_matrix.specs.Likelihoods.{HoldsLikelihoods};
-ghost use Rattle.shot_record.specs.Shots.{shot, cellOf};
-ghost use Rattle.shot_record.specs.Answers.{cellRead};
+ghost use Rattle.shot_record.specs.Shots.{shot};
+ghost use Rattle.shot_record.specs.Index.{uIn, vIn};
 ghost use Rattle.hypothesis.specs.Placements.{cellTotal};
 ghost use Rattle.hypothesis.specs.Evidence.{tableOf, weightOf, samplesOf};
 ghost use Rattle.hypothesis.specs.Inputs.{Ready};
-ghost use Rattle.hypothesis.specs.Reads.{NearRead};
+ghost use Rattle.hypothesis.specs.Sums.{codeScore, Stays, Small};
 ghost use Rattle.hypothesis.specs.Turns.{Summed};
-ghost use Rattle.hypothesis.specs.Filling.{Turning, countedOf, noneSeen, SumsTo, seenWith};
+ghost use Rattle.hypothesis.specs.Filling.{Turning, countedOf, noneSeen, SumsTo, seenWith, Counts};
 use super::Inputs;
-use super::reads;
 use super::sums;
 use super::sums::Counted;
 use super::turns::Seen;
 use score_matrix::cell;
-use shot_record::ReadCell;
-use shot_record::cells;
+use shot_record::index;
 
 // A turn: the least u and v of its frame, and in how many ways the frame moves on the board.
 pub struct Turn {
@@ -33,12 +30,6 @@ pub struct Turn {
     pub v: i32,
     pub across: usize,
     pub down: usize,
-}
-
-// The cells before k are added, and what was seen of them.
-pub struct Progress {
-    pub k: usize,
-    pub seen: Seen,
 }
 
 // A cell lands on markers in the placements that move the frame by an even number of squares if its square in the frame holds one. In the others
@@ -59,106 +50,97 @@ fn seen_with(seen: Seen, cell: Counted) -> Seen
     }
 }
 
-// What the cell is: its square in the frame and its weight.
-fn counted(t: Turn, read: ReadCell) -> Counted
-    requires { ⌜ NearRead read × (natAbs (t .u) ≤ 4096) × (natAbs (t .v) ≤ 4096) ⌝ }
-    ensures { λ r. ⌜ r ≡ countedOf t read ⌝ }
+// What cell k is: its square in the frame and its weight.
+fn counted(t: Turn, index: &[u32; 768], k: usize) -> Counted
+    requires { ⌜ (natAbs (uIn (now index) k) ≤ 4096) × (natAbs (vIn (now index) k) ≤ 4096) × (natAbs (t .u) ≤ 4096) × (natAbs (t .v) ≤ 4096) × (k < 256) ⌝ }
+    ensures { λ r. ⌜ r ≡ countedOf t (now (index .entry)) k ⌝ }
 {
     let inputs = t.inputs;
     let board = inputs.board;
-    let p = reads::turned(t.turn, read);
+    let p = grid_alignment::turned(t.turn, index::u(index, k), index::v(index, k));
     Counted {
         i: integers::distance(p.u, t.u),
         j: integers::distance(p.v, t.v),
-        weight: reads::weight(inputs.config, read),
+        weight: score_matrix::cell_weight(inputs.config, index::border(index, k)),
         null: score_matrix::null_score(board.bits),
         board,
     }
 }
 
-// What its scores are made of: what each bit of a code adds for cell k, which weighs more than 0.
+// What its scores are made of, if it weighs more than 0: what each bit of a code adds.
 fn likelihoods(
+    adds: &mut [f32; 128],
     bytes: &[u8],
     inputs: Inputs,
-    starts: &[u16; 256],
+    index: &[u32; 768],
     table: &[f32; 511],
     k: usize,
-    read: ReadCell,
-) -> [f32; 128]
-    requires { ⌜ Ready (now bytes) inputs (now starts) × (now table ≡ tableOf (shot (now bytes))) × (k < cellTotal (shot (now bytes)))
-        × (read ≡ cellRead (some (cellOf (now bytes) k))) × (lt nought (weightOf (shot (now bytes)) k) ≡ true) ⌝ }
-    ensures { λ r. ⌜ HoldsLikelihoods (tableOf (shot (now (bytes .entry)))) (samplesOf (shot (now (bytes .entry))) k)
-        (inputs .board .bits * inputs .board .bits) r ⌝ }
+    weight: f32,
+)
+    requires { ⌜ Ready (now bytes) inputs (now index) × (now table ≡ tableOf (shot (now bytes))) × (k < cellTotal (shot (now bytes)))
+        × (weight ≡ weightOf (shot (now bytes)) k) × (length (now adds) ≡ 128) ⌝ }
+    ensures size { λ _. ⌜ length (now (adds .exit)) ≡ 128 ⌝ }
+    ensures holds { λ _. ⌜ (lt nought weight ≡ true → HoldsLikelihoods (tableOf (shot (now (bytes .entry)))) (samplesOf (shot (now (bytes .entry))) k)
+        (inputs .board .bits * inputs .board .bits) (now (adds .exit))) ⌝ }
 {
+    if !(0.0 < weight) {
+        return;
+    }
     let board = inputs.board;
-    let fields = inputs.fields;
-    let grid = cells::grid_at(bytes, fields, starts, k);
-    cell::bit_likelihoods(
-        table,
-        grid,
-        reads::threshold(read),
-        board.bits,
-        board.border_bits,
-    )
+    let grid = index::grid(bytes, inputs.fields, index, k);
+    let threshold = index::threshold(index, k);
+    cell::bit_likelihoods(adds, table, grid, threshold, board.bits, board.border_bits);
 }
 
-// Adds the next cell of the record, if it counts.
-fn add_read(
+// Adds a cell, if it weighs more than 0.
+fn add_counted(
     sums: &mut [f32; 1024],
-    progress: Progress,
-    bytes: &[u8],
-    starts: &[u16; 256],
-    table: &[f32; 511],
-    codes: &[u64; 512],
+    seen: Seen,
+    cell: Counted,
+    across: usize,
+    down: usize,
+    adds: &[f32; 128],
     sources: &[u8; 64],
-    t: Turn,
-) -> Progress
-    requires { ⌜ Turning (now bytes) (now starts) (now table) (now codes) (now sources) t
-        × (progress .k < cellTotal (shot (now bytes))) × (length (now sums) ≡ 1024) ⌝ }
-    ensures next { λ r. ⌜ r .k ≡ progress .k + 1 ⌝ }
-    ensures sums { λ r. ⌜ (SumsTo (shot (now (bytes .entry))) (t .turn) (progress .k) (now (sums .entry)) (progress .seen)
-        → SumsTo (shot (now (bytes .entry))) (t .turn) (progress .k + 1) (now (sums .exit)) (r .seen)) ⌝ }
+    codes: &[u64; 512],
+) -> Seen
+    requires { ⌜ Stays cell across down × Small (cell .board .bits * cell .board .bits) (now sources) × (across * down ≤ 1024) × (length (now sums) ≡ 1024) ⌝ }
+    ensures { λ r. ⌜ Counts cell (codeScore (cell .board .bits) (now (adds .entry)) (now (sources .entry)) (now (codes .entry))) across down
+        (now (sums .entry)) (now (sums .exit)) seen r ⌝ }
 {
-    let inputs = t.inputs;
-    let fields = inputs.fields;
-    let seen = progress.seen;
-    let k = progress.k;
-    let read = cells::cell_at(bytes, fields, starts, k);
-    let cell = counted(t, read);
-    if 0.0 < cell.weight {
-        let adds = likelihoods(bytes, inputs, starts, table, k, read);
-        sums::add_cell(sums, cell, t.across, t.down, &adds, sources, codes);
-        return Progress {
-            k: k + 1,
-            seen: seen_with(seen, cell),
-        };
+    if !(0.0 < cell.weight) {
+        return seen;
     }
-    Progress { k: k + 1, seen }
+    sums::add_cell(sums, cell, across, down, adds, sources, codes);
+    seen_with(seen, cell)
 }
 
 // The sums of a turn over all cells, in their order.
 pub fn fill(
     sums: &mut [f32; 1024],
     bytes: &[u8],
-    starts: &[u16; 256],
+    index: &[u32; 768],
     table: &[f32; 511],
     codes: &[u64; 512],
     sources: &[u8; 64],
     t: Turn,
 ) -> Seen
-    requires { ⌜ Turning (now bytes) (now starts) (now table) (now codes) (now sources) t × SumsTo (shot (now bytes)) (t .turn) 0 (now sums) noneSeen ⌝ }
-    ensures { λ r. ⌜ Summed (shot (now (bytes .entry))) (t .turn) (now (sums .exit)) r ⌝ }
+    requires { ⌜ Turning (now bytes) (now index) (now table) (now codes) (now sources) t × SumsTo (shot (now bytes)) (t .turn) 0 (now sums) noneSeen ⌝ }
+    ensures size { λ _. ⌜ length (now (sums .exit)) ≡ 1024 ⌝ }
+    ensures summed { λ r. ⌜ Summed (shot (now (bytes .entry))) (t .turn) (now (sums .exit)) r ⌝ }
 {
-    let count = t.inputs.fields.cell_count;
-    let mut progress = Progress {
-        k: 0,
-        seen: Seen {
-            even: false,
-            odd: false,
-        },
+    let inputs = t.inputs;
+    let count = inputs.fields.cell_count;
+    let mut adds: [f32; 128] = [0.0; 128];
+    let mut seen = Seen {
+        even: false,
+        odd: false,
     };
-    while progress.k < count {
-        progress = add_read(sums, progress, bytes, starts, table, codes, sources, t);
+    let mut k = 0;
+    while k < count {
+        let cell = counted(t, index, k);
+        likelihoods(&mut adds, bytes, inputs, index, table, k, cell.weight);
+        seen = add_counted(sums, seen, cell, t.across, t.down, &adds, sources, codes);
+        k += 1;
     }
-    progress.seen
+    seen
 }

@@ -1,83 +1,69 @@
-// The frame of the cells after a turn: their least u and v, and how many squares they take. Uses the reading of cells.
+// The frame of the cells after a turn: their least u and v, and how many squares they take. The sides of the cells are found once, and turned.
 ghost use mathlib.Core.Path.{_≡_};
-ghost use Prim.Native.Nat.{_-_, _≤_, _<_};
-ghost use lib.IntN.{natAbs};
 ghost use Rattle.shot_record.specs.Shots.{shot};
-ghost use Rattle.hypothesis.specs.Placements.{cellTotal, turnedPoint, higher, frame as frameOf};
 ghost use Rattle.hypothesis.specs.Inputs.{Ready};
-ghost use Rattle.hypothesis.specs.Extremes.{sidesTo};
+ghost use Rattle.hypothesis.specs.Extremes.{extremesWith, sidesOf, frameBy};
 use super::Frame;
 use super::Inputs;
-use super::reads;
-use grid_alignment::Coord;
-use shot_record::cells;
+use shot_record::index;
+
+pub struct Extremes {
+    pub least: i16,
+    pub greatest: i16,
+}
 
 // The least and the greatest u and v.
 pub struct Sides {
-    pub left: i32,
-    pub right: i32,
-    pub top: i32,
-    pub bottom: i32,
+    pub u: Extremes,
+    pub v: Extremes,
 }
 
-fn max(x: i32, y: i32) -> i32
-    ensures { λ r. ⌜ r ≡ higher x y ⌝ }
+// With one number more.
+fn extremes_with(e: Extremes, x: i16) -> Extremes
+    ensures { λ r. ⌜ r ≡ extremesWith e x ⌝ }
 {
-    if x <= y {
-        return y;
-    }
-    x
+    let least = if e.least <= x { e.least } else { x };
+    let greatest = if e.greatest <= x { x } else { e.greatest };
+    Extremes { least, greatest }
 }
 
-// Cell k after a turn.
-fn turned_point(bytes: &[u8], inputs: Inputs, starts: &[u16; 256], turn: u8, k: usize) -> Coord
-    requires { ⌜ Ready (now bytes) inputs (now starts) × (turn < 4) × (k < cellTotal (shot (now bytes))) ⌝ }
-    ensures { λ r. ⌜ r ≡ turnedPoint (shot (now (bytes .entry))) turn k ⌝ }
+// The sides of all cells. The record stands in the contract alone.
+pub fn cell_sides(bytes: &[u8], inputs: Inputs, index: &[u32; 768]) -> Sides
+    requires { ⌜ Ready (now bytes) inputs (now index) ⌝ }
+    ensures { λ r. ⌜ r ≡ sidesOf (shot (now (bytes .entry))) ⌝ }
 {
-    let fields = inputs.fields;
-    reads::turned(turn, cells::cell_at(bytes, fields, starts, k))
-}
-
-// The sides of all cells after a turn.
-fn extremes(bytes: &[u8], inputs: Inputs, starts: &[u16; 256], turn: u8) -> Sides
-    requires { ⌜ Ready (now bytes) inputs (now starts) × (turn < 4) ⌝ }
-    ensures { λ r. ⌜ r ≡ sidesTo (shot (now (bytes .entry))) turn (cellTotal (shot (now (bytes .entry))) - 1) ⌝ }
-{
-    let fields = inputs.fields;
-    let count = fields.cell_count;
-    let first = turned_point(bytes, inputs, starts, turn, 0);
-    let mut left = first.u;
-    let mut right = first.u;
-    let mut top = first.v;
-    let mut bottom = first.v;
-    let mut k = 1;
-    while k < count {
-        let p = turned_point(bytes, inputs, starts, turn, k);
-        left = integers::min(left, p.u);
-        right = max(right, p.u);
-        top = integers::min(top, p.v);
-        bottom = max(bottom, p.v);
+    let count = inputs.fields.cell_count;
+    let first_u = index::u(index, 0);
+    let first_v = index::v(index, 0);
+    let mut u = Extremes {
+        least: first_u,
+        greatest: first_u,
+    };
+    let mut v = Extremes {
+        least: first_v,
+        greatest: first_v,
+    };
+    let mut k = 0;
+    while k + 1 < count {
         k += 1;
+        u = extremes_with(u, index::u(index, k));
+        v = extremes_with(v, index::v(index, k));
     }
-    Sides {
-        left,
-        right,
-        top,
-        bottom,
-    }
+    Sides { u, v }
 }
 
-// The frame of a turn. Its least point lies as near as the cells.
-pub fn frame(bytes: &[u8], inputs: Inputs, starts: &[u16; 256], turn: u8) -> Frame
-    requires { ⌜ Ready (now bytes) inputs (now starts) × (turn < 4) ⌝ }
-    ensures is { λ r. ⌜ r ≡ frameOf (shot (now (bytes .entry))) turn ⌝ }
-    ensures near { λ r. ⌜ (natAbs (r .u) ≤ 4096) × (natAbs (r .v) ≤ 4096) ⌝ }
+// The frame of a turn: two opposite corners are turned.
+pub fn frame(sides: Sides, turn: u8) -> Frame
+    ensures { λ r. ⌜ r ≡ frameBy turn sides ⌝ }
 {
-    let e = extremes(bytes, inputs, starts, turn);
+    let u = sides.u;
+    let v = sides.v;
+    let p = grid_alignment::turned(turn, u.least, v.least);
+    let q = grid_alignment::turned(turn, u.greatest, v.greatest);
     Frame {
-        u: e.left,
-        v: e.top,
-        width: (e.right - e.left + 1) as usize,
-        height: (e.bottom - e.top + 1) as usize,
+        u: integers::min(p.u, q.u),
+        v: integers::min(p.v, q.v),
+        width: integers::distance(q.u, p.u) + 1,
+        height: integers::distance(q.v, p.v) + 1,
     }
 }

@@ -1,9 +1,8 @@
-// The search for the placement (hypothesis.rs). Uses `integers`, `floats`, `matcher`, `grid_alignment`, `board`, `score_matrix`,
-// `shot_record` and `ranking`.
+// The search for the placement (hypothesis.rs). Uses `integers`, `grid_alignment`, `board`, `score_matrix`, `shot_record` and `ranking`, and for its
+// definitions and laws `floats`, `lent_list` and `matcher`.
 mod capacity;
 mod fill;
 mod framing;
-mod reads;
 pub mod search;
 mod sums;
 mod turns;

@@ -1,13 +1,17 @@
 // The search: each turn in order, all of its placements ranked, then the margin of the best.
 ghost use mathlib.Core.Path.{_≡_};
 ghost use mathlib.Core.List.{map};
-ghost use Prim.Native.Nat.{_+_, _-_, _<_};
+ghost use Prim.Native.Nat.{_+_, _-_, _≤_, _<_};
+ghost use lib.ListN.{length};
+ghost use lib.IntN.{natAbs};
 ghost use Rattle.shot_record.specs.Shots.{shot};
 ghost use Rattle.ranking.specs.Ranking.{rankingOf};
-ghost use Rattle.hypothesis.specs.Placements.{withTurnsBelow};
+ghost use Rattle.hypothesis.specs.Placements.{frame as frameOf, withTurnsBelow};
 ghost use Rattle.hypothesis.specs.Search.{hypothesis, enumerate};
 ghost use Rattle.hypothesis.specs.Inputs.{Loaded};
+ghost use Rattle.hypothesis.specs.Filling.{turnOf, turnWith, Cleared};
 use super::Enumerated;
+use super::Frame;
 use super::Inputs;
 use super::capacity;
 use super::fill;
@@ -29,59 +33,84 @@ fn moves(side: u8, squares: usize) -> usize
     places - squares
 }
 
-// Ranks the placements of one turn.
-fn search_turn(
-    ranking: Ranking,
-    bytes: &[u8],
-    inputs: Inputs,
-    starts: &[u16; 256],
-    table: &[f32; 511],
-    codes: &[u64; 512],
-    turn: u8,
-) -> Ranking
-    requires { ⌜ Loaded (now bytes) inputs (now starts) (now table) (now codes) × (turn < 4)
-        × (ranking ≡ rankingOf (map (hypothesis (shot (now bytes))) (withTurnsBelow (shot (now bytes)) turn))) ⌝ }
-    ensures { λ r. ⌜ r ≡ rankingOf (map (hypothesis (shot (now (bytes .entry)))) (withTurnsBelow (shot (now (bytes .entry))) (turn + 1))) ⌝ }
+// A turn, with in how many ways its frame moves on the board.
+fn turn_of(inputs: Inputs, frame: Frame, turn: u8) -> Turn
+    requires { ⌜ (natAbs (frame .u) ≤ 4096) × (natAbs (frame .v) ≤ 4096) ⌝ }
+    ensures { λ r. ⌜ r ≡ turnWith inputs frame turn ⌝ }
 {
-    let frame = framing::frame(bytes, inputs, starts, turn);
     let board = inputs.board;
     let across = moves(board.cols, frame.width);
     let down = moves(board.rows, frame.height);
-    if across == 0 {
-        return ranking;
-    }
-    if down == 0 {
-        return ranking;
-    }
-    let t = Turn {
+    Turn {
         inputs,
         turn,
         u: frame.u,
         v: frame.v,
         across,
         down,
-    };
-    let sources = turned::source_bits(board.bits, turn);
-    let mut sums: [f32; 1024] = [0.0; 1024];
-    let seen = fill::fill(&mut sums, bytes, starts, table, codes, &sources, t);
-    turns::rank_turn(ranking, &sums, seen, frame, turn, across, down)
+    }
+}
+
+// Clears the first sums, as many as a turn has placements.
+fn clear(sums: &mut [f32; 1024], count: usize)
+    requires { ⌜ (count ≤ 1024) × (length (now sums) ≡ 1024) ⌝ }
+    ensures { λ _. ⌜ Cleared count (now (sums .exit)) ⌝ }
+{
+    let mut k = 0;
+    while k < count {
+        sums[k] = 0.0;
+        k += 1;
+    }
+}
+
+// Ranks the placements of one turn.
+fn search_turn(
+    ranking: Ranking,
+    sums: &mut [f32; 1024],
+    bytes: &[u8],
+    index: &[u32; 768],
+    table: &[f32; 511],
+    codes: &[u64; 512],
+    frame: Frame,
+    t: Turn,
+) -> Ranking
+    requires { ⌜ Loaded (now bytes) (t .inputs) (now index) (now table) (now codes) × (frame ≡ frameOf (shot (now bytes)) (t .turn))
+        × (t ≡ turnOf (t .inputs) (shot (now bytes)) (t .turn)) × (t .turn < 4) × (length (now sums) ≡ 1024)
+        × (ranking ≡ rankingOf (map (hypothesis (shot (now bytes))) (withTurnsBelow (shot (now bytes)) (t .turn)))) ⌝ }
+    ensures size { λ _. ⌜ length (now (sums .exit)) ≡ 1024 ⌝ }
+    ensures ranked { λ r. ⌜ r ≡ rankingOf (map (hypothesis (shot (now (bytes .entry)))) (withTurnsBelow (shot (now (bytes .entry))) (t .turn + 1))) ⌝ }
+{
+    if t.across == 0 {
+        return ranking;
+    }
+    if t.down == 0 {
+        return ranking;
+    }
+    clear(sums, t.across * t.down);
+    let sources = turned::source_bits(t.inputs.board.bits, t.turn);
+    let seen = fill::fill(sums, bytes, index, table, codes, &sources, t);
+    turns::rank_turn(ranking, sums, seen, frame, t.turn, t.across, t.down)
 }
 
 // Ranks all placements.
 fn search(
     bytes: &[u8],
     inputs: Inputs,
-    starts: &[u16; 256],
+    index: &[u32; 768],
     table: &[f32; 511],
     codes: &[u64; 512],
 ) -> Ranking
-    requires { ⌜ Loaded (now bytes) inputs (now starts) (now table) (now codes) ⌝ }
+    requires { ⌜ Loaded (now bytes) inputs (now index) (now table) (now codes) ⌝ }
     ensures { λ r. ⌜ r ≡ rankingOf (map (hypothesis (shot (now (bytes .entry)))) (withTurnsBelow (shot (now (bytes .entry))) 4)) ⌝ }
 {
+    let sides = framing::cell_sides(bytes, inputs, index);
+    let mut sums: [f32; 1024] = [0.0; 1024];
     let mut ranking = ranking::no_ranking();
     let mut turn: u8 = 0;
     while turn < 4 {
-        ranking = search_turn(ranking, bytes, inputs, starts, table, codes, turn);
+        let frame = framing::frame(sides, turn);
+        let t = turn_of(inputs, frame, turn);
+        ranking = search_turn(ranking, &mut sums, bytes, index, table, codes, frame, t);
         turn += 1;
     }
     ranking
@@ -91,19 +120,19 @@ fn search(
 pub fn enumerate_hypotheses(
     bytes: &[u8],
     inputs: Inputs,
-    starts: &[u16; 256],
+    index: &[u32; 768],
     table: &[f32; 511],
     codes: &[u64; 512],
 ) -> Enumerated
-    requires { ⌜ Loaded (now bytes) inputs (now starts) (now table) (now codes) ⌝ }
+    requires { ⌜ Loaded (now bytes) inputs (now index) (now table) (now codes) ⌝ }
     ensures { λ r. ⌜ r ≡ enumerate (shot (now (bytes .entry))) ⌝ }
 {
-    let ranking = search(bytes, inputs, starts, table, codes);
+    let ranking = search(bytes, inputs, index, table, codes);
     let best = ranking.best;
     match best {
         Choice::Absent => Enumerated::Absent,
         Choice::Placement(b) => {
-            let best_capacity = capacity::capacity(bytes, inputs, starts, b.alignment);
+            let best_capacity = capacity::capacity(bytes, inputs, index, b.alignment);
             Enumerated::Selected(turns::selected(ranking, b, best_capacity))
         }
     }

@@ -3,7 +3,7 @@
 ghost use mathlib.Core.Path.{_≡_};
 ghost use Prim.Native.Nat.{_<_, _≤_};
 ghost use lib.IntN.{pos, natAbs, _-ℤ_};
-ghost use Rattle.hypothesis.specs.Turns.{seenAt, evidenceAt, movedTo, rankedColumn, rankedTurn, selectionOf};
+ghost use Rattle.hypothesis.specs.Turns.{seenAt, evidenceAt, movedTo, PassesOver, rankedColumn, rankedTurn, selectionOf};
 use super::Frame;
 use super::Selection;
 use grid_alignment::GridAlignment;
@@ -17,10 +17,20 @@ pub struct Seen {
     pub odd: bool,
 }
 
+// By what was seen first: that stays in a loop over the rows, the parity does not.
 fn seen_at(seen: Seen, n: usize) -> bool
     ensures { λ r. ⌜ r ≡ seenAt seen n ⌝ }
 {
-    if n % 2 == 0 { seen.even } else { seen.odd }
+    if seen.even {
+        if seen.odd {
+            return true;
+        }
+        return n % 2 == 0;
+    }
+    if seen.odd {
+        return n % 2 != 0;
+    }
+    false
 }
 
 // The evidence of the placement moved by (a, b).
@@ -70,7 +80,33 @@ fn moved_to(
     }
 }
 
-// Ranks the placements of column `a`. Most change neither best nor runner-up, and are passed over by one test.
+// The first row from `from` on whose placement changes best or runner-up, else `down`. Most change neither, and while none does the loop compares
+// with the same two numbers.
+fn next_change(
+    held: Ranking,
+    sums: &[f32; 1024],
+    seen: Seen,
+    down: usize,
+    a: usize,
+    from: usize,
+) -> usize
+    requires { ⌜ (a < 32) × (down ≤ 32) × (from ≤ down) ⌝ }
+    ensures { λ r. ⌜ PassesOver (now (sums .entry)) seen down a held from r ⌝ }
+{
+    let best = held.best;
+    let runner_up = held.runner_up;
+    let mut b = from;
+    while b < down {
+        let evidence = placement_sum(sums, seen, down, a, b);
+        if !ranking::changes_nothing(best, runner_up, evidence) {
+            break;
+        }
+        b += 1;
+    }
+    b
+}
+
+// Ranks the placements of column `a`.
 fn rank_column(
     ranking: Ranking,
     sums: &[f32; 1024],
@@ -83,24 +119,14 @@ fn rank_column(
     requires { ⌜ (a < 32) × (down ≤ 32) × (natAbs (frame .u) ≤ 8192) × (natAbs (frame .v) ≤ 8192) × (ranking .total ≤ 4096) ⌝ }
     ensures { λ r. ⌜ r ≡ rankedColumn ranking (now (sums .entry)) seen frame turn down a ⌝ }
 {
-    let mut best = ranking.best;
-    let mut runner_up = ranking.runner_up;
-    let mut b = 0;
+    let mut held = ranking;
+    let mut b = next_change(held, sums, seen, down, a, 0);
     while b < down {
-        let evidence = placement_sum(sums, seen, down, a, b);
-        if !ranking::changes_nothing(best, runner_up, evidence) {
-            let h = moved_to(sums, seen, frame, turn, down, a, b);
-            let passed = Ranking {
-                best,
-                runner_up,
-                total: ranking.total + b,
-            };
-            let held = ranking::ranked(passed, h);
-            best = held.best;
-            runner_up = held.runner_up;
-        }
-        b += 1;
+        held = ranking::ranked(held, moved_to(sums, seen, frame, turn, down, a, b));
+        b = next_change(held, sums, seen, down, a, b + 1);
     }
+    let best = held.best;
+    let runner_up = held.runner_up;
     Ranking {
         best,
         runner_up,

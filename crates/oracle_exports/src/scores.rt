@@ -139,7 +139,8 @@ pub extern "C" fn oracle_cell_scores(
         (now (out .exit))) ⌝ }
 {
     if is_whole(grid.len(), bits, border) {
-        let likelihoods = cell::bit_likelihoods(table, grid, threshold, bits, border);
+        let mut likelihoods: [f32; 128] = [0.0; 128];
+        cell::bit_likelihoods(&mut likelihoods, table, grid, threshold, bits, border);
         fill_scores(&likelihoods, bits, codes, out);
     }
 }

@@ -1,6 +1,6 @@
 -- A placement that takes the place of neither best nor runner-up changes nothing of a ranking but the count; so a loop may hold best and
 -- runner-up without it. Assumes nothing.
-use mathlib.Core.Path.{_≡_, refl, sym, ap, ap₂, _∙_}
+use mathlib.Core.Path.{_≡_, refl, sym, ap, _∙_}
 use Prim.Native.Nat.{ℕ, _+_}
 use native.Mathlib.Omega.{arith}
 use mathlib.Core.Bool.{Bool, true, false, _&&_}
@@ -11,9 +11,9 @@ use Rattle.ranking.specs.declared.Choice.{Choice}
 use Rattle.ranking.specs.declared.Choice.the-variants as choice
 use Rattle.ranking.specs.declared.Ranking.{Ranking}
 use Rattle.ranking.specs.Greatest.{liesBelow}
-use Rattle.ranking.specs.Ranking.{ranking, better, ranked, rankedTo, keepsPlace, changesNothing}
+use Rattle.ranking.specs.Ranking.{ranking, better, ranked, rankedTo, Held, keepsPlace, changesNothing}
 use Rattle.ranking.proofs.Order.{clash}
-use Rattle.ranking.proofs.RankedTo.{ranked-total, ranked-next}
+use Rattle.ranking.proofs.RankedTo.{ranked-next}
 
 both : (s t : Bool) → s && t ≡ true → (s ≡ true) × (t ≡ true)
 both false t e = absurd (clash false refl e)
@@ -29,24 +29,20 @@ unchanged choice.Absent q n h s t = absurd (clash false refl s)
 unchanged (choice.Placement b) q n h s t =
     rw (not-true (liesBelow (b .evidence) (h .evidence)) s) (ap (λ (c : Choice). ranking (choice.Placement b) c (n + 1)) (keeps q h t))
 
--- p and q are best and runner-up after f 0 to f (n − 1), from a ranking k on
-abbrev pub Held : Ranking → (ℕ → Hypothesis) → ℕ → Choice → Choice → Type 0
-Held k f n p q = ranking p q (k .total + n) ≡ rankedTo k f n
-
 module _ (k : Ranking) (f : ℕ → Hypothesis) where
-  pub held-none : Held k f 0 (k .best) (k .«runner_up»)
+  pub held-none : Held k f 0 k
   unfolding rankedTo
   held-none = ap (ranking (k .best) (k .«runner_up»)) (omega arith)
 
-  module _ (n : ℕ) (p q : Choice) (g : Held k f n p q) where
+  module _ (n : ℕ) (h : Ranking) (g : Held k f n h) where
     -- with one more that is ranked
-    pub held-ranked : (h : Hypothesis) (k' : Ranking) → h ≡ f n → k' ≡ ranked (ranking p q (k .total + n)) h → Held k f (n + 1) (k' .best) (k' .«runner_up»)
-    held-ranked h k' a e =
-        let next = e ∙ ap₂ ranked g a ∙ ranked-next k f n in
-        ap (ranking (k' .best) (k' .«runner_up»)) (sym (ap (λ (x : Ranking). x .total) next ∙ ranked-total k f (n + 1))) ∙ next
+    pub held-ranked : (x : Hypothesis) (h' : Ranking) → x ≡ f n → h' ≡ ranked h x → Held k f (n + 1) h'
+    held-ranked x h' a e = rw (e, a) (ap (ranking _ _) (omega arith) ∙ ap (λ (y : Ranking). ranked y (f n)) g ∙ ranked-next k f n)
 
     -- with one more that changes nothing
-    pub held-unchanged : (e : Evidence) → e ≡ f n .evidence → changesNothing p q e ≡ true → Held k f (n + 1) p q
+    pub held-unchanged : (e : Evidence) → e ≡ f n .evidence → changesNothing (h .best) (h .«runner_up») e ≡ true → Held k f (n + 1) h
     held-unchanged e a t =
+        let p = h .best in
+        let q = h .«runner_up» in
         let s = both (keepsPlace q (f n .evidence)) (keepsPlace p (f n .evidence)) (rw (sym a) t) in
         ap (ranking p q) (omega arith) ∙ sym (unchanged p q (k .total + n) (f n) (s .1) (s .0)) ∙ ap (λ (x : Ranking). ranked x (f n)) g ∙ ranked-next k f n

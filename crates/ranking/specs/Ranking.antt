@@ -1,4 +1,5 @@
 -- Document 01, Search: best and runner-up of the placements passed, and what further placements make of them.
+use mathlib.Core.Path.{_≡_}
 use Prim.Native.Nat.{ℕ, zero, suc, _+_}
 use mathlib.Core.Bool.{Bool, false, not, _&&_, cond}
 use mathlib.Core.List.{List}
@@ -34,6 +35,10 @@ ranked k h = ranking (better (k .best) h) (second (k .best) (k .«runner_up») h
 unfoldable pub rankedTo : Ranking → (ℕ → Hypothesis) → ℕ → Ranking
 rankedTo k f zero = k
 rankedTo k f (suc n) = ranked (rankedTo k f n) (f n)
+
+-- h has best and runner-up after f 0 to f (n − 1), from a ranking k on
+abbrev pub Held : Ranking → (ℕ → Hypothesis) → ℕ → Ranking → Type 0
+Held k f n h = ranking (h .best) (h .«runner_up») (k .total + n) ≡ rankedTo k f n
 
 -- Whether a placement is held that does not lie below this evidence, so that one with this evidence does not take its place.
 abbrev pub keepsPlace : Choice → Evidence → Bool

@@ -3,6 +3,7 @@ ghost use mathlib.Core.Path.{_≡_};
 ghost use mathlib.Core.Bool.{cond};
 ghost use Prim.Native.Nat.{ℕ, _+_, _*_, _<_, _≤_};
 ghost use lib.Dec.{ltb};
+ghost use lib.ListN.{length};
 ghost use Rattle.floats.specs.Units.{sumTo};
 ghost use Rattle.matcher.specs.Codes.{bitPlace};
 ghost use Rattle.score_matrix.specs.Scores.{samples, side, gridIndex, score as scoreOf, readCode};
@@ -29,32 +30,57 @@ pub fn next_place(bits: u64, p: Place) -> Place
     Place { x: 0, y: p.y + 1 }
 }
 
-// What each bit of a code adds to the score of a cell: bit k adds entry 2k where it is 0, and entry 2k + 1 where it is 1.
-pub fn bit_likelihoods(
+// What the bits of row y add, after those of the rows above it.
+fn row_likelihoods(
+    likelihoods: &mut [f32; 128],
     table: &[f32; 511],
     grid: &[u8],
     threshold: u8,
     bits: u8,
     border: u8,
-) -> [f32; 128]
-    requires { ⌜ bits ≤ 8 ⌝ }
+    y: u64,
+)
+    requires { ⌜ (bits ≤ 8) × (y < bits) × (length (now likelihoods) ≡ 128)
+        × HoldsLikelihoods (now table) (samples bits border threshold (now grid)) (y * bits) (now likelihoods) ⌝ }
     requires { do ⌜ (← ⟦grid.len()⟧) ≡ side bits border * side bits border ⌝ }
-    ensures { λ r. ⌜ HoldsLikelihoods (now (table .entry)) (samples bits border threshold (now (grid .entry))) (bits * bits) r ⌝ }
+    ensures size { λ _. ⌜ length (now (likelihoods .exit)) ≡ 128 ⌝ }
+    ensures holds { λ _. ⌜ HoldsLikelihoods (now (table .entry)) (samples bits border threshold (now (grid .entry))) (y * bits + bits)
+        (now (likelihoods .exit)) ⌝ }
+{
+    let n = bits as usize;
+    let first = grid_index(bits as u64, border as u64, Place { x: 0, y });
+    let at = 2 * (y as usize * n);
+    let mut x = 0;
+    while x < n {
+        let grey = grid[first + x];
+        likelihoods[at + 2 * x] = table::entry(table, grey, threshold);
+        likelihoods[at + 2 * x + 1] = table::entry(table, threshold, grey);
+        x += 1;
+    }
+}
+
+// What each bit of a code adds to the score of a cell, into a list that is lent so that none is copied: bit k adds entry 2k where it is 0, and
+// entry 2k + 1 where it is 1.
+pub fn bit_likelihoods(
+    likelihoods: &mut [f32; 128],
+    table: &[f32; 511],
+    grid: &[u8],
+    threshold: u8,
+    bits: u8,
+    border: u8,
+)
+    requires { ⌜ (bits ≤ 8) × (length (now likelihoods) ≡ 128) ⌝ }
+    requires { do ⌜ (← ⟦grid.len()⟧) ≡ side bits border * side bits border ⌝ }
+    ensures size { λ _. ⌜ length (now (likelihoods .exit)) ≡ 128 ⌝ }
+    ensures holds { λ _. ⌜ HoldsLikelihoods (now (table .entry)) (samples bits border threshold (now (grid .entry))) (bits * bits)
+        (now (likelihoods .exit)) ⌝ }
 {
     let n = bits as u64;
-    let rim = border as u64;
-    let count = (n * n) as usize;
-    let mut likelihoods: [f32; 128] = [0.0; 128];
-    let mut p = Place { x: 0, y: 0 };
-    let mut k = 0;
-    while k < count {
-        let grey = grid[grid_index(n, rim, p)];
-        likelihoods[2 * k] = table::entry(table, grey, threshold);
-        likelihoods[2 * k + 1] = table::entry(table, threshold, grey);
-        p = next_place(n, p);
-        k += 1;
+    let mut y = 0;
+    while y < n {
+        row_likelihoods(likelihoods, table, grid, threshold, bits, border, y);
+        y += 1;
     }
-    likelihoods
 }
 
 // The score of a turned code, from what its bits add.
@@ -80,7 +106,8 @@ pub fn score(table: &[f32; 511], grid: &[u8], threshold: u8, bits: u8, border: u
     requires { do ⌜ (← ⟦grid.len()⟧) ≡ side bits border * side bits border ⌝ }
     ensures { λ r. ⌜ r ≡ scoreOf (now (table .entry)) (samples bits border threshold (now (grid .entry))) code ⌝ }
 {
-    let likelihoods = bit_likelihoods(table, grid, threshold, bits, border);
+    let mut likelihoods: [f32; 128] = [0.0; 128];
+    bit_likelihoods(&mut likelihoods, table, grid, threshold, bits, border);
     sum(&likelihoods, bits, code)
 }
 

@@ -1,11 +1,11 @@
 // The scores of turned codes, from what the bits of a cell add. No code is turned: its bits are picked in the order of the turned one.
 ghost use mathlib.Core.Path.{_≡_};
-ghost use Prim.Native.Nat.{ℕ, _+_, _*_, _<_, _≤_};
-ghost use lib.ListN.{getD};
+ghost use Prim.Native.Nat.{ℕ, _*_, _^_, _<_, _≤_};
+ghost use lib.ListN.{length, getD};
 ghost use Rattle.matcher.specs.Codes.{bit, indexOf, source};
-ghost use lib.Ieee.{nan};
+ghost use lib.Ieee.{nan, binary32, add};
 ghost use Rattle.floats.specs.Units.{sumTo};
-ghost use Rattle.score_matrix.specs.Likelihoods.{Sources, pickedFrom, fourSums};
+ghost use Rattle.score_matrix.specs.Likelihoods.{Sources, byBit, pickedFrom, laneCode};
 use super::cell;
 use matcher::Place;
 
@@ -35,62 +35,54 @@ pub fn source_bits(bits: u8, turn: u8) -> [u8; 64]
     sources
 }
 
-// What bit k of the turned code adds, where it is bit s of the code.
-fn pick(likelihoods: &[f32; 128], k: usize, code: u64, s: u8) -> f32
-    requires { ⌜ (k < 64) × (s < 64) ⌝ }
-    ensures { λ r. ⌜ r ≡ getD (now (likelihoods .entry)) (2 * k + bit code s) nan ⌝ }
+// What a bit adds: `half` is the half of a code that has it, and `one` has it set alone.
+fn chosen(half: u32, one: u32, clear: f32, set: f32) -> f32
+    ensures { λ r. ⌜ ((s : ℕ) → one ≡ 2 ^ s → r ≡ byBit (bit half s) clear set) ⌝ }
 {
-    likelihoods[2 * k + ((code >> s) % 2) as usize]
+    if half & one == 0 { clear } else { set }
 }
 
-// The score of a code after the turn that `sources` is for.
-pub fn sum(likelihoods: &[f32; 128], sources: &[u8; 64], bits: u8, code: u64) -> f32
-    requires { ⌜ (bits ≤ 8) × ((k : ℕ) → k < bits * bits → getD (now sources) k 0 < 64) ⌝ }
-    ensures { λ r. ⌜ r ≡ sumTo (pickedFrom (now (likelihoods .entry)) (now (sources .entry)) code) (bits * bits) ⌝ }
+// Adds one bit to all eight scores: bit s, which is in the half of each code that starts at lane `from`. Each score chooses by itself, so that the
+// compiler adds four of them by one instruction. `lanes` is a slice, because the range of elements is known of slices alone.
+fn add_bit(sums: &mut [f32; 8], lanes: &[u32], s: u8, clear: f32, set: f32)
+    requires { ⌜ (s < 64) × (length (now sums) ≡ 8) × (length (now lanes) ≡ 16) ⌝ }
+    ensures size { λ _. ⌜ length (now (sums .exit)) ≡ 8 ⌝ }
+    ensures added { λ _. ⌜ ((x : ℕ) → x < 8 → getD (now (sums .exit)) x nan
+        ≡ add binary32 (getD (now (sums .entry)) x nan) (byBit (bit (laneCode (now (lanes .entry)) x) s) clear set)) ⌝ }
 {
-    let n = (bits as usize) * (bits as usize);
-    let mut total: f32 = 0.0;
-    let mut k = 0;
-    while k < n {
-        total = total + pick(likelihoods, k, code, sources[k]);
-        k += 1;
+    let from = 8 * (s / 32) as usize;
+    let one: u32 = 1 << (s % 32);
+    let mut x = 0;
+    while x < 8 {
+        sums[x] = sums[x] + chosen(lanes[from + x], one, clear, set);
+        x += 1;
     }
-    total
 }
 
-pub struct Four {
-    pub a: f32,
-    pub b: f32,
-    pub c: f32,
-    pub d: f32,
-}
-
-// The scores of four codes. No sum depends on another, so that they are added at the same time.
-pub fn sum_four(
+// The scores of eight codes after the turn that `sources` is for. Lane x has the low half of code x, and lane x + 8 its high half. Within a score the
+// order of additions is that of `sumTo`.
+pub fn sum_eight(
     likelihoods: &[f32; 128],
     sources: &[u8; 64],
     bits: u8,
-    first: u64,
-    second: u64,
-    third: u64,
-    fourth: u64,
-) -> Four
+    lanes: &[u32; 16],
+) -> [f32; 8]
     requires { ⌜ (bits ≤ 8) × ((k : ℕ) → k < bits * bits → getD (now sources) k 0 < 64) ⌝ }
-    ensures { λ r. ⌜ r ≡ fourSums (pickedFrom (now (likelihoods .entry)) (now (sources .entry))) (bits * bits) first second third fourth ⌝ }
+    ensures { λ r. ⌜ ((x : ℕ) → x < 8 → getD r x nan
+        ≡ sumTo (pickedFrom (now (likelihoods .entry)) (now (sources .entry)) (laneCode (now (lanes .entry)) x)) (bits * bits)) ⌝ }
 {
     let n = (bits as usize) * (bits as usize);
-    let mut a: f32 = 0.0;
-    let mut b: f32 = 0.0;
-    let mut c: f32 = 0.0;
-    let mut d: f32 = 0.0;
+    let mut sums: [f32; 8] = [0.0; 8];
     let mut k = 0;
     while k < n {
-        let s = sources[k];
-        a = a + pick(likelihoods, k, first, s);
-        b = b + pick(likelihoods, k, second, s);
-        c = c + pick(likelihoods, k, third, s);
-        d = d + pick(likelihoods, k, fourth, s);
+        add_bit(
+            &mut sums,
+            lanes,
+            sources[k],
+            likelihoods[2 * k],
+            likelihoods[2 * k + 1],
+        );
         k += 1;
     }
-    Four { a, b, c, d }
+    sums
 }

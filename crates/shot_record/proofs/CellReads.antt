@@ -1,15 +1,14 @@
 -- The cells of a record that question 21 lets pass: where they start, that their grids lie in the record, and what their fields fit. Assumes nothing.
-use mathlib.Core.Path.{_≡_, refl, ap, _∙_}
+use mathlib.Core.Path.{_≡_, refl}
 use Prim.Native.Nat.{ℕ, zero, suc, _+_, _≤_, _<_}
 use native.Mathlib.Nat.{le-of-eq}
 use native.Mathlib.Omega.{arith}
 use mathlib.Core.List.{List, []}
 use lib.ListN.{length, getD, take, drop}
-use borrow.Author.Tests.{lt-ltb}
 use Rattle.shot_record.specs.declared.cells.Part.{Part}
 use Rattle.shot_record.specs.Fields.{bitsOf, borderOf, gridSize, cellCount, sampled, cellLength, cellAt}
 use Rattle.shot_record.specs.Shots.{Cell, sampleAt, cellOf, shot}
-use Rattle.shot_record.specs.Answers.{gridWith, partWith, startOf, starts}
+use Rattle.shot_record.specs.Answers.{gridWith, partWith}
 use Rattle.shot_record.specs.Writing.{FitCell}
 use Rattle.shot_record.proofs.Lists.{length-list, getD-list}
 use Rattle.shot_record.proofs.Reading.{Small, starts-rise}
@@ -51,11 +50,6 @@ module _ (bytes : List ℕ) (w : Whole bytes) (k : ℕ) (inside : k < cellCount 
 
   pub starts-inside : cellAt bytes k ≤ length bytes
   starts-inside = omega (arith, starts-rise bytes k (cellCount bytes) (omega arith), w .end)
-
-  pub start-is : (index : List ℕ) → index ≡ starts bytes → k < 256 → getD index k 0 ≡ cellAt bytes k
-  start-is index e h =
-      ap (λ (l : List ℕ). getD l k 0) e ∙ getD-list (startOf bytes) 256 k 0 h
-      ∙ rw (lt-ltb k (cellCount bytes) inside, lt-ltb (cellAt bytes k) 65536 (omega (arith, starts-inside, w .size))) refl
 
   pub grid-lies : (sampled bytes k ≡ 0 → ⊥) → cellAt bytes k + (9 + size) ≤ length bytes
   unfolding cellAt

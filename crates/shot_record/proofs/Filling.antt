@@ -1,10 +1,12 @@
 -- An array that is filled place by place. Assumes nothing.
 use mathlib.Core.Path.{_≡_, refl, sym, ap₂, _∙_}
+use mathlib.Core.Bool.{Bool, true, false, not}
 use mathlib.Core.Logic.{_⊎_, inl, inr}
 use mathlib.Core.List.{List, _∷_, map}
-use Prim.Native.Nat.{ℕ, zero, suc, _+_, _<_}
+use Prim.Native.Nat.{ℕ, zero, suc, _+_, _≤_, _<_}
 use native.Mathlib.Nat.{eq-or-lt-of-le}
 use native.Mathlib.Omega.{arith}
+use lib.Dec.{T, ltb, ltb→lt, nltb→le}
 use lib.ListN.{length, getD, set, length-set}
 use lib.Seq.{getD-set-same, getD-set-other, ext-getD}
 use Rattle.shot_record.specs.Shots.{list}
@@ -27,6 +29,14 @@ module _ {A : Type 0} (f : ℕ → A) (d : A) where
   all-filled xs n k l e =
       ext-getD d xs (list f n) (l .size ∙ sym (length-list f n)) (λ i h. l .before i (omega (arith, h, l .size))
       ∙ sym (getD-list f n i d (omega (arith, h, l .size))))
+
+  -- what the places from k on hold already
+  pub rest-filled : (xs : List A) (n k : ℕ) → Filled f d xs n k → ((i : ℕ) → k ≤ i → i < n → getD xs i d ≡ f i) → Filled f d xs n n
+  rest-filled xs n k l rest = record { size = l .size; before = λ i b. go i b (ltb i k) (ltb→lt i k) (nltb→le i k) }
+    where
+      go : (i : ℕ) → i < n → (t : Bool) → (T t → i < k) → (T (not t) → k ≤ i) → getD xs i d ≡ f i
+      go i b true less more = l .before i (less tt)
+      go i b false less more = rest i (more tt) b
 
 pub map-list : {A B : Type 0} (g : A → B) (f : ℕ → A) (n : ℕ) → map g (list f n) ≡ list (λ (k : ℕ). g (f k)) n
 unfolding list

@@ -8,6 +8,7 @@ pub mod Sequences
 pub mod CellMaps
 pub mod CellBytes
 pub mod CellReads
+pub mod Entries
 pub mod Parts
 pub mod ReadBack
 pub mod WrittenBack

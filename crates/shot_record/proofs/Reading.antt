@@ -4,20 +4,21 @@ use mathlib.Core.Bool.{Bool, true, false, not}
 use Prim.Native.Nat.{ℕ, zero, suc, _+_, _-_, _*_, _/_, _%_, _^_, _≤_, _<_}
 use mathlib.Core.Logic.{_⊎_, inl, inr}
 use native.Mathlib.Nat.{mul-le-mul, mul-le-mul-right, le-refl, le-trans, le-add-right, le-of-suc-le-suc, eq-or-lt-of-le, div-eq-of-lt, le-div-iff-mul-le}
+use native.Mathlib.Numerals.{add-one}
 use native.Mathlib.Omega.{arith}
 use mathlib.Core.List.{List}
 use lib.Dec.{T, eqb, ltb, ltb→lt, nltb→le, lit<, lit≤}
-use lib.ListN.{length}
+use lib.ListN.{length, getD}
 use lib.Pow.{pow-add, pow-pos, high, shr-shr}
-use borrow.Author.Tests.{lt-ltb, le-ltb, eq-eqb, ne-eqb}
+use borrow.Author.Tests.{lt-ltb, le-ltb, eq-eqb, ne-eqb, eqb-true, eqb-false, not-true, not-false}
 use Rattle.matcher.specs.Codes.{bit}
 use Rattle.score_matrix.specs.Table.{patterns}
 use Rattle.matcher.proofs.Bits.{bit-small, bit-under}
 use Rattle.shot_record.specs.declared.fields.Fields.{Fields}
-use Rattle.shot_record.specs.Shots.{setting, shot}
-use Rattle.shot_record.proofs.Lists.{length-list}
-use Rattle.shot_record.specs.Fields.{fieldsOf, byte, number, mapByte, thresholdAt, pxAt, tableAt, rowsAt, bitsOf, borderOf, codeCount, cellCountAt}
-use Rattle.shot_record.specs.Fields.{cellCount, cellMapAt, cellMap, sampled, mapSize, gridSize, cellLength, cellsAt, cellAt}
+use Rattle.shot_record.specs.Shots.{numbers, setting, shot}
+use Rattle.shot_record.proofs.Lists.{length-list, getD-list}
+use Rattle.shot_record.specs.Fields.{fieldsOf, byte, number, mapByte, thresholdAt, pxAt, tableAt, rowsAt, bitsOf, borderOf, codeCount, codesAt}
+use Rattle.shot_record.specs.Fields.{cellCountAt, cellCount, cellMapAt, cellMap, sampled, mapSize, gridSize, cellLength, cellsAt, cellAt}
 
 -- the fields that were found, one by one
 pub record Found (f : Fields) (bytes : List ℕ) : Type 0 where
@@ -66,12 +67,52 @@ pub table-size : (bytes : List ℕ) → length (shot bytes .table) ≡ 511
 table-size bytes =
     setting-either (λ (l : List ℕ). length l ≡ 511) (bit (mapByte bytes) 3) (length-list (λ (k : ℕ). number 4 (tableAt bytes + 4 * k) bytes) 511) pattern-count
 
+-- the table of a record, by whether it sets one
+module _ (f : Fields) (bytes : List ℕ) (e : f ≡ fieldsOf bytes) (sets : Bool) (h : sets ≡ not (eqb (bit (f .map) 3) 0)) where
+  flag : bit (f .map) 3 ≡ bit (mapByte bytes) 3
+  flag = ap (λ (m : ℕ). bit m 3) (found f bytes e .map)
+
+  pub built-in-table : not sets ≡ true → shot bytes .table ≡ patterns
+  built-in-table n =
+      let clear : bit (mapByte bytes) 3 ≡ 0 = sym flag ∙ eqb-true (bit (f .map) 3) 0 (not-false _ (sym h ∙ not-true sets n)) in
+      rw clear refl
+
+  pub own-table : not sets ≡ false → numbers 4 511 (f .«table_at») bytes ≡ shot bytes .table
+  own-table n =
+      let set : bit (mapByte bytes) 3 ≡ 0 → ⊥ = λ z. eqb-false (bit (f .map) 3) 0 (not-true _ (sym h ∙ not-false sets n)) (flag ∙ z) in
+      ap (λ (at : ℕ). numbers 4 511 at bytes) (found f bytes e .table-at)
+      ∙ setting-set (bit (mapByte bytes) 3) (numbers 4 511 (tableAt bytes) bytes) patterns set
+
+-- the codes of the shot
+pub code-count : (bytes : List ℕ) → length (shot bytes .codes) ≡ codeCount bytes
+code-count bytes = length-list (λ (k : ℕ). number 8 (codesAt bytes + 8 * k) bytes) (codeCount bytes)
+
+pub code-is : (bytes : List ℕ) (k : ℕ) → k < codeCount bytes → number 8 (codesAt bytes + 8 * k) bytes ≡ getD (shot bytes .codes) k 0
+code-is bytes k h = sym (getD-list (λ (k : ℕ). number 8 (codesAt bytes + 8 * k) bytes) (codeCount bytes) k 0 h)
+
 -- the places before the codes rise, and how far they reach
 pub head-reach : (bytes : List ℕ) → (thresholdAt bytes ≤ pxAt bytes) × (pxAt bytes ≤ tableAt bytes) × (tableAt bytes ≤ rowsAt bytes) × (rowsAt bytes ≤ 2057)
 unfolding rowsAt tableAt pxAt thresholdAt
 head-reach bytes =
     let small = bit-small (mapByte bytes) in
     (omega arith, omega arith, omega arith, omega (arith, small 0, small 1, small 2, small 3))
+
+-- a number by its first m bytes and the n after them
+pub number-split : (bytes : List ℕ) (m n at : ℕ) → number (m + n) at bytes ≡ number n (at + m) bytes * 2 ^ (8 * m) + number m at bytes
+unfolding number
+number-split bytes zero n at =
+    let none : 0 + n ≡ n = omega arith in
+    let here : at + 0 ≡ at = omega arith in
+    rw (none, here) (omega arith)
+number-split bytes (suc m) n at =
+    let more : 8 * suc m ≡ 8 * m + 8 = omega arith in
+    let next : at + suc m ≡ suc at + m = omega arith in
+    let one : suc m + n ≡ suc (m + n) = omega arith in
+    rw (one, more, next, pow-add 2 (8 * m) 8, number-split bytes m n (suc at)) (omega arith)
+
+pub two-bytes : (bytes : List ℕ) (at : ℕ) → byte at bytes + byte (at + 1) bytes * 256 ≡ number 2 at bytes
+unfolding number
+two-bytes bytes at = rw add-one (omega arith)
 
 abbrev pub Small : List ℕ → Type 0
 Small bytes = (i : ℕ) → byte i bytes < 256
@@ -83,17 +124,6 @@ module _ (bytes : List ℕ) (s : Small bytes) where
   number-below (suc n) at =
       let more : 8 * suc n ≡ 8 * n + 8 = omega arith in
       rw (more, pow-add 2 (8 * n) 8) (omega (arith, s at, number-below n (suc at)))
-
-  -- its highest byte
-  number-last : (n at : ℕ) → number (suc n) at bytes ≡ number n at bytes + byte (at + n) bytes * 2 ^ (8 * n)
-  unfolding number
-  number-last zero at =
-      let here : at + 0 ≡ at = omega arith in
-      rw here (omega arith)
-  number-last (suc n) at =
-      let more : 8 * suc n ≡ 8 * n + 8 = omega arith in
-      let next : at + suc n ≡ suc at + n = omega arith in
-      rw (more, next, pow-add 2 (8 * n) 8, number-last n (suc at)) (omega arith)
 
   -- bit k stands in byte k / 8
   number-bit : (n at k : ℕ) → k < 8 * n → bit (number n at bytes) k ≡ bit (byte (at + k / 8) bytes) (k % 8)
@@ -172,9 +202,10 @@ module _ (bytes : List ℕ) (s : Small bytes) where
     before = number (n / 8) at bytes
 
     split : number (mapSize n) at bytes ≡ before + last * 2 ^ (8 * (n / 8))
+    unfolding number
     split =
-        let size : mapSize n ≡ suc (n / 8) = omega arith in
-        ap (λ (m : ℕ). number m at bytes) size ∙ number-last (n / 8) at
+        let size : mapSize n ≡ n / 8 + 1 = omega arith in
+        ap (λ (m : ℕ). number m at bytes) size ∙ number-split bytes (n / 8) 1 at ∙ omega arith
 
     power : 2 ^ n ≡ 2 ^ (n % 8) * 2 ^ (8 * (n / 8))
     power =

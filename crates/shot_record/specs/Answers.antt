@@ -1,14 +1,13 @@
 -- What the reader answers, from the shot that the record holds: each field, absent past the last, refused without a shot.
-use mathlib.Core.Path.{_≡_}
-use Prim.Native.Nat.{ℕ, zero, suc, _+_}
-use mathlib.Core.Bool.{true, cond}
-use mathlib.Core.List.{List, [], _∷_}
+use Prim.Native.Nat.{ℕ, _+_}
+use mathlib.Core.List.{List, []}
 use mathlib.Core.Option.{Option, none, some}
-use lib.Dec.{ltb}
 use lib.ListN.{length, getElem?}
 use lib.Ieee.{Float, binary32, ofBits}
 use Rattle.board.specs.declared.CharucoBoardSpec.{CharucoBoardSpec}
 use Rattle.score_matrix.specs.declared.BoardMatchConfig.{BoardMatchConfig}
+use Rattle.score_matrix.specs.declared.BorderSample.{BorderSample}
+use Rattle.score_matrix.specs.declared.BorderSample.the-variants as border
 use Rattle.refusal.specs.declared.Refusal.the-variants as refusal
 use Rattle.shot_record.specs.declared.Header.{Header}
 use Rattle.shot_record.specs.declared.ReadHeader.{ReadHeader}
@@ -19,10 +18,9 @@ use Rattle.shot_record.specs.declared.ReadCode.{ReadCode}
 use Rattle.shot_record.specs.declared.ReadCode.the-variants as code
 use Rattle.shot_record.specs.declared.ReadCell.{ReadCell}
 use Rattle.shot_record.specs.declared.ReadCell.the-variants as cell
-use Rattle.shot_record.specs.declared.fields.Fields.{Fields}
 use Rattle.shot_record.specs.declared.cells.Part.{Part}
-use Rattle.shot_record.specs.Fields.{fieldsOf, mapByte, cellCount, gridSize, cellAt}
-use Rattle.shot_record.specs.Shots.{Sample, Cell, Shot, list, wholeRecord, parse}
+use Rattle.shot_record.specs.Fields.{mapByte, gridSize, cellAt}
+use Rattle.shot_record.specs.Shots.{Sample, Cell, Shot, parse}
 
 -- the f32 of a pattern
 abbrev pub ofPattern : ℕ → Float
@@ -112,17 +110,11 @@ abbrev pub partAnswer : List ℕ → Option Shot → ℕ → Part
 partAnswer bytes none k = record { first = 0; end = 0 }
 partAnswer bytes (some s) k = partRead (cellAt bytes k) (gridSize (s .bits) (s .border)) (getElem? (s .cells) k)
 
--- Where each of the first 256 cells starts, in 16 bits: 0 for an absent cell, and for a start that a record of at most 65,535 bytes
--- cannot have.
-abbrev pub narrow : ℕ → ℕ
-narrow at = cond (ltb at 65536) at 0
+-- Of a cell, sampled or not: its border, and its threshold, 0 for an unsampled cell.
+abbrev pub borderWith : Option Sample → BorderSample
+borderWith none = border.Unsampled
+borderWith (some x) = border.BlackFraction (ofPattern (x .fraction))
 
-abbrev pub startOf : List ℕ → ℕ → ℕ
-startOf bytes k = cond (ltb k (cellCount bytes)) (narrow (cellAt bytes k)) 0
-
-abbrev pub starts : List ℕ → List ℕ
-starts bytes = list (startOf bytes) 256
-
--- what a match finds once, in a record that question 21 lets pass: its fields, and where its cells start
-abbrev pub Indexed : List ℕ → Fields → List ℕ → Type 0
-Indexed bytes f index = (f ≡ fieldsOf bytes) × (index ≡ starts bytes) × (wholeRecord bytes ≡ true)
+abbrev pub thresholdWith : Option Sample → ℕ
+thresholdWith none = 0
+thresholdWith (some x) = x .threshold

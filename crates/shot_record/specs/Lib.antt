@@ -1,4 +1,5 @@
 pub mod Fields
 pub mod Shots
 pub mod Answers
+pub mod Index
 pub mod Writing

@@ -5,8 +5,8 @@ ghost use Prim.Native.Nat.{ℕ, _+_, _-_, _^_, _<_, _≤_};
 ghost use lib.Dec.{ltb};
 ghost use lib.ListN.{take, drop};
 ghost use Rattle.shot_record.specs.Fields.{fieldsOf, cellCount, cellMap, sampled as sampledAt, cellLength, cellAt};
-ghost use Rattle.shot_record.specs.Shots.{wholeRecord, parse, cellFrom, cellOf};
-ghost use Rattle.shot_record.specs.Answers.{cellRead, gridRead, gridAnswer, partAnswer, narrow as narrowed, starts as startsOf, Indexed};
+ghost use Rattle.shot_record.specs.Shots.{wholeRecord, parse, cellFrom};
+ghost use Rattle.shot_record.specs.Answers.{cellRead, gridAnswer, partAnswer};
 use super::ReadCell;
 use super::fields;
 use super::fields::Fields;
@@ -33,7 +33,7 @@ fn cell_length(is_sampled: usize, grid_size: usize) -> usize
 }
 
 // Where the cell after cell k starts.
-fn next_start(bytes: &[u8], f: Fields, k: usize, start: usize) -> usize
+pub fn next_start(bytes: &[u8], f: Fields, k: usize, start: usize) -> usize
     requires { ⌜ (f ≡ fieldsOf (now bytes)) × (k < f .«cell_count») × (start ≡ cellAt (now bytes) k) ⌝ }
     ensures { λ r. ⌜ r ≡ cellAt (now (bytes .entry)) (k + 1) ⌝ }
 {
@@ -132,74 +132,4 @@ pub fn grid_part(bytes: &[u8], k: usize) -> Part
         first,
         end: first + f.grid_size,
     }
-}
-
-fn narrow(at: usize) -> u16
-    ensures { λ r. ⌜ r ≡ narrowed at ⌝ }
-{
-    if at < 65536 {
-        return at as u16;
-    }
-    0
-}
-
-fn at_most_256(n: usize) -> usize
-    ensures least { λ r. ⌜ (r ≤ n) × (r ≤ 256) ⌝ }
-    ensures all { λ r. ⌜ ((k : ℕ) → k < 256 → k < n → k < r) ⌝ }
-{
-    if n < 256 {
-        return n;
-    }
-    256
-}
-
-// Where each of the first 256 cells starts, found in one pass: what a match looks cells up in.
-pub fn starts(bytes: &[u8], f: Fields) -> [u16; 256]
-    requires { ⌜ f ≡ fieldsOf (now bytes) ⌝ }
-    ensures { λ r. ⌜ r ≡ startsOf (now (bytes .entry)) ⌝ }
-{
-    let count = at_most_256(f.cell_count);
-    let mut starts: [u16; 256] = [0; 256];
-    let mut start = f.cells_at;
-    let mut k = 0;
-    while k < count {
-        starts[k] = narrow(start);
-        start = next_start(bytes, f, k, start);
-        k += 1;
-    }
-    starts
-}
-
-// What a match reads of a record that question 21 let pass: cell k, from where it starts.
-pub fn cell_at(bytes: &[u8], f: Fields, starts: &[u16; 256], k: usize) -> ReadCell
-    requires { ⌜ Indexed (now bytes) f (now starts) × (k < f .«cell_count») × (k < 256) ⌝ }
-    ensures { λ r. ⌜ r ≡ cellRead (some (cellOf (now (bytes .entry)) k)) ⌝ }
-{
-    cell(bytes, starts[k] as usize, sampled(bytes, f, k))
-}
-
-fn grid_part_at(bytes: &[u8], f: Fields, starts: &[u16; 256], k: usize) -> Part
-    requires { ⌜ Indexed (now bytes) f (now starts) × (k < f .«cell_count») × (k < 256) ⌝ }
-    ensures lies { λ r. do ⌜ (r .first ≤ r .end) × (r .end ≤ (← ⟦bytes.len()⟧ .entry)) ⌝ }
-    ensures holds { λ r. ⌜ take (r .end - r .first) (drop (r .first) (now (bytes .entry))) ≡ gridRead (some (cellOf (now (bytes .entry)) k)) ⌝ }
-{
-    if sampled(bytes, f, k) == 0 {
-        return Part { first: 0, end: 0 };
-    }
-    let first = starts[k] as usize + 9;
-    Part {
-        first,
-        end: first + f.grid_size,
-    }
-}
-
-// And its grid, empty for an unsampled cell.
-pub fn grid_at<'a>(bytes: &'a [u8], f: Fields, starts: &[u16; 256], k: usize) -> &'a [u8]
-    requires { ⌜ Indexed (now bytes) f (now starts) × (k < f .«cell_count») × (k < 256) ⌝ }
-    ensures { λ r. ⌜ now r ≡ gridRead (some (cellOf (now (bytes .entry)) k)) ⌝ }
-{
-    let part = grid_part_at(bytes, f, starts, k);
-    let first = part.first;
-    let end = part.end;
-    &bytes[first..end]
 }

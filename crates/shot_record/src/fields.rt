@@ -1,7 +1,10 @@
 // Where the fields of a record start, and those before its cells.
 ghost use mathlib.Core.Path.{_≡_};
+ghost use mathlib.Core.Bool.{not};
 ghost use Prim.Native.Nat.{_+_, _*_, _^_, _<_, _≤_};
+ghost use lib.Dec.{eqb};
 ghost use lib.ListN.{getD};
+ghost use Rattle.matcher.specs.Codes.{bit};
 ghost use Rattle.shot_record.specs.Fields.{number, codesAt, gridSize, fieldsOf};
 ghost use Rattle.shot_record.specs.Shots.{setting as settingOf, shot};
 ghost use Rattle.shot_record.specs.Answers.{ofPattern, configOf, specOf};
@@ -104,12 +107,19 @@ pub fn spec(bytes: &[u8], f: Fields) -> CharucoBoardSpec
     }
 }
 
+// Has the record a table of its own?
+pub fn sets_table(f: Fields) -> bool
+    ensures { λ r. ⌜ r ≡ not (eqb (bit (f .map) 3) 0) ⌝ }
+{
+    numbers::bit(f.map, 3) != 0
+}
+
 // An entry of the record's own table, or of the built-in one.
 pub fn table_entry(bytes: &[u8], f: Fields, k: usize) -> f32
     requires { ⌜ (f ≡ fieldsOf (now bytes)) × (k < 511) ⌝ }
     ensures { λ r. ⌜ r ≡ ofPattern (getD (shot (now (bytes .entry)) .table) k 0) ⌝ }
 {
-    if numbers::bit(f.map, 3) == 0 {
+    if !sets_table(f) {
         let entries = table::built_in_table();
         return entries[k];
     }
@@ -120,5 +130,5 @@ pub fn code(bytes: &[u8], f: Fields, k: usize) -> u64
     requires { ⌜ (f ≡ fieldsOf (now bytes)) × (k < f .«code_count») ⌝ }
     ensures { λ r. ⌜ r ≡ number 8 (codesAt (now (bytes .entry)) + 8 * k) (now (bytes .entry)) ⌝ }
 {
-    numbers::number_at(bytes, f.rows_at + 14 + 8 * k, 8)
+    numbers::eight_at(bytes, f.rows_at + 14 + 8 * k)
 }

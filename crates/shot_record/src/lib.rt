@@ -1,6 +1,6 @@
 // The shot record: one lane-end shot as bytes. Every function of this file accepts every record; question 21 refuses one that is not
-// whole. What a match reads over and over it reads with `bulk` and `cells`, from fields and starts that it finds once. Uses `refusal`,
-// `floats`, `board` and `score_matrix`, and for its definitions and proofs `matcher`.
+// whole. A match reads the fields before the cells with `fields` and `bulk`, and each cell once with `index`. Uses `refusal`, `floats`, `board` and
+// `score_matrix`, and for its definitions and proofs `matcher`.
 ghost use mathlib.Core.Path.{_≡_};
 ghost use Rattle.shot_record.specs.Shots.{parse};
 ghost use Rattle.shot_record.specs.Answers.{headerAnswer, entryAnswer, codeAnswer, cellAnswer, gridAnswer};
@@ -8,6 +8,7 @@ ghost use Rattle.shot_record.specs.Answers.{headerAnswer, entryAnswer, c
 pub mod bulk;
 pub mod cells;
 pub mod fields;
+pub mod index;
 mod numbers;
 
 use board::CharucoBoardSpec;

@@ -2,6 +2,7 @@
 
 pub mod heap;
 mod stack;
+mod whole_match;
 
 use crate::entries::Input;
 use std::fmt::Display;
@@ -10,9 +11,11 @@ use std::panic;
 use std::process::ExitCode;
 use std::time::Instant;
 
+pub use whole_match::{Board, WholeMatch, seen};
+
 const ROUNDS: usize = 31;
 
-/// A short case is repeated until a round of the Rust takes about so many nanoseconds.
+/// A short case is repeated until a round takes about so many nanoseconds.
 const LENGTH_OF_A_ROUND: f64 = 5e6;
 
 /// A case that takes the Rust longer than this has one round.
@@ -107,10 +110,7 @@ impl Bench {
             eprintln!("usage: {program} [ours|theirs|both [ROUNDS [CASE]]]");
             return ExitCode::FAILURE;
         };
-        if checks_overflow() {
-            let advice = "use --profile speed";
-            println!("Built with checks for overflow, which slow the Rust down: {advice}.");
-        }
+        warn_of_checks();
         if arguments.case.is_none() {
             (self.first)();
         }
@@ -136,7 +136,7 @@ impl Bench {
             if length > LONG {
                 rounds = 1;
             }
-            (LENGTH_OF_A_ROUND / length).ceil() as usize
+            runs_of_a_round(length)
         });
         let units = (count * case.units()) as f64;
         let [mut ours, mut theirs] = [const { Vec::new() }; 2];
@@ -172,10 +172,40 @@ impl Bench {
     }
 }
 
+/// For a run that takes so many nanoseconds.
+fn runs_of_a_round(length: f64) -> usize {
+    (LENGTH_OF_A_ROUND / length).ceil() as usize
+}
+
+/// Makes so many runs of one side of a case.
+pub type Side<'a> = Box<dyn Fn(usize) -> Runs<'a> + 'a>;
+
+/// The best round of each, in nanoseconds a run. All take their turn in every round, so that a slow moment of the machine
+/// meets one round of many cases and not all rounds of one.
+pub fn best_of_each(sides: &[Side]) -> Vec<f64> {
+    let lengths = sides.iter().map(|runs_of| nanoseconds(runs_of(1)));
+    let counts: Vec<usize> = lengths.map(runs_of_a_round).collect();
+    let mut best = vec![f64::INFINITY; sides.len()];
+    for _ in 0..ROUNDS {
+        for ((runs_of, &count), best) in sides.iter().zip(&counts).zip(&mut best) {
+            *best = best.min(nanoseconds(runs_of(count)) / count as f64);
+        }
+    }
+    best
+}
+
 pub fn nanoseconds(round: impl FnOnce()) -> f64 {
     let start = Instant::now();
     round();
     start.elapsed().as_nanos() as f64
+}
+
+/// On standard error, so that the lines of a table stay alone.
+pub fn warn_of_checks() {
+    if checks_overflow() {
+        let advice = "use --profile speed";
+        eprintln!("Built with checks for overflow, which slow the Rust down: {advice}.");
+    }
 }
 
 /// Whether the program is built with checks for overflow.

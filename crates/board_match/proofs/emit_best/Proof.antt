@@ -19,11 +19,11 @@ module _ (c : tie.Start) where
   abbrev lent : List ℕ
   lent = c .args .markers .now
 
-  loaded : Loaded bytes (c .args .inputs) (c .args .starts .now) (c .args .table .now) (c .args .codes .now)
+  loaded : Loaded bytes (c .args .inputs) (c .args .index .now) (c .args .table .now) (c .args .codes .now)
   loaded = c .pre .0
 
   is-whole : wholeRecord bytes ≡ true
-  is-whole = loaded .ready .index .2
+  is-whole = loaded .ready .indexed .2
 
 abbrev start : tie.Else1 → tie.Start
 start c = c .before .before .before .before .before

@@ -19,7 +19,7 @@ returns c =
     let h = c .before .before in
     let b = h .before .before .before in
     let none-fits = no-placement (shot (b .args .bytes .now)) (sym (h .enumerate-hypotheses .ensures) ∙ c .enum-told .given .1) in
-    no-window (b .args .bytes .now) (b .args .markers .now) (b .pre .0 .ready .index .2) (b .pre .1) none-fits
+    no-window (b .args .bytes .now) (b .args .markers .now) (b .pre .0 .ready .indexed .2) (b .pre .1) none-fits
 
 pub search-record-spec : {M : Type 1} → statement M
 search-record-spec =

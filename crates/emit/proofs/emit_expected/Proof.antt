@@ -49,14 +49,15 @@ module _ (c : tie.After-struct-known) where
   inside : candidate .cell < cellCount bytes
   inside = omega (arith, of .0, cell-count bytes)
 
-grid-at-requires : tie.Need-grid-at-requires
-grid-at-requires c κs =
+grid-requires : tie.Need-grid-requires
+grid-requires c κs =
     let s = start c in
     let h = s .pre .0 .0 in
-    (h .index, omega (arith, inside c, found (s .args .inputs .fields) (bytes c) (h .index .0) .cell-count), omega (arith, of c .0, h .passed .checked .few))
+    let count = found (s .args .inputs .fields) (bytes c) (h .indexed .0) .cell-count in
+    (h .indexed, omega (arith, inside c, count), omega (arith, of c .0, h .passed .checked .few))
 
 -- the grid is that of the cell, and has side² bytes
-module _ (c : tie.After-grid-at) where
+module _ (c : tie.After-grid) where
   abbrev known : tie.After-struct-known
   known = c .before
 
@@ -69,12 +70,12 @@ module _ (c : tie.After-grid-at) where
   border-is : board .«border_bits» ≡ shot (bytes known) .border
   border-is = ap (λ (b : Board). b .«border_bits») (start known .pre .0 .0 .board)
 
-  grid-is : c .grid-at .result .now ≡ gridWith (cell (shot (bytes known)) (candidate known .cell) .sample)
+  grid-is : c .grid .result .now ≡ gridWith (cell (shot (bytes known)) (candidate known .cell) .sample)
   grid-is =
-      c .grid-at .ensures
+      c .grid .ensures
       ∙ sym (ap (λ (x : Cell). gridWith (x .sample)) (cell-is (bytes known) (candidate known .cell) noCell (inside known)))
 
-  whole-grid : length (c .grid-at .result .now) ≡ side (board .bits) (board .«border_bits») * side (board .bits) (board .«border_bits»)
+  whole-grid : length (c .grid .result .now) ≡ side (board .bits) (board .«border_bits») * side (board .bits) (board .«border_bits»)
   whole-grid =
       let o = of known .1 in
       ap length (grid-is ∙ ap gridWith (o .1))
@@ -85,7 +86,7 @@ module _ (c : tie.After-grid-at) where
   emittedHere =
       let x = start known .args in
       let d = candidate known in
-      emittedFrom (x .inputs .config) (x .table .now) (samples (board .bits) (board .«border_bits») (d .threshold) (c .grid-at .result .now)) d
+      emittedFrom (x .inputs .config) (x .table .now) (samples (board .bits) (board .«border_bits») (d .threshold) (c .grid .result .now)) d
 
   same : emittedHere ≡ emittedFor (shot (bytes known)) (start known .args .expected)
   same =
@@ -111,5 +112,5 @@ returns-2 c = let e = c .before .before in put-as (ap (flatMap markerWords) (sam
 
 pub emit-expected-spec : {M : Type 1} → statement M
 emit-expected-spec =
-    tie.close (tie.spec (λ c. search needs) (λ c. search needs) returns (λ c. search needs) grid-at-requires emit-marker-requires
+    tie.close (tie.spec (λ c. search needs) (λ c. search needs) returns (λ c. search needs) grid-requires emit-marker-requires
     (λ c. search needs) returns-2)

@@ -1,7 +1,7 @@
 -- `emit::emit_markers` meets its contract. The loop's invariant: the words of what the first k cells emit are put. Assumes nothing.
 use mathlib.Core.Path.{_≡_, sym, ap, subst, _∙_}
 use mathlib.Core.List.{List, flatMap}
-use Prim.Native.Nat.{ℕ, _+_, _-_, _*_, _/_, _≤_, _<_}
+use Prim.Native.Nat.{ℕ, _+_, _-_, _≤_, _<_}
 use native.Mathlib.Omega.{arith}
 use lib.ListN.{length}
 use borrow.Author.Needs.{needs}
@@ -20,11 +20,11 @@ use Rattle.emit.proofs.emit_markers.Statement.{statement}
 use Rattle.emit.proofs.emit_markers.Tie as tie
 
 abbrev Inv-loop : tie.InvT-loop
-Inv-loop bytes inputs starts table codes alignment list₀ count at₀ k₀ list at k =
+Inv-loop bytes inputs index table codes alignment list₀ count at₀ k₀ list at k =
     (k ≤ cellTotal (shot bytes)) × Put list₀ list 0 at (flatMap markerWords (upTo (emitted (shot bytes) alignment) k))
 
 abbrev μ-loop : tie.MeasureT-loop
-μ-loop bytes inputs starts table codes alignment list₀ count at₀ k₀ list at k = count - k
+μ-loop bytes inputs index table codes alignment list₀ count at₀ k₀ list at k = count - k
 
 module _ (s : tie.Start Inv-loop μ-loop) where
   abbrev shown : Shot
@@ -41,7 +41,7 @@ module _ (s : tie.Start Inv-loop μ-loop) where
   room = omega (arith, all-words (markers shown (s .args .alignment)), one-per-cell shown (s .args .alignment), s .pre .1)
 
   counted : s .args .inputs .fields .«cell_count» ≡ cellTotal shown
-  counted = found (s .args .inputs .fields) (s .args .bytes .now) (s .pre .0 .0 .ready .index .0) .cell-count ∙ sym (cell-count (s .args .bytes .now))
+  counted = found (s .args .inputs .fields) (s .args .bytes .now) (s .pre .0 .0 .ready .indexed .0) .cell-count ∙ sym (cell-count (s .args .bytes .now))
 
 loop-holds : tie.Need-loop-holds Inv-loop μ-loop
 loop-holds c = let s = c .before .before .before in (omega arith, none-to markerWords (here s) (lent s) 0 (cellTotal (shown s)) (room s))

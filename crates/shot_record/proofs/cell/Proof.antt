@@ -1,11 +1,11 @@
 -- `shot_record::cell` meets its contract. Assumes nothing.
 use mathlib.Core.Path.{refl, ap₂, _∙_}
-use Prim.Native.Nat.{ℕ, _-_}
+use Prim.Native.Nat.{ℕ}
 use native.Mathlib.Omega.{arith}
 use mathlib.Core.List.{List}
 use mathlib.Core.Option.{some}
 use borrow.Author.Needs.{needs}
-use Rattle.shot_record.specs.Fields.{bitsOf, borderOf, gridSize, cellCount, sampled}
+use Rattle.shot_record.specs.Fields.{bitsOf, borderOf, gridSize, cellCount}
 use Rattle.shot_record.specs.Shots.{cellFrom, cellOf}
 use Rattle.shot_record.specs.Answers.{cellRead}
 use Rattle.shot_record.proofs.Lists.{getElem?-list, getElem?-list-past}

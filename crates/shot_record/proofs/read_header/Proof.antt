@@ -1,6 +1,6 @@
 -- `shot_record::read_header` meets its contract. Assumes nothing.
 use mathlib.Core.Path.{_≡_, refl, sym, _∙_}
-use Prim.Native.Nat.{ℕ, _-_}
+use Prim.Native.Nat.{ℕ}
 use borrow.Author.Needs.{needs}
 use Rattle.board.specs.declared.CharucoBoardSpec.{CharucoBoardSpec}
 use Rattle.score_matrix.specs.declared.BoardMatchConfig.{BoardMatchConfig}

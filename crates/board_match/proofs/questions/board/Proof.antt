@@ -1,8 +1,7 @@
 -- `board_match::questions::board` meets its contract: the questions up to 7, then 8. Assumes nothing.
-use mathlib.Core.Path.{_≡_, sym, ap, ap₂, _∙_}
+use mathlib.Core.Path.{_≡_, sym, ap₂, _∙_}
 use mathlib.Core.List.{List}
 use Prim.Native.Nat.{ℕ, _+_, _*_}
-use native.Mathlib.Omega.{arith}
 use lib.ListN.{length}
 use borrow.Author.Needs.{needs}
 use borrow.Author.Tests.{not-true, not-false}
@@ -48,7 +47,8 @@ codes-below-requires c κs =
     let m = c .before in
     let a = m .before .before in
     let bits = sized-bits (spec a) (length (codes a)) (board m) (sym (board-made m)) in
-    (bits .0, bits .1, a .before .before .before .pre .1)
+    let x = a .before .before .before in
+    (x .pre .0, bits .0, bits .1, x .pre .1)
 
 returns : tie.Need-returns
 returns c =

@@ -7,13 +7,15 @@ use lib.Dec.{leb}
 use lib.ListN.{length}
 use borrow.Author.Needs.{needs}
 use borrow.Author.Tests.{not-true, not-false, lt-leb, le-leb, lt-ltb, le-ltb}
-use Rattle.score_matrix.specs.Table.{isTable}
+use Rattle.shot_record.specs.Fields.{cellCount}
 use Rattle.shot_record.specs.Shots.{Shot, shot}
 use Rattle.shot_record.specs.Answers.{configOf}
-use Rattle.shot_record.proofs.Reading.{found}
+use Rattle.shot_record.proofs.Reading.{Small, found}
+use Rattle.shot_record.proofs.Whole.{passed}
 use Rattle.shot_record.proofs.CellReads.{cell-count}
 use Rattle.hypothesis.specs.Placements.{cell}
 use Rattle.board_match.specs.Questions.{every, placedAnswer, settingsAnswer, tableAnswer, someAnswer, cellsAnswer, samplesAnswer, askedFrom9}
+use Rattle.board_match.proofs.CellAnswers.{placed-are, samples-are}
 use Rattle.board_match.proofs.questions.from_9.Statement.{statement}
 use Rattle.board_match.proofs.questions.from_9.Tie as tie
 
@@ -24,13 +26,19 @@ module _ (c : tie.Start) where
   abbrev words : ℕ
   words = c .args .words
 
+  all : c .args .f .«cell_count» ≡ cellCount (c .args .bytes .now)
+  all = found (c .args .f) (c .args .bytes .now) (c .pre .0 .0) .cell-count
+
   count : c .args .f .«cell_count» ≡ length (s .cells)
-  count = found (c .args .f) (c .args .bytes .now) (c .pre .0 .0) .cell-count ∙ sym (cell-count (c .args .bytes .now))
+  count = all ∙ sym (cell-count (c .args .bytes .now))
 
 -- ---- 9
 module _ (c : tie.After-settings) where
   abbrev at-9 : tie.Start
   at-9 = c .before .before
+
+  small : Small (at-9 .args .bytes .now)
+  small i = c .before .shared-slice-known .given i .fits
 
   answer-9 : c .settings .result ≡ settingsAnswer (configOf (s at-9))
   answer-9 = c .settings .ensures ∙ ap settingsAnswer (at-9 .pre .1)
@@ -43,22 +51,22 @@ unfolding askedFrom9
 returns c = rw (sym (answer-9 (c .before)) ∙ not-true _ (c .if1 .taken))
 
 -- ---- 10
-module _ (c : tie.After-is-table) where
+module _ (c : tie.After-table-passes) where
   abbrev before-10 : tie.Else1
-  before-10 = c .before .before
+  before-10 = c .before
 
   abbrev at-10 : tie.Start
   at-10 = at-9 (before-10 .before)
 
-  answer-10 : c .is-table .result ≡ tableAnswer (s at-10)
-  answer-10 = c .is-table .ensures ∙ ap isTable (at-10 .pre .2)
-
 yes10 : (c : tie.Else2) → tableAnswer (s (at-10 (c .before))) ≡ true
-yes10 c = sym (answer-10 (c .before)) ∙ not-false _ (c .if2 .left)
+yes10 c = sym (c .before .table-passes .ensures) ∙ not-false _ (c .if2 .left)
 
 returns-2 : tie.Need-returns-2
 unfolding askedFrom9
-returns-2 c = rw (yes9 (before-10 (c .before)), sym (answer-10 (c .before)) ∙ not-true _ (c .if2 .taken))
+returns-2 c = rw (yes9 (before-10 (c .before)), sym (c .before .table-passes .ensures) ∙ not-true _ (c .if2 .taken))
+
+table-passes-requires : tie.Need-table-passes-requires
+table-passes-requires c κs = let x = at-9 (c .before) in (x .pre .0 .0, x .pre .2)
 
 -- ---- 11
 module _ (c : tie.Else2) where
@@ -101,12 +109,13 @@ returns-4 c =
     rw (yes9 (before-10 (before-12 e .before)), yes10 (before-12 e), yes11 e, no)
 
 all-placed-requires : tie.Need-all-placed-requires
-all-placed-requires c κs = (at-12 (c .before) .pre .0, c .if4 .left)
+all-placed-requires c κs = c .if4 .left
 
 answer-12 : (c : tie.After-all-placed) → cellsAnswer (s (at-12 (c .before .before))) ≡ c .all-placed .result
 answer-12 c =
     let x = at-12 (c .before .before) in
-    few (s x) _ (le-leb (length (s x .cells)) 256 (omega (arith, count x, c .before .if4 .left))) (c .all-placed .ensures)
+    few (s x) _ (le-leb (length (s x .cells)) 256 (omega (arith, count x, c .before .if4 .left)))
+    (c .all-placed .ensures ∙ placed-are (x .args .bytes .now) (x .args .index .now) (x .pre .0 .1) _ (all x) (c .before .if4 .left))
 
 returns-5 : tie.Need-returns-5
 unfolding askedFrom9
@@ -123,7 +132,13 @@ module _ (c : tie.Else5) where
   yes12 = answer-12 (c .before) ∙ not-false _ (c .if5 .left)
 
 all-sampled-requires : tie.Need-all-sampled-requires
-all-sampled-requires c κs = (at-12 (before-13 c) .pre .0, c .before .before .if4 .left)
+all-sampled-requires c κs = c .before .before .if4 .left
+
+answer-13 : (c : tie.After-all-sampled) → samplesAnswer (s (at-12 (before-13 (c .before)))) ≡ c .all-sampled .result
+answer-13 c =
+    let x = at-12 (before-13 (c .before)) in
+    sym (c .all-sampled .ensures ∙ samples-are (x .args .bytes .now) (x .args .index .now) (x .pre .0 .1) _ (all x) (c .before .before .before .if4 .left)
+    (passed (x .args .bytes .now) (x .pre .0 .2)) (small (before-10 (before-12 (before-13 (c .before)) .before) .before)))
 
 returns-6 : tie.Need-returns-6
 unfolding askedFrom9
@@ -131,7 +146,7 @@ returns-6 c =
     let f = c .before .before in
     let e = before-13 f in
     rw
-    (yes9 (before-10 (before-12 e .before)), yes10 (before-12 e), yes11 e, yes12 f, sym (c .before .all-sampled .ensures) ∙ not-true _ (c .if6 .taken))
+    (yes9 (before-10 (before-12 e .before)), yes10 (before-12 e), yes11 e, yes12 f, answer-13 (c .before) ∙ not-true _ (c .if6 .taken))
 
 -- ---- 14
 module _ (c : tie.Else6) where
@@ -139,7 +154,7 @@ module _ (c : tie.Else6) where
   before-14 = c .before .before
 
   yes13 : samplesAnswer (s (at-12 (before-13 before-14))) ≡ true
-  yes13 = sym (c .before .all-sampled .ensures) ∙ not-false _ (c .if6 .left)
+  yes13 = answer-13 (c .before) ∙ not-false _ (c .if6 .left)
 
 returns-7 : tie.Need-returns-7
 unfolding askedFrom9
@@ -161,5 +176,5 @@ returns-8 c =
 
 pub from-9-spec : {M : Type 1} → statement M
 from-9-spec =
-    tie.close (tie.spec (λ c κs. tt) returns (λ c κs. tt) returns-2 returns-3 returns-4 all-placed-requires returns-5 all-sampled-requires
+    tie.close (tie.spec (λ c κs. tt) returns table-passes-requires returns-2 returns-3 returns-4 all-placed-requires returns-5 all-sampled-requires
     returns-6 (λ c. search needs) returns-7 returns-8)

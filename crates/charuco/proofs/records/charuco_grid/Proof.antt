@@ -1,6 +1,6 @@
 -- `charuco::records::charuco_grid` meets its contract. Assumes nothing.
-use mathlib.Core.Path.{_≡_, sym, ap, subst, _∙_}
-use mathlib.Core.List.{List}
+use mathlib.Core.Path.{_≡_, sym, ap, ap₂, subst, _∙_}
+use mathlib.Core.List.{List, [], _∷_}
 use Prim.Native.Nat.{ℕ, _-_, _≤_}
 use lib.ListN.{length, take, drop}
 use borrow.Author.Needs.{needs}
@@ -18,13 +18,15 @@ lies-there {bytes} {grid} {p} {q} e inside holds = subst (λ (x : Part). Lies by
 returns : tie.Need-returns
 returns c =
     let w = c .before .before in
-    let n = w .before .before .before in
-    let e = n .before in
+    let second = w .before .before .before in
+    let first = second .before .before in
+    let e = first .before in
     let p = e .before .before in
     let s = p .before .before .before .before .args in
-    let g = p .grid-part .ensures in (
+    let g = p .grid-part .ensures in
+    let words = ap₂ (λ (x y : ℕ). x ∷ y ∷ []) (first .count-word .ensures) (second .count-word2 .ensures) in (
       telling
-          (ap worked (n .part-words .ensures ∙ ap partWords (g .1 .1))
+          (ap worked (words ∙ ap partWords (g .1 .1))
           ∙ ap (λ (h : ReadHeader). gridTold (s .bytes .now) h (s .k)) (sym (e .enum-told .given .1) ∙ p .before .read-header .ensures))
           (w .worked .ensures),
       lies-there (g .1 .1) (g .0 .1) (g .1 .0),
@@ -44,4 +46,5 @@ returns-2 c =
 pub charuco-grid-spec : {M : Type 1} → statement M
 charuco-grid-spec =
     tie.close (tie.spec (λ c κs. search needs) (λ c κs. search needs) (λ c. search needs) (λ c κs. search needs) (λ c. search needs)
-    (λ c κs. search needs) (λ c. search needs) (λ c κs. search needs) (λ c. search needs) returns (λ c. search needs) returns-2)
+    (λ c κs. search needs) (λ c. search needs) (λ c κs. search needs) (λ c. search needs) (λ c κs. search needs) (λ c. search needs) returns
+    (λ c. search needs) returns-2)

@@ -1,131 +1,140 @@
 -- `hypothesis::search::search_turn` meets its contract: a turn whose frame does not fit the board has no placement, and of the others the sums
 -- give the evidence. Assumes nothing.
-use mathlib.Core.Path.{_≡_, refl, sym, ap, ap₂, subst, _∙_}
-use Prim.Native.Nat.{ℕ, _+_, _-_, _*_, _≤_}
-use native.Mathlib.Nat.{mul-zero, zero-mul}
+use mathlib.Core.Path.{_≡_, refl, sym, ap, subst, _∙_}
+use Prim.Native.Nat.{ℕ, _*_, _≤_, _<_}
+use native.Mathlib.Nat.{mul-zero, zero-mul, mul-le-mul}
 use native.Mathlib.Omega.{arith}
-use lib.IntN.{ℤ, natAbs}
-use borrow.Author.Needs.{needs}
-use Rattle.integers.proofs.Words.{word, word-is}
+use lib.IntN.{natAbs}
+use mathlib.Core.List.{List}
+use lib.Ieee.{Float}
 use Rattle.board.specs.declared.Board.{Board}
 use Rattle.shot_record.specs.Shots.{Shot, shot}
-use Rattle.hypothesis.specs.declared.Inputs.{Inputs}
 use Rattle.hypothesis.specs.declared.Frame.{Frame}
 use Rattle.hypothesis.specs.declared.fill.Turn.{Turn}
 use Rattle.hypothesis.specs.Placements.{frame, movesAcross, movesDown}
 use Rattle.hypothesis.specs.Inputs.{Ready}
+use Rattle.hypothesis.specs.Filling.{Cleared}
+use Rattle.hypothesis.proofs.Moves.{fits-small}
+use Rattle.hypothesis.proofs.Sides.{near-frame}
 use Rattle.hypothesis.proofs.Turned.{across-small, down-small, total-small, turn-ranked, no-placement-ranked}
 use Rattle.hypothesis.proofs.Summed.{no-cells}
 use Rattle.hypothesis.proofs.search.search_turn.Statement.{statement}
 use Rattle.hypothesis.proofs.search.search_turn.Tie as tie
 
-abbrev with : Inputs → ℕ → ℤ → ℤ → ℕ → ℕ → Turn
-with i r u v n d = record { inputs = i; turn = r; u = u; v = v; across = n; down = d }
-
-same : (i : Inputs) (r : ℕ) (u v x y : ℤ) (n d m e : ℕ) → u ≡ x → v ≡ y → n ≡ m → d ≡ e → with i r u v n d ≡ with i r x y m e
-same i r u v x y n d m e p q a b = cc
-
-module _ (c : tie.After-moves2) where
-  abbrev start : tie.Start
-  start = c .before .before .before .before .before
-
+module _ (c : tie.Start) where
   abbrev s : Shot
-  s = shot (start .args .bytes .now)
+  s = shot (c .args .bytes .now)
+
+  abbrev t : Turn
+  t = c .args .t
 
   abbrev r : ℕ
-  r = start .args .turn
+  r = t .turn
 
-  abbrev found : Frame
-  found = c .before .before .before .frame .result
+  abbrev n : ℕ
+  n = movesAcross s r
 
-  ready : Ready (start .args .bytes .now) (start .args .inputs) (start .args .starts .now)
-  ready = start .pre .0 .ready
+  abbrev d : ℕ
+  d = movesDown s r
 
-  frame-is : found ≡ frame s r
-  frame-is = c .before .before .before .frame .ensures .0
+  ready : Ready (c .args .bytes .now) (t .inputs) (c .args .index .now)
+  ready = c .pre .0 .ready
 
-  near-u : natAbs (found .u) ≤ 4096
-  near-u = c .before .before .before .frame .ensures .1 .0
+  across-is : t .across ≡ n
+  across-is = ap (λ (y : Turn). y .across) (c .pre .2)
 
-  near-v : natAbs (found .v) ≤ 4096
-  near-v = c .before .before .before .frame .ensures .1 .1
+  down-is : t .down ≡ d
+  down-is = ap (λ (y : Turn). y .down) (c .pre .2)
 
-  across-is : c .before .moves .result ≡ movesAcross s r
-  across-is = c .before .moves .ensures ∙ ap₂ (λ (x y : ℕ). x + 1 - y) (ap (λ (b : Board). b .cols) (ready .board)) (ap (λ (f : Frame). f .width) frame-is)
-
-  down-is : c .moves2 .result ≡ movesDown s r
-  down-is = c .moves2 .ensures ∙ ap₂ (λ (x y : ℕ). x + 1 - y) (ap (λ (b : Board). b .rows) (ready .board)) (ap (λ (f : Frame). f .height) frame-is)
-
-  wide : movesAcross s r ≤ 32
+  wide : n ≤ 32
   wide = across-small s (ready .passed .cols) (ready .passed .rows) r
 
-  high : movesDown s r ≤ 32
+  high : d ≤ 32
   high = down-small s (ready .passed .cols) (ready .passed .rows) r
 
-  u-is : word (found .u) ≡ found .u
-  u-is = word-is (found .u) refl (omega (arith, near-u))
+  near : (natAbs (frame s r .u) ≤ 4096) × (natAbs (frame s r .v) ≤ 4096)
+  near = near-frame s (ready .passed) r
 
-  v-is : word (found .v) ≡ found .v
-  v-is = word-is (found .v) refl (omega (arith, near-v))
+  room : t .across * t .down ≤ 1024
+  room = few (t .across) (t .down) n d across-is down-is wide high
+    where
+      few : (a b m k : ℕ) → a ≡ m → b ≡ k → m ≤ 32 → k ≤ 32 → a * b ≤ 1024
+      few a b m k e f w h = rw (e, f) (mul-le-mul {n₁ = m} {m₁ = k} {n₂ = 32} {m₂ = 32} w h)
 
 returns : tie.Need-returns
 returns c =
-    let m = c .before in
-    start m .pre .2 ∙ no-placement-ranked (s m) (r m) (ap (λ (n : ℕ). n * movesDown (s m) (r m)) (sym (across-is m) ∙ c .if1 .taken)
-    ∙ zero-mul (movesDown (s m) (r m)))
+    let x = c .before .before .before in
+    (x .pre .4, x .pre .5 ∙ no-placement-ranked (s x) (r x) (ap (λ (m : ℕ). m * d x) (sym (across-is x) ∙ c .if1 .taken) ∙ zero-mul (d x)))
 
 returns-2 : tie.Need-returns-2
 returns-2 c =
-    let m = c .before .before in
-    start m .pre .2 ∙ no-placement-ranked (s m) (r m) (ap (λ (n : ℕ). movesAcross (s m) (r m) * n) (sym (down-is m) ∙ c .if2 .taken)
-    ∙ mul-zero (movesAcross (s m) (r m)))
+    let x = c .before .before .before .before .before in
+    (x .pre .4, x .pre .5 ∙ no-placement-ranked (s x) (r x) (ap (λ (m : ℕ). n x * m) (sym (down-is x) ∙ c .if2 .taken) ∙ mul-zero (n x)))
+
+mul-clear : tie.Need-mul-clear
+mul-clear c = let x = c .before .before .before .before .before .before .before in fits-small (t x .across * t x .down) (omega (arith, room x))
+
+clear-requires : tie.Need-clear-requires
+clear-requires c κs = let x = c .before .before .before .before .before .before .before in (room x, x .pre .4)
+
+small-as : (m k most : ℕ) → m ≡ k → k ≤ most → m ≤ most
+small-as m k most e h = rw e h
 
 source-bits-requires : tie.Need-source-bits-requires
 source-bits-requires c κs =
-    let m = c .before .before .before in
-    omega (arith, ap (λ (b : Board). b .bits) (ready m .board), ready m .passed .checked .small)
+    let x = c .before .before .before .before .before .before .before .before in
+    small-as (t x .inputs .board .bits) (s x .bits) 8 (ap (λ (b : Board). b .bits) (ready x .board)) (ready x .passed .checked .small)
+
+above : {m : ℕ} → (m ≡ 0 → ⊥) → 0 < m
+above h = omega (arith, h)
+
+same-area : (a b m k : ℕ) → a ≡ m → b ≡ k → a * b ≡ m * k
+same-area a b m k e f = rw (e, f) refl
+
+cleared : (m k : ℕ) (sums : List Float) → m ≡ k → Cleared m sums → Cleared k sums
+cleared m k sums e h = rw e at h
 
 fill-requires : tie.Need-fill-requires
 fill-requires c κs =
-    let e = c .before .before .before .before in
-    let m = e .before .before in
-    let f = frame-is m in (
+    let x = c .before .before .before .before .before .before .before .before .before .before .before in
+    let e = c .before .before .before .before .before .before in (
       record {
-        loaded = start m .pre .0;
-        is =
-            same (start m .args .inputs) (r m) (word (found m .u)) (word (found m .v)) (frame (s m) (r m) .u) (frame (s m) (r m) .v)
-            (m .before .moves .result) (m .moves2 .result) (movesAcross (s m) (r m)) (movesDown (s m) (r m))
-            (u-is m ∙ ap (λ (x : Frame). x .u) f)
-            (v-is m ∙ ap (λ (x : Frame). x .v) f)
-            (across-is m)
-            (down-is m);
+        loaded = x .pre .0;
+        is = x .pre .2;
         sources-are = c .before .before .source-bits .ensures;
-        fits = (omega (arith, e .before .if1 .left), omega (arith, e .if2 .left));
-        near = (subst (λ (z : ℤ). natAbs z ≤ 4096) (sym (u-is m)) (near-u m), subst (λ (z : ℤ). natAbs z ≤ 4096) (sym (v-is m)) (near-v m));
+        fits = (above (e .before .before .if1 .left), above (e .if2 .left));
+        near = (
+          subst (λ (y : Turn). natAbs (y .u) ≤ 4096) (sym (x .pre .2)) (near x .0),
+          subst (λ (y : Turn). natAbs (y .v) ≤ 4096) (sym (x .pre .2)) (near x .1),
+        );
       },
-      no-cells (s m) (r m) (wide m) (high m),
+      no-cells (s x) (r x) (c .before .before .before .clear .last .0)
+          (cleared (t x .across * t x .down) (n x * d x) (c .before .before .before .clear .last .0)
+          (same-area (t x .across) (t x .down) (n x) (d x) (across-is x) (down-is x)) (c .before .before .before .clear .ensures)),
     )
 
 rank-turn-requires : tie.Need-rank-turn-requires
 rank-turn-requires c κs =
-    let m = c .before .before .before .before .before .before .before .before in
-    let p = ready m .passed in (
-      omega (arith, across-is m, wide m),
-      omega (arith, down-is m, high m),
-      omega (arith, near-u m),
-      omega (arith, near-v m),
-      omega (arith, start m .pre .1, total-small (s m) (p .cols) (p .rows) (r m) (start m .args .ranking) (start m .pre .2)),
+    let x = c .before .before .before .before .before .before .before .before .before .before .before .before .before in
+    let p = ready x .passed in
+    let f = x .pre .1 in (
+      small-as (t x .across) (n x) 32 (across-is x) (wide x),
+      small-as (t x .down) (d x) 32 (down-is x) (high x),
+      subst (λ (y : Frame). natAbs (y .u) ≤ 8192) (sym f) (omega (arith, near x)),
+      subst (λ (y : Frame). natAbs (y .v) ≤ 8192) (sym f) (omega (arith, near x)),
+      omega (arith, x .pre .3, total-small (s x) (p .cols) (p .rows) (r x) (x .args .ranking) (x .pre .5)),
     )
 
 returns-3 : tie.Need-returns-3
 returns-3 c =
-    let m = c .before .before .before .before .before .before .before .before .before in
-    let f = c .before .before .fill in
-    c .rank-turn .ensures
-    ∙ turn-ranked (s m) (ready m .passed .checked) (r m) (f .last .0) (f .result) (f .ensures) (start m .args .ranking) (found m) (m .before .moves .result)
-    (m .moves2 .result) (frame-is m) (across-is m) (down-is m) (start m .pre .2)
+    let x = c .before .before .before .before .before .before .before .before .before .before .before .before .before .before in
+    let f = c .before .before .fill in (
+      f .ensures .0,
+      c .rank-turn .ensures
+          ∙ turn-ranked (s x) (ready x .passed .checked) (r x) (f .last .0) (f .result) (f .ensures .1) (x .args .ranking) (x .args .frame) (t x .across)
+          (t x .down) (x .pre .1) (across-is x) (down-is x) (x .pre .5),
+    )
 
 pub search-turn-spec : {M : Type 1} → statement M
 search-turn-spec =
-    tie.close (tie.spec (λ c κs. search needs) (λ c κs. search needs) (λ c κs. search needs) returns returns-2 source-bits-requires
-    fill-requires rank-turn-requires returns-3)
+    tie.close (tie.spec returns returns-2 mul-clear clear-requires source-bits-requires fill-requires rank-turn-requires returns-3)

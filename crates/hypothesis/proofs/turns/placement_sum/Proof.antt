@@ -11,7 +11,7 @@ use borrow.Author.Needs.{needs}
 use Rattle.ranking.specs.declared.Evidence.the-variants as evidence
 use Rattle.hypothesis.specs.declared.turns.Seen.{Seen}
 use Rattle.hypothesis.specs.Turns.{seenAt, evidenceAt}
-use Rattle.hypothesis.proofs.Columns.{fits-small}
+use Rattle.hypothesis.proofs.Moves.{fits-small}
 use Rattle.hypothesis.proofs.turns.placement_sum.Statement.{statement}
 use Rattle.hypothesis.proofs.turns.placement_sum.Tie as tie
 

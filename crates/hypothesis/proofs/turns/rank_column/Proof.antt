@@ -1,25 +1,24 @@
--- `hypothesis::turns::rank_column` meets its contract. The loop's invariant: best and runner-up are those of the ranking after the placements
+-- `hypothesis::turns::rank_column` meets its contract. The loop's invariant: `held` has best and runner-up of the ranking after the placements
 -- above row `b`. Assumes nothing.
-use mathlib.Core.Path.{sym, subst, _∙_}
-use mathlib.Core.Logic.{⊎-elim}
+use mathlib.Core.Path.{ap, subst}
 use Prim.Native.Nat.{ℕ, _+_, _-_, _≤_, _<_}
 use native.Mathlib.Nat.{le-antisymm}
 use native.Mathlib.Omega.{arith}
-use borrow.Author.Needs.{needs}
-use borrow.Author.Tests.{not-false}
 use Rattle.ranking.specs.declared.Hypothesis.{Hypothesis}
-use Rattle.ranking.proofs.Unchanged.{Held, held-none, held-ranked, held-unchanged}
+use Rattle.ranking.specs.declared.Ranking.{Ranking}
+use Rattle.ranking.specs.Ranking.{Held}
+use Rattle.ranking.proofs.Unchanged.{held-none, held-ranked}
 use Rattle.hypothesis.specs.Turns.{movedTo}
-use Rattle.hypothesis.proofs.Columns.{fits-small}
+use Rattle.hypothesis.proofs.Moves.{fits-small}
 use Rattle.hypothesis.proofs.turns.rank_column.Statement.{statement}
 use Rattle.hypothesis.proofs.turns.rank_column.Tie as tie
 
 abbrev Inv-loop : tie.InvT-loop
-Inv-loop ranking sums seen frame turn down a best₀ runner-up₀ b₀ best runner-up b =
-    (b ≤ down) × Held ranking (movedTo sums seen frame turn down a) b best runner-up
+Inv-loop ranking sums seen frame turn down a held₀ b₀ held b =
+    (b ≤ down) × (held .total ≤ ranking .total + b) × Held ranking (movedTo sums seen frame turn down a) b held
 
 abbrev μ-loop : tie.MeasureT-loop
-μ-loop ranking sums seen frame turn down a best₀ runner-up₀ b₀ best runner-up b = down - b
+μ-loop ranking sums seen frame turn down a held₀ b₀ held b = down - b
 
 -- the placements of the column
 module _ (c : tie.Start Inv-loop μ-loop) where
@@ -27,12 +26,16 @@ module _ (c : tie.Start Inv-loop μ-loop) where
   row = let x = c .args in movedTo (x .sums .now) (x .seen) (x .frame) (x .turn) (x .down) (x .a)
 
 loop-holds : tie.Need-loop-holds Inv-loop μ-loop
-loop-holds c = (omega arith, held-none (c .args .ranking) (row c))
+loop-holds c =
+    let s = c .before in
+    let e = c .next-change .ensures in
+    let k = s .args .ranking in
+    (e .1, omega arith, e .2 k (s .args .frame) (s .args .turn) (held-none k (row s)))
 
 -- in the loop
 module _ (c : tie.In-loop Inv-loop μ-loop) where
   abbrev start : tie.Start Inv-loop μ-loop
-  start = c .before .before
+  start = c .before .before .before
 
   abbrev b : ℕ
   b = c .before .loop .b
@@ -40,55 +43,38 @@ module _ (c : tie.In-loop Inv-loop μ-loop) where
   below : b < 32
   below = omega (arith, start .pre .1, c .loop-test .taken)
 
-placement-sum-requires : tie.Need-placement-sum-requires Inv-loop μ-loop
-placement-sum-requires c κs = let p = start c .pre in (p .0, below c, p .1)
-
 moved-to-requires : tie.Need-moved-to-requires Inv-loop μ-loop
-moved-to-requires c κs = let l = c .before .before .before in let p = start l .pre in (p .0, below l, p .1, p .2, p .3)
-
-few : (c : tie.In-loop Inv-loop μ-loop) → start c .args .ranking .total + b c ≤ 4128
-few c = omega (arith, start c .pre .4, below c)
-
-add-t17 : tie.Need-add-t17 Inv-loop μ-loop
-add-t17 c = let l = c .before .before .before .before .before in record { fits = omega (arith, few l) }
+moved-to-requires c κs = let p = start c .pre in (p .0, below c, p .1, p .2, p .3)
 
 ranked-requires : tie.Need-ranked-requires Inv-loop μ-loop
-ranked-requires c κs = omega (arith, few (c .before .before .before .before .before))
+ranked-requires c κs = let l = c .before in omega (arith, start l .pre .4, below l, l .before .loop .inv .1)
 
-add-b : tie.Need-add-b Inv-loop μ-loop
-add-b c = let l = c .before .before .before in fits-small (b l + 1) (omega (arith, below l))
-
-loop-less : tie.Need-loop-less Inv-loop μ-loop
-loop-less c = let l = c .before .before .before in omega (arith, l .loop-test .taken)
+next-change-requires-2 : tie.Need-next-change-requires-2 Inv-loop μ-loop
+next-change-requires-2 c κs = let l = c .before .before in let p = start l .pre in (p .0, p .1, omega (arith, l .loop-test .taken))
 
 loop-again : tie.Need-loop-again Inv-loop μ-loop
 loop-again c =
+    let k = c .before .ranked in
+    let h = c .before .before .moved-to in
     let l = c .before .before .before in
-    let k = start l .args .ranking in
-    let f = row (start l) in
-    let p = l .before .loop .best in
-    let q = l .before .loop .runner-up in
-    let g = l .before .loop .inv .1 in
-    let sum = c .before .before .placement-sum in
-    let test = c .before .changes-nothing in (
-      omega (arith, l .loop-test .taken),
-      ⊎-elim
-          (λ w. rw (w .4, w .5) (held-ranked k f (b l) p q g (w .1 .result) (w .3 .result) (w .1 .ensures) (w .3 .ensures)))
-          (λ w. rw (w .1, w .2) (held-unchanged k f (b l) p q g (sum .result) (sum .ensures) (sym (test .ensures) ∙ not-false (test .result) (w .0 .left))))
-          (c .if1 .came),
+    let i = l .before .loop .inv in
+    let x = start l .args in
+    let e = c .next-change2 .ensures in (
+      e .1,
+      omega (arith, i .1, e .0, ap (λ (y : Ranking). y .total) (k .ensures)),
+      e .2 (x .ranking) (x .frame) (x .turn)
+          (held-ranked (x .ranking) (row (start l)) (b l) (l .before .loop .held) (i .2) (h .result) (k .result) (h .ensures) (k .ensures)),
     )
-
-add-t18 : tie.Need-add-t18 Inv-loop μ-loop
-add-t18 c = let s = c .before .before .before in record { fits = omega (arith, s .pre .1, s .pre .4) }
 
 returns : tie.Need-returns Inv-loop μ-loop
 returns c =
     let l = c .before .before in
-    let x = l .before .args in
-    subst (λ n. Held (x .ranking) (row (l .before)) n (l .loop .best) (l .loop .runner-up))
-    (le-antisymm (l .loop .inv .0) (omega (arith, c .before .loop-test .left))) (l .loop .inv .1)
+    let s = l .before .before in
+    subst (λ n. Held (s .args .ranking) (row s) n (l .loop .held)) (le-antisymm (l .loop .inv .0) (omega (arith, c .before .loop-test .left))) (l .loop .inv .2)
 
 pub rank-column-spec : {M : Type 1} → statement M
 rank-column-spec =
-    tie.close (tie.spec Inv-loop μ-loop loop-holds placement-sum-requires (λ c κs. search needs) moved-to-requires add-t17 ranked-requires
-    add-b loop-less loop-again add-t18 returns)
+    tie.close (tie.spec Inv-loop μ-loop (λ c κs. (c .pre .0, c .pre .1, omega arith)) loop-holds moved-to-requires ranked-requires
+    (λ c. let l = c .before .before in fits-small (b l + 1) (omega (arith, below l))) next-change-requires-2
+    (λ c. omega (arith, c .next-change2 .ensures .0, c .before .before .before .loop-test .taken)) loop-again
+    (λ c. let s = c .before .before .before .before in record { fits = omega (arith, s .pre .1, s .pre .4) }) returns)

@@ -8,7 +8,7 @@ use Rattle.ranking.specs.declared.Ranking.{Ranking}
 use Rattle.ranking.specs.Ranking.{rankedTo}
 use Rattle.ranking.proofs.RankedTo.{ranked-none, ranked-total, next-column}
 use Rattle.hypothesis.specs.Turns.{movedTo, rankedTurn}
-use Rattle.hypothesis.proofs.Columns.{fits-small}
+use Rattle.hypothesis.proofs.Moves.{fits-small}
 use Rattle.hypothesis.proofs.turns.rank_turn.Statement.{statement}
 use Rattle.hypothesis.proofs.turns.rank_turn.Tie as tie
 

@@ -2,7 +2,7 @@
 -- Assumes nothing.
 use mathlib.Core.Path.{_≡_, refl, ap, sym, _∙_}
 use mathlib.Core.Bool.{Bool, true, false, _&&_}
-use Prim.Native.Nat.{ℕ, _+_, _-_, _*_, _≤_}
+use Prim.Native.Nat.{ℕ, _+_, _-_, _≤_}
 use native.Mathlib.Omega.{arith}
 use mathlib.Core.List.{List}
 use lib.ListN.{length, drop, drop-of-length-le}
@@ -10,10 +10,8 @@ use borrow.Author.Needs.{needs}
 use borrow.Author.Tests.{not-true, not-false}
 use Rattle.board.specs.Questions.{codeInRange, codesAnswer}
 use Rattle.board.proofs.Asked.{codes-step}
-use Rattle.shot_record.specs.Fields.{number, codesAt, codeCount}
 use Rattle.shot_record.specs.Shots.{shot}
-use Rattle.shot_record.proofs.Lists.{length-list}
-use Rattle.shot_record.proofs.Reading.{found}
+use Rattle.shot_record.proofs.Reading.{found, code-count}
 use Rattle.shot_record.proofs.bulk.codes_below.Statement.{statement}
 use Rattle.shot_record.proofs.bulk.codes_below.Tie as tie
 
@@ -21,10 +19,10 @@ abbrev codes : List ℕ → List ℕ
 codes bytes = shot bytes .codes
 
 abbrev Inv-loop : tie.InvT-loop
-Inv-loop bytes first bits f count k₀ k = (k ≤ count) × (codesAnswer bits (drop k (codes bytes)) ≡ codesAnswer bits (codes bytes))
+Inv-loop bytes f first bits count k₀ k = (k ≤ count) × (codesAnswer bits (drop k (codes bytes)) ≡ codesAnswer bits (codes bytes))
 
 abbrev μ-loop : tie.MeasureT-loop
-μ-loop bytes first bits f count k₀ k = count - k
+μ-loop bytes f first bits count k₀ k = count - k
 
 loop-holds : tie.Need-loop-holds Inv-loop μ-loop
 loop-holds c = (omega arith, refl)
@@ -32,15 +30,13 @@ loop-holds c = (omega arith, refl)
 -- how many codes there are
 module _ (c : tie.At-loop Inv-loop μ-loop) where
   abbrev x : tie.Start Inv-loop μ-loop
-  x = c .before .before .before
+  x = c .before .before
 
   abbrev bytes : List ℕ
   bytes = x .args .bytes .now
 
-  count : c .before .locate .result .«code_count» ≡ length (codes bytes)
-  count =
-      found _ bytes (c .before .locate .ensures) .code-count
-      ∙ sym (length-list (λ (k : ℕ). number 8 (codesAt bytes + 8 * k) bytes) (codeCount bytes))
+  count : x .args .f .«code_count» ≡ length (codes bytes)
+  count = found _ bytes (x .pre .0) .code-count ∙ sym (code-count bytes)
 
 module _ (c : tie.After-code Inv-loop μ-loop) where
   abbrev l : tie.At-loop Inv-loop μ-loop
@@ -67,5 +63,5 @@ returns-2 c =
 
 pub codes-below-spec : {M : Type 1} → statement M
 codes-below-spec =
-    tie.close (tie.spec Inv-loop μ-loop (λ c κs. search needs) loop-holds (λ c κs. search needs) (λ c κs. search needs) returns
+    tie.close (tie.spec Inv-loop μ-loop loop-holds (λ c κs. search needs) (λ c κs. search needs) returns
     (λ c. search needs) (λ c. search needs) loop-again returns-2)

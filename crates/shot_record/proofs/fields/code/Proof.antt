@@ -24,9 +24,9 @@ module _ (c : tie.After-shared-slice-known) where
 returns : tie.Need-returns
 returns c =
     let x = c .before .before in
-    c .number-at .ensures .0 ∙ ap (λ (at : ℕ). number 8 (at + 14 + 8 * x .before .args .k) (bytes x)) (f x .rows-at)
+    c .eight-at .ensures ∙ ap (λ (at : ℕ). number 8 (at + 14 + 8 * x .before .args .k) (bytes x)) (f x .rows-at)
 
 pub code-spec : {M : Type 1} → statement M
 code-spec =
     tie.close (tie.spec (λ c. omega (arith, reach (c .before))) (λ c. omega (arith, reach (c .before)))
-    (λ c. omega (arith, reach (c .before))) (λ c κs. (omega arith, omega (arith, reach (c .before)))) returns)
+    (λ c. omega (arith, reach (c .before))) (λ c κs. omega (arith, reach (c .before))) returns)

@@ -1,7 +1,6 @@
 -- `shot_record::fields::setting` meets its contract. Assumes nothing.
 use mathlib.Core.Path.{ap, _∙_}
 use borrow.Author.Needs.{needs}
-use Rattle.shot_record.specs.Shots.{setting}
 use Rattle.shot_record.specs.Answers.{ofPattern}
 use Rattle.shot_record.proofs.Reading.{setting-set}
 use Rattle.shot_record.proofs.fields.setting.Statement.{statement}

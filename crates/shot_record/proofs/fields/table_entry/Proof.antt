@@ -7,25 +7,29 @@ use mathlib.Core.List.{List, [], _∷_, map}
 use lib.ListN.{length, getD}
 use lib.Ieee.{Float, nan}
 use borrow.Author.Needs.{needs}
-use Rattle.matcher.specs.Codes.{bit}
 use Rattle.score_matrix.specs.Table.{patterns, builtIn}
-use Rattle.shot_record.specs.Fields.{number, mapByte, tableAt}
-use Rattle.shot_record.specs.Shots.{setting, numbers}
+use Rattle.shot_record.specs.Fields.{number}
 use Rattle.shot_record.specs.Answers.{ofPattern}
 use Rattle.shot_record.proofs.Lists.{getD-list}
-use Rattle.shot_record.proofs.Reading.{Found, found, head-reach, setting-set, pattern-count}
+use Rattle.shot_record.proofs.Reading.{found, head-reach, pattern-count, built-in-table, own-table}
 use Rattle.shot_record.proofs.fields.table_entry.Statement.{statement}
 use Rattle.shot_record.proofs.fields.table_entry.Tie as tie
 
-module _ (c : tie.After-shared-slice-known) where
+module _ (c : tie.After-sets-table) where
   abbrev bytes : List ℕ
-  bytes = c .before .args .bytes .now
+  bytes = c .before .before .args .bytes .now
 
-  f : Found (c .before .args .f) bytes
-  f = found (c .before .args .f) bytes (c .before .pre .0)
+  abbrev at : ℕ
+  at = c .before .before .args .f .«table_at»
 
-  reach : c .before .args .f .«table_at» + 4 * c .before .args .k ≤ 5000
-  reach = omega (arith, f .table-at, head-reach bytes, c .before .pre .1)
+  abbrev k : ℕ
+  k = c .before .before .args .k
+
+  inside : k < 511
+  inside = c .before .before .pre .1
+
+  reach : at + 4 * k ≤ 5000
+  reach = omega (arith, found (c .before .before .args .f) bytes (c .before .before .pre .0) .table-at, head-reach bytes, inside)
 
 getD-float : (xs : List ℕ) (k : ℕ) → k < length xs → getD (map ofPattern xs) k nan ≡ ofPattern (getD xs k 0)
 getD-float [] k h = absurd (omega arith)
@@ -36,36 +40,23 @@ built-in-entry : (k : ℕ) → k < 511 → getD builtIn k nan ≡ ofPattern (get
 unfolding builtIn
 built-in-entry k h = getD-float patterns k (omega (arith, h, pattern-count))
 
--- an entry of the record's own table
-own-entry : (bytes : List ℕ) (b at k : ℕ) → (b ≡ 0 → ⊥) → b ≡ bit (mapByte bytes) 3 → at ≡ tableAt bytes → k < 511
-    → number 4 (at + 4 * k) bytes ≡ getD (setting (bit (mapByte bytes) 3) (numbers 4 511 (tableAt bytes) bytes) patterns) k 0
-own-entry bytes b at k set e h l =
-    let own : List ℕ = numbers 4 511 (tableAt bytes) bytes in
-    ap (λ (p : ℕ). number 4 (p + 4 * k) bytes) h
-    ∙ sym (getD-list (λ (i : ℕ). number 4 (tableAt bytes + 4 * i) bytes) 511 k 0 l)
-    ∙ ap (λ (t : List ℕ). getD t k 0) (setting-set b own patterns set ∙ ap (λ (b : ℕ). setting b own patterns) e)
-
--- the map's bit for the table
-flag : (c : tie.After-bit) → c .bit .result ≡ bit (mapByte (bytes (c .before))) 3
-flag c = c .bit .ensures .0 ∙ ap (λ (m : ℕ). bit m 3) (f (c .before) .map)
-
 returns : tie.Need-returns
 returns c =
-    let b = c .before .before in
-    let x = b .before .before in
-    rw (sym (flag b), c .before .if1 .taken)
-    (ap (λ (t : List Float). getD t (x .args .k) nan) (c .built-in-table .ensures) ∙ built-in-entry (x .args .k) (x .pre .1))
+    let t = c .before .before in
+    ap (λ (l : List Float). getD l (k t) nan) (c .built-in-table .ensures) ∙ built-in-entry (k t) (inside t)
+    ∙ ap (λ (l : List ℕ). ofPattern (getD l (k t) 0))
+    (sym (built-in-table _ (bytes t) (t .before .before .pre .0) (t .sets-table .result) (t .sets-table .ensures) (c .before .if1 .taken)))
 
 returns-2 : tie.Need-returns-2
 returns-2 c =
     let e = c .before .before in
-    let known = e .before .before in
-    let x = known .before in
+    let t = e .before in
     c .float-at .ensures
-    ∙ ap ofPattern (own-entry (bytes known) (e .before .bit .result) (x .args .f .«table_at») (x .args .k) (e .if1 .left) (flag (e .before))
-    (f known .table-at) (x .pre .1))
+    ∙ ap ofPattern (sym (getD-list (λ (i : ℕ). number 4 (at t + 4 * i) (bytes t)) 511 (k t) 0 (inside t))
+    ∙ ap (λ (l : List ℕ). getD l (k t) 0)
+    (own-table _ (bytes t) (t .before .before .pre .0) (t .sets-table .result) (t .sets-table .ensures) (e .if1 .left)))
 
 pub table-entry-spec : {M : Type 1} → statement M
 table-entry-spec =
     tie.close (tie.spec (λ c κs. search needs) (λ c κs. search needs) (λ c. search needs) (λ c. search needs) returns (λ c. search needs)
-    (λ c. omega (arith, reach (c .before .before .before))) (λ c κs. omega (arith, reach (c .before .before .before))) returns-2)
+    (λ c. omega (arith, reach (c .before .before))) (λ c κs. omega (arith, reach (c .before .before))) returns-2)

@@ -6,7 +6,7 @@ use Rattle.shot_record.proofs.numbers.float_at.Statement.{statement}
 use Rattle.shot_record.proofs.numbers.float_at.Tie as tie
 
 returns : tie.Need-returns
-returns c = c .from-bits .ensures ∙ ap ofPattern (c .before .number-at .ensures .0)
+returns c = c .from-bits .ensures ∙ ap ofPattern (c .before .four-at .ensures)
 
 pub float-at-spec : {M : Type 1} → statement M
-float-at-spec = tie.close (tie.spec (λ c κs. search needs) (λ c. search needs) (λ c κs. search needs) returns)
+float-at-spec = tie.close (tie.spec (λ c κs. search needs) (λ c κs. search needs) returns)

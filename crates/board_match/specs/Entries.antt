@@ -1,0 +1,20 @@
+-- The questions 12 and 13 of one cell, as the index has it.
+use mathlib.Core.Bool.{Bool, true, _&&_}
+use mathlib.Core.List.{List}
+use Prim.Native.Nat.{ℕ}
+use Rattle.integers.specs.Distance.{isWithin}
+use Rattle.score_matrix.specs.declared.BorderSample.{BorderSample}
+use Rattle.score_matrix.specs.declared.BorderSample.the-variants as border
+use Rattle.shot_record.specs.Index.{uIn, vIn, borderIn}
+use Rattle.board_match.specs.Questions.{fractionAnswer}
+
+abbrev pub placedIn : List ℕ → ℕ → Bool
+placedIn index k = isWithin 4096 (uIn index k) && isWithin 4096 (vIn index k)
+
+-- of a sampled cell its fraction; that its grid is whole is known of a record that question 21 lets pass
+abbrev pub borderAnswer : BorderSample → Bool
+borderAnswer border.Unsampled = true
+borderAnswer (border.BlackFraction x) = fractionAnswer x
+
+abbrev pub sampledIn : List ℕ → ℕ → Bool
+sampledIn index k = borderAnswer (borderIn index k)

@@ -1,0 +1,91 @@
+-- `shot_record::index::grid_part` meets its contract. Assumes nothing.
+use mathlib.Core.Path.{_≡_, refl, ap₂, _∙_}
+use Prim.Native.Nat.{ℕ, zero, suc, _+_, _-_, _/_, _≤_, _<_, zero-le}
+use native.Mathlib.Nat.{le-refl}
+use native.Mathlib.Omega.{arith}
+use mathlib.Core.List.{List}
+use lib.ListN.{length, take, drop}
+use borrow.Author.Needs.{needs}
+use Rattle.shot_record.specs.Fields.{bitsOf, borderOf, gridSize, cellCount, sampled, cellAt}
+use Rattle.shot_record.specs.Index.{Entry, placeIn}
+use Rattle.shot_record.proofs.Reading.{Found, found}
+use Rattle.shot_record.proofs.Whole.{Whole, passed}
+use Rattle.shot_record.proofs.CellReads.{without-grid, with-grid, grid-lies}
+use Rattle.shot_record.proofs.index.grid_part.Statement.{statement}
+use Rattle.shot_record.proofs.index.grid_part.Tie as tie
+
+module _ (c : tie.Start) where
+  abbrev bytes : List ℕ
+  bytes = c .args .bytes .now
+
+  abbrev index : List ℕ
+  index = c .args .index .now
+
+  abbrev k : ℕ
+  k = c .args .k
+
+  abbrev size : ℕ
+  size = gridSize (bitsOf bytes) (borderOf bytes)
+
+  f : Found (c .args .f) bytes
+  f = found (c .args .f) bytes (c .pre .0 .0)
+
+  is-whole : Whole bytes
+  is-whole = passed bytes (c .pre .0 .2)
+
+  inside : k < cellCount bytes
+  inside = omega (arith, f .cell-count, c .pre .1)
+
+  entry : Entry bytes index k
+  entry = c .pre .0 .1 k inside (c .pre .2)
+
+-- a cell without words of a sample is not sampled
+unmarked : (b word at : ℕ) → ((b ≡ 0 → ⊥) → word / 256 ≡ at + 9) → word ≡ 0 → b ≡ 0
+unmarked zero word at h e = refl
+unmarked (suc b) word at h e = absurd (omega (arith, h (λ z. absurd (omega arith)), e))
+
+returns : tie.Need-returns
+returns c =
+    let s = c .before .before in (
+      (le-refl 0, zero-le),
+      without-grid (sampled (bytes s) (k s)) (size s) (cellAt (bytes s) (k s)) (bytes s)
+          (unmarked (sampled (bytes s) (k s)) _ _ (entry s .place) (c .if1 .taken)),
+    )
+
+-- a sampled cell
+module _ (c : tie.Else1) where
+  abbrev s : tie.Start
+  s = c .before .before
+
+  marked : sampled (bytes s) (k s) ≡ 0 → ⊥
+  marked z = c .if1 .left (entry s .unsampled z)
+
+  lies : cellAt (bytes s) (k s) + (9 + size s) ≤ length (bytes s)
+  lies = grid-lies (bytes s) (is-whole s) (k s) (inside s) marked
+
+  place : placeIn (index s) (k s) ≡ cellAt (bytes s) (k s) + 9
+  place = entry s .place marked
+
+cast-first : tie.Need-cast-first
+cast-first c = let e = c .before in omega (arith, place e, lies e, is-whole (s e) .size)
+
+add-t6 : tie.Need-add-t6
+add-t6 c =
+    let e = c .before .before in
+    omega (arith, place e, lies e, is-whole (s e) .size, f (s e) .grid-size)
+
+returns-2 : tie.Need-returns-2
+returns-2 c =
+    let e = c .before .before in
+    let x = s e in
+    let at = placeIn (index x) (k x) in
+    let length : at + x .args .f .«grid_size» - at ≡ size x = omega (arith, f x .grid-size) in (
+      (omega arith, omega (arith, place e, lies e, f x .grid-size)),
+      ap₂ (λ (n at : ℕ). take n (drop at (bytes x))) length (place e)
+          ∙ with-grid (sampled (bytes x) (k x)) (size x) (cellAt (bytes x) (k x)) (bytes x) (marked e),
+    )
+
+pub grid-part-spec : {M : Type 1} → statement M
+grid-part-spec =
+    tie.close (tie.spec (λ c. search needs) (λ c. search needs) (λ c. search needs) (λ c. search needs) returns (λ c. search needs) (λ c. search needs)
+    (λ c. search needs) (λ c. search needs) cast-first add-t6 returns-2)

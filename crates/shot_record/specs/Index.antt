@@ -1,0 +1,68 @@
+-- The index of a record's cells: three words of 32 bits for each of the first 256. The first has the cell's point, u in its low half and v in its high
+-- half, each in two's complement; the second the pattern of the fraction; the third 256 times the place of the grid, plus the threshold. An unsampled
+-- cell has 0 in the second and the third.
+use mathlib.Core.Path.{_≡_}
+use mathlib.Core.Bool.{true}
+use mathlib.Core.List.{List, [], _∷_}
+use Prim.Native.Nat.{ℕ, zero, suc, _+_, _*_, _/_, _%_, _<_}
+use lib.ListN.{getD, set}
+use lib.IntN.{ℤ}
+use mir.Syntax.{w16}
+use mir.Val.{toZ}
+use Rattle.score_matrix.specs.declared.BorderSample.{BorderSample}
+use Rattle.score_matrix.specs.declared.BorderSample.the-variants as border
+use Rattle.shot_record.specs.declared.fields.Fields.{Fields}
+use Rattle.shot_record.specs.Fields.{byte, number, fieldsOf, cellCount, sampled, cellAt}
+use Rattle.shot_record.specs.Shots.{setting, cellOf, wholeRecord}
+use Rattle.shot_record.specs.Answers.{ofPattern, borderWith, thresholdWith}
+
+-- the words of a cell, from its first byte on
+abbrev pub wordsFrom : ℕ → ℕ → List ℕ → List ℕ
+wordsFrom zero at bytes = number 4 at bytes ∷ 0 ∷ 0 ∷ []
+wordsFrom (suc b) at bytes = number 4 at bytes ∷ number 4 (at + 4) bytes ∷ ((at + 9) * 256 + byte (at + 8) bytes) ∷ []
+
+-- an index with the words of cell k
+abbrev pub withWords : List ℕ → ℕ → List ℕ → List ℕ
+withWords index k words = set (set (set index (3 * k) (getD words 0 0)) (3 * k + 1) (getD words 1 0)) (3 * k + 2) (getD words 2 0)
+
+-- what an index has for cell k
+abbrev pub pointIn : List ℕ → ℕ → ℕ
+pointIn index k = getD index (3 * k) 0
+
+abbrev pub fractionIn : List ℕ → ℕ → ℕ
+fractionIn index k = getD index (3 * k + 1) 0
+
+abbrev pub gridIn : List ℕ → ℕ → ℕ
+gridIn index k = getD index (3 * k + 2) 0
+
+abbrev pub uIn : List ℕ → ℕ → ℤ
+uIn index k = toZ w16 (pointIn index k % 65536)
+
+abbrev pub vIn : List ℕ → ℕ → ℤ
+vIn index k = toZ w16 (pointIn index k / 65536 % 65536)
+
+abbrev pub borderIn : List ℕ → ℕ → BorderSample
+borderIn index k = setting (gridIn index k) (border.BlackFraction (ofPattern (fractionIn index k))) border.Unsampled
+
+abbrev pub thresholdIn : List ℕ → ℕ → ℕ
+thresholdIn index k = gridIn index k % 256
+
+abbrev pub placeIn : List ℕ → ℕ → ℕ
+placeIn index k = gridIn index k / 256
+
+-- it has what cell k holds, and where the cell's grid is
+pub record Entry (bytes index : List ℕ) (k : ℕ) : Type 0 where
+  pub u : uIn index k ≡ cellOf bytes k .u
+  pub v : vIn index k ≡ cellOf bytes k .v
+  pub border : borderIn index k ≡ borderWith (cellOf bytes k .sample)
+  pub threshold : thresholdIn index k ≡ thresholdWith (cellOf bytes k .sample)
+  pub unsampled : sampled bytes k ≡ 0 → gridIn index k ≡ 0
+  pub place : (sampled bytes k ≡ 0 → ⊥) → placeIn index k ≡ cellAt bytes k + 9
+
+-- the index of a record
+abbrev pub Index : List ℕ → List ℕ → Type 0
+Index bytes index = (k : ℕ) → k < cellCount bytes → k < 256 → Entry bytes index k
+
+-- what a match finds once, in a record that question 21 lets pass: its fields, and the index of its cells
+abbrev pub Indexed : List ℕ → Fields → List ℕ → Type 0
+Indexed bytes f index = (f ≡ fieldsOf bytes) × Index bytes index × (wholeRecord bytes ≡ true)

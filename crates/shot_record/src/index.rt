@@ -1,0 +1,116 @@
+// The index of the cells: each cell is read once, in one pass over the record, and a match looks it up here. Grids stay in the record.
+ghost use mathlib.Core.Path.{_≡_};
+ghost use mathlib.Core.Bool.{true};
+ghost use Prim.Native.Nat.{_+_, _-_, _≤_, _<_};
+ghost use lib.ListN.{length, take, drop};
+ghost use Rattle.shot_record.specs.Fields.{fieldsOf};
+ghost use Rattle.shot_record.specs.Shots.{wholeRecord, cellOf};
+ghost use Rattle.shot_record.specs.Answers.{gridWith};
+ghost use Rattle.shot_record.specs.Index.{wordsFrom, withWords, uIn, vIn, borderIn, thresholdIn, Index, Indexed};
+use super::cells;
+use super::cells::Part;
+use super::fields::Fields;
+use super::numbers;
+use score_matrix::BorderSample;
+
+// The words of the cell that starts at a place.
+fn words(bytes: &[u8], start: usize, is_sampled: usize) -> [u32; 3]
+    requires { ⌜ start ≤ 65535 ⌝ }
+    ensures { λ r. ⌜ r ≡ wordsFrom «is_sampled» start (now (bytes .entry)) ⌝ }
+{
+    let point = numbers::four_at(bytes, start);
+    if is_sampled == 0 {
+        return [point, 0, 0];
+    }
+    let place = (start + 9) as u32;
+    [
+        point,
+        numbers::four_at(bytes, start + 4),
+        place * 256 + numbers::byte_at(bytes, start + 8) as u32,
+    ]
+}
+
+// Puts the words of cell k.
+fn put(index: &mut [u32; 768], k: usize, words: &[u32; 3])
+    requires { ⌜ (k < 256) × (length (now index) ≡ 768) ⌝ }
+    ensures { λ _. ⌜ now (index .exit) ≡ withWords (now (index .entry)) k (now (words .entry)) ⌝ }
+{
+    index[3 * k] = words[0];
+    index[3 * k + 1] = words[1];
+    index[3 * k + 2] = words[2];
+}
+
+// For the first 256 cells of a record that question 21 let pass.
+pub fn fill(index: &mut [u32; 768], bytes: &[u8], f: Fields)
+    requires { ⌜ (f ≡ fieldsOf (now bytes)) × (wholeRecord (now bytes) ≡ true) × (length (now index) ≡ 768) ⌝ }
+    ensures { λ _. ⌜ Index (now (bytes .entry)) (now (index .exit)) ⌝ }
+{
+    let count = numbers::at_most(f.cell_count, 256);
+    let mut start = f.cells_at;
+    let mut k = 0;
+    while k < count {
+        let words = words(bytes, start, cells::sampled(bytes, f, k));
+        put(index, k, &words);
+        start = cells::next_start(bytes, f, k, start);
+        k += 1;
+    }
+}
+
+pub fn u(index: &[u32; 768], k: usize) -> i16
+    requires { ⌜ k < 256 ⌝ }
+    ensures { λ r. ⌜ r ≡ uIn (now (index .entry)) k ⌝ }
+{
+    numbers::coordinate(index[3 * k] % 0x1_0000)
+}
+
+pub fn v(index: &[u32; 768], k: usize) -> i16
+    requires { ⌜ k < 256 ⌝ }
+    ensures { λ r. ⌜ r ≡ vIn (now (index .entry)) k ⌝ }
+{
+    numbers::coordinate(index[3 * k] / 0x1_0000 % 0x1_0000)
+}
+
+pub fn border(index: &[u32; 768], k: usize) -> BorderSample
+    requires { ⌜ k < 256 ⌝ }
+    ensures { λ r. ⌜ r ≡ borderIn (now (index .entry)) k ⌝ }
+{
+    if index[3 * k + 2] == 0 {
+        return BorderSample::Unsampled;
+    }
+    BorderSample::BlackFraction(floats::from_bits(index[3 * k + 1]))
+}
+
+// 0 for an unsampled cell.
+pub fn threshold(index: &[u32; 768], k: usize) -> u8
+    requires { ⌜ k < 256 ⌝ }
+    ensures { λ r. ⌜ r ≡ thresholdIn (now (index .entry)) k ⌝ }
+{
+    (index[3 * k + 2] % 256) as u8
+}
+
+// Where in the record the grid of cell k is: no bytes for an unsampled cell.
+fn grid_part(bytes: &[u8], f: Fields, index: &[u32; 768], k: usize) -> Part
+    requires { ⌜ Indexed (now bytes) f (now index) × (k < f .«cell_count») × (k < 256) ⌝ }
+    ensures lies { λ r. do ⌜ (r .first ≤ r .end) × (r .end ≤ (← ⟦bytes.len()⟧ .entry)) ⌝ }
+    ensures holds { λ r. ⌜ take (r .end - r .first) (drop (r .first) (now (bytes .entry))) ≡ gridWith (cellOf (now (bytes .entry)) k .sample) ⌝ }
+{
+    if index[3 * k + 2] == 0 {
+        return Part { first: 0, end: 0 };
+    }
+    let first = (index[3 * k + 2] / 256) as usize;
+    Part {
+        first,
+        end: first + f.grid_size,
+    }
+}
+
+// That grid.
+pub fn grid<'a>(bytes: &'a [u8], f: Fields, index: &[u32; 768], k: usize) -> &'a [u8]
+    requires { ⌜ Indexed (now bytes) f (now index) × (k < f .«cell_count») × (k < 256) ⌝ }
+    ensures { λ r. ⌜ now r ≡ gridWith (cellOf (now (bytes .entry)) k .sample) ⌝ }
+{
+    let part = grid_part(bytes, f, index, k);
+    let first = part.first;
+    let end = part.end;
+    &bytes[first..end]
+}

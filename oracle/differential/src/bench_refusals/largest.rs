@@ -1,0 +1,213 @@
+//! For each number the largest record that the question refuses and all before it let pass.
+//!
+//! Nothing bounds the number of cells before question 12. So all records up to there but that for 11 have the most bytes that
+//! question 21 allows. They are filled up with cells that are not sampled: these have the fewest bytes, and question 21 goes
+//! over all of them. Settings and a table are given, and codes as far as they are read, since each takes longer than the
+//! cells that have as many bytes.
+
+use cases::cells::Cell as Grid;
+use cases::codes::random_code;
+use cases::prng::Prng;
+use matches::MOST_PLACES;
+use matches::given::Given;
+use records::{Cell, LONGEST, Sample, Shot, TABLE_LENGTH, UNSAMPLED, write};
+
+pub struct Asked {
+    pub number: u32,
+    /// What the question refuses.
+    pub what: &'static str,
+    pub cells: usize,
+    pub given: Given,
+}
+
+impl Asked {
+    /// With a list that has a place for each of the most cells.
+    fn new(number: u32, what: &'static str, shot: &Shot) -> Self {
+        Self {
+            number,
+            what,
+            cells: shot.cells.len(),
+            given: Given {
+                record: write(shot).bytes,
+                places: MOST_PLACES,
+            },
+        }
+    }
+}
+
+/// In the order of the questions, then a match.
+pub fn asked() -> Vec<Asked> {
+    let up_to_10 = FAULTS.map(|(number, what, codes, fault)| {
+        let mut shot = without_cells(codes);
+        fault(&mut shot);
+        Asked::new(number, what, &filled_up(shot, LONGEST))
+    });
+    let mut all = vec![a_byte_more()];
+    all.extend(up_to_10);
+    all.extend([no_cell(), too_many_cells()]);
+    all.extend(from_13());
+    all.extend(largest_searches());
+    all
+}
+
+/// The map byte of a record that gives every setting and the table.
+const ALL: u8 = 15;
+
+/// The most codes that question 6 lets pass. Question 8 goes over all of them.
+const MOST_CODES: usize = 1024;
+
+/// The most codes that markers have. No question before 8 reads more.
+const MARKER_CODES: usize = 512;
+
+const MOST_CELLS: usize = 256;
+
+/// Bytes of a sample besides its grid: fraction and threshold.
+const SAMPLE: usize = 5;
+
+fn without_cells(codes: usize) -> Shot {
+    Shot {
+        map: ALL,
+        rows: 32,
+        cols: 32,
+        codes: vec![1; codes],
+        ..Shot::default()
+    }
+}
+
+/// A cell at the origin that is sampled.
+fn sampled(shot: &Shot) -> Cell {
+    let grid = vec![0; shot.greys()];
+    Cell {
+        sample: Some(Sample::new(1.0, 128, grid)),
+        ..UNSAMPLED
+    }
+}
+
+/// The shot with so many cells that its record has just so many bytes. Eight that are not sampled have 33; the few that
+/// have to be sampled come first.
+fn filled_up(mut shot: Shot, length: usize) -> Shot {
+    let room = length - write(&shot).bytes.len();
+    let counts = (0..).map(|sampled| {
+        let room = room - sampled * (SAMPLE + shot.greys());
+        (sampled, room, room * 8 / 33)
+    });
+    let mut fitting = counts.filter(|(_, room, cells)| 4 * cells + cells.div_ceil(8) == *room);
+    let (few, _, cells) = fitting.next().expect("every length can be had");
+    shot.cells = vec![sampled(&shot); few];
+    shot.cells.resize(cells, UNSAMPLED);
+    shot
+}
+
+/// Found where the last cell ends.
+fn a_byte_more() -> Asked {
+    let shot = filled_up(without_cells(MARKER_CODES), LONGEST - 1);
+    let mut asked = Asked::new(21, "a byte after the last cell", &shot);
+    asked.given.record.push(0);
+    asked
+}
+
+/// Number, what is refused, how many codes there are, and the fault of the shot.
+type Fault = (u32, &'static str, usize, fn(&mut Shot));
+
+/// Where a question goes over many values, the last one is wrong.
+const FAULTS: [Fault; 10] = [
+    (1, "one column", MARKER_CODES, |shot| shot.cols = 1),
+    (2, "cell_size NaN", MARKER_CODES, |shot| {
+        shot.cell_size = f32::NAN.to_bits();
+    }),
+    (3, "marker_size_rel NaN", MARKER_CODES, |shot| {
+        shot.marker_size_rel = f32::NAN.to_bits();
+    }),
+    (4, "border 0", MARKER_CODES, |shot| shot.border = 0),
+    (5, "no code", 0, |_| ()),
+    (6, "33 columns", MARKER_CODES, |shot| shot.cols = 33),
+    (7, "a code too few", MARKER_CODES - 1, |_| ()),
+    (8, "the last code too large", MOST_CODES, |shot| {
+        shot.codes[MOST_CODES - 1] = 1 << (shot.bits * shot.bits);
+    }),
+    (9, "px_per_square NaN", MOST_CODES, |shot| {
+        shot.px_per_square = f32::NAN.to_bits();
+    }),
+    (10, "the last table entry above 0", MOST_CODES, |shot| {
+        shot.table[TABLE_LENGTH - 1] = 1.0f32.to_bits();
+    }),
+];
+
+/// Only cells could make it longer, as question 6 bounds the codes.
+fn no_cell() -> Asked {
+    Asked::new(11, "no cell", &without_cells(MOST_CODES))
+}
+
+/// The count is refused at once. That takes longer all the same than 256 cells of which the last lies too far off, since
+/// question 21 goes over more of them.
+fn too_many_cells() -> Asked {
+    let shot = filled_up(without_cells(MOST_CODES), LONGEST);
+    Asked::new(12, "more than 256 cells", &shot)
+}
+
+/// 256 cells, with grids of 16 by 16 greys, by which the record still has the most bytes. As many are sampled as there is
+/// room for, and they are the last.
+fn most_cells() -> Shot {
+    let mut shot = without_cells(0);
+    [shot.bits, shot.border] = [8, 4];
+    shot.cells = vec![UNSAMPLED; MOST_CELLS];
+    let room = LONGEST - write(&shot).bytes.len();
+    let bytes = SAMPLE + shot.greys();
+    let mut counts = (MARKER_CODES..=MOST_CODES).rev();
+    let codes = counts.find(|codes| (room - 8 * codes).is_multiple_of(bytes));
+    let codes = codes.expect("some number of codes leaves whole cells");
+    shot.codes = vec![1; codes];
+    let cell = sampled(&shot);
+    shot.cells[MOST_CELLS - (room - 8 * codes) / bytes..].fill(cell);
+    shot
+}
+
+/// 13 to 15.
+fn from_13() -> [Asked; 3] {
+    const LAST: usize = MOST_CELLS - 1;
+    let shot = most_cells();
+    let mut odd = shot.clone();
+    if let Some(sample) = odd.samples_mut().last() {
+        sample.fraction = f32::NAN.to_bits();
+    }
+    let mut short = Asked::new(14, "a list that is a word too short", &shot);
+    short.given.places -= 1;
+    let mut wide = shot;
+    wide.cells[LAST].u = 32;
+    [
+        Asked::new(13, "the last fraction NaN", &odd),
+        short,
+        Asked::new(15, "cells in 33 columns", &wide),
+    ]
+}
+
+/// 16, 17 and a match: 256 cells of 8 by 8 bits at one point, which have 4,096 placements. No larger record has as much to
+/// search: with a border of 4 the grids alone would have 65,536 bytes.
+fn largest_searches() -> [Asked; 3] {
+    let mut prng = Prng::new(17);
+    let size = [8, 3];
+    let mut placed = without_cells(0);
+    [placed.bits, placed.border] = size;
+    placed.codes = prng.many(MOST_CODES, |prng| random_code(prng, 8));
+    let code = placed.codes[0];
+    placed.cells = prng.many(MOST_CELLS, |prng| {
+        let Grid {
+            threshold, grid, ..
+        } = Grid::showing(prng, size, code);
+        Cell {
+            sample: Some(Sample::new(1.0, threshold, grid)),
+            ..UNSAMPLED
+        }
+    });
+    let mut narrow = placed.clone();
+    narrow.minimum_margin = f32::MAX.to_bits();
+    // No evidence is above 0 by this table, so that the margin is 0 and no cell emits a marker, though all of them count.
+    let mut none = placed.clone();
+    none.minimum_margin = 0.0f32.to_bits();
+    none.table = [(-1.0f32).to_bits(); TABLE_LENGTH];
+    [
+        Asked::new(16, "a minimum above every margin", &narrow),
+        Asked::new(17, "no evidence above 0", &none),
+        Asked::new(0, "none: the board is placed", &placed),
+    ]
+}
