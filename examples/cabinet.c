@@ -126,10 +126,11 @@ static void corners_and_links(const uint32_t *header, const uint32_t *match)
     uint32_t values[CHARUCO_REFUSAL_WORDS];
     const uint32_t rows = header[CHARUCO_HEADER_ROWS], cols = header[CHARUCO_HEADER_COLS];
     const uint32_t bits = header[CHARUCO_HEADER_BITS], border = header[CHARUCO_HEADER_BORDER];
+    const uint32_t legacy = header[CHARUCO_HEADER_LEGACY_PATTERN];
     const float cell_size = float_of(header[CHARUCO_HEADER_CELL_SIZE]), marker_size_rel = float_of(header[CHARUCO_HEADER_MARKER_SIZE_REL]);
     const size_t n_codes = header[CHARUCO_HEADER_CODES], n_scores = (size_t)4 * header[CHARUCO_HEADER_CELLS];
-    uint32_t number = charuco_map_charuco_corners(rows, cols, bits, border, cell_size, marker_size_rel, codes, n_codes, scores, n_scores, grid,
-                                                  n_scores * CHARUCO_GRID_POINT_WORDS, match[CHARUCO_CORNERS_TURN],
+    uint32_t number = charuco_map_charuco_corners(rows, cols, bits, border, legacy, cell_size, marker_size_rel, codes, n_codes, scores,
+                                                  n_scores, grid, n_scores * CHARUCO_GRID_POINT_WORDS, match[CHARUCO_CORNERS_TURN],
                                                   signed_of(match[CHARUCO_CORNERS_TX]), signed_of(match[CHARUCO_CORNERS_TY]), corners,
                                                   LENGTH(corners), values, LENGTH(values));
     if (number != CHARUCO_OK) {
@@ -145,7 +146,7 @@ static void corners_and_links(const uint32_t *header, const uint32_t *match)
                float_of(corner[CHARUCO_CORNER_TARGET_X]), float_of(corner[CHARUCO_CORNER_TARGET_Y]));
     }
     size_t n_links = make_links(match[CHARUCO_MATCH_MARKERS], n_corners);
-    number = charuco_validate_marker_corner_links(rows, cols, bits, border, cell_size, marker_size_rel, codes, n_codes, links, n_links,
+    number = charuco_validate_marker_corner_links(rows, cols, bits, border, legacy, cell_size, marker_size_rel, codes, n_codes, links, n_links,
                                                   CHARUCO_MUST_MATCH_ALL_4, violations, LENGTH(violations), values, LENGTH(values));
     if (number != CHARUCO_OK)
         print_refusal(number, values);

@@ -47,8 +47,8 @@ int main(void)
     memcpy(sizes, header + CHARUCO_HEADER_CELL_SIZE, sizeof sizes);
     memcpy(translation, match + CHARUCO_CORNERS_TX, sizeof translation);
     number = charuco_map_charuco_corners(header[CHARUCO_HEADER_ROWS], header[CHARUCO_HEADER_COLS], header[CHARUCO_HEADER_BITS],
-                                         header[CHARUCO_HEADER_BORDER], sizes[0], sizes[1], codes, header[CHARUCO_HEADER_CODES], scores, n, grid,
-                                         n * CHARUCO_GRID_POINT_WORDS, match[CHARUCO_CORNERS_TURN], translation[0], translation[1], corners,
+                                         header[CHARUCO_HEADER_BORDER], header[CHARUCO_HEADER_LEGACY_PATTERN], sizes[0], sizes[1], codes,
+                                         header[CHARUCO_HEADER_CODES], scores, n, grid, n * CHARUCO_GRID_POINT_WORDS, match[CHARUCO_CORNERS_TURN], translation[0], translation[1], corners,
                                          sizeof corners / 4, values, CHARUCO_REFUSAL_WORDS);
     if (number != CHARUCO_OK)
         return told("refused", number, 1);

@@ -174,9 +174,9 @@ ASK(3, cell, record, record_length, CHARUCO_MAX_CELLS - 1, a->cell, LENGTH(a->ce
 ASK(4, grid, record, record_length, CHARUCO_MAX_CELLS - 1, a->part, LENGTH(a->part))
 ASK(5, build_marker_cells, scores, LENGTH(scores), grid, LENGTH(grid), inliers, LENGTH(inliers), a->cells, LENGTH(a->cells), &a->counts[0], 1)
 ASK(6, match_board, record, record_length, a->markers, LENGTH(a->markers), a->match, LENGTH(a->match))
-ASK(7, map_charuco_corners, SIDE, SIDE, BITS, BORDER, 1.0f, 0.75f, codes, LENGTH(codes), scores, LENGTH(scores), grid, LENGTH(grid), 0, 1, 1,
+ASK(7, map_charuco_corners, SIDE, SIDE, BITS, BORDER, 0, 1.0f, 0.75f, codes, LENGTH(codes), scores, LENGTH(scores), grid, LENGTH(grid), 0, 1, 1,
     a->corners, LENGTH(a->corners), &a->counts[1], 1)
-ASK(8, validate_marker_corner_links, SIDE, SIDE, BITS, BORDER, 1.0f, 0.75f, codes, LENGTH(codes), links, LENGTH(links),
+ASK(8, validate_marker_corner_links, SIDE, SIDE, BITS, BORDER, 0, 1.0f, 0.75f, codes, LENGTH(codes), links, LENGTH(links),
     CHARUCO_MUST_MATCH_ALL_4, a->violations, LENGTH(a->violations), &a->counts[2], 1)
 
 static const struct {

@@ -23,10 +23,12 @@
  *   Signed words are in two's complement. A float is told by its bits; every NaN is 7FC00000. Copy a word by memcpy into an int32_t or a float.
  *
  * The board
- *   Square (i, j) is that of column i, counted rightward, and row j, counted downward, both from 0. Squares with i + j odd hold markers; their
- *   ids count from 0 row by row, and marker k shows code k of the dictionary. Board corner (i, j) is the top left corner of square (i, j). It
- *   is an inner corner if 1 <= i < cols and 1 <= j < rows; then its id is (j - 1) * (cols - 1) + i - 1, and its target, the point on the
- *   printed board, is (i * cell_size, j * cell_size).
+ *   Square (i, j) is that of column i, counted rightward, and row j, counted downward, both from 0. Squares with i + j odd hold markers, or on a
+ *   legacy board with an even row count those with i + j even; their ids count from 0 row by row, and marker k shows code k of the dictionary.
+ *   A legacy board is one from before OpenCV 4.6 (OpenCV's setLegacyPattern): with an even row count it begins with a white square at the top
+ *   left, with an odd one it is as any other. Bit 4 of a record's map byte marks it, and so does a legacy_pattern that is not 0.
+ *   Board corner (i, j) is the top left corner of square (i, j). It is an inner corner if 1 <= i < cols and 1 <= j < rows; then its id is
+ *   (j - 1) * (cols - 1) + i - 1, on every board, and its target, the point on the printed board, is (i * cell_size, j * cell_size).
  *   A code of side `bits` has its bit y * bits + x in column x and row y. A set bit is black.
  *
  * Grid points and cells
@@ -47,7 +49,7 @@
  * The shot record
  *   At most 65,535 bytes; read one byte more of a file, so that a longer one is refused 21 and not cut. Numbers are little-endian, floats have
  *   32 bits. The fields follow each other with no gap, and the last one ends the record. Each line: how many bytes, and what they are.
- *     1               the map byte: its bits 0 to 3 say which of the next four fields are there; its bits 4 to 7 are 0
+ *     1               the map byte: its bits 0 to 3 say which of the next four fields are there, bit 4 marks a legacy board; its bits 5 to 7 are 0
  *     4, if bit 0     the minimum margin: a match with a margin below it is refused 16; 0.05 if it is left out
  *     4, if bit 1     the border threshold: a sampled cell has the weight fraction / border threshold, at most 1, and the weight 1 if the border
  *                     threshold is not above 0; 0.5 if it is left out
@@ -147,7 +149,7 @@ enum {
 };
 
 /* Words in `values`. */
-#define CHARUCO_HEADER_WORDS 12
+#define CHARUCO_HEADER_WORDS 13
 #define CHARUCO_TABLE_ENTRY_WORDS 2
 #define CHARUCO_CODE_WORDS 3
 #define CHARUCO_CELL_WORDS 5
@@ -185,13 +187,13 @@ enum {
  * arguments. They are the frames of the compiled functions, and examples/small_stack.c measures them. What memcpy and memset take
  * beyond a return address is not in them, nor is what a dynamic linker takes that looks these up at their first call.
  */
-#define CHARUCO_STACK_READ_HEADER 392
+#define CHARUCO_STACK_READ_HEADER 424
 #define CHARUCO_STACK_TABLE_ENTRY 2248
 #define CHARUCO_STACK_CODE 184
 #define CHARUCO_STACK_CELL 216
-#define CHARUCO_STACK_GRID 472
+#define CHARUCO_STACK_GRID 504
 #define CHARUCO_STACK_BUILD_MARKER_CELLS 30808
-#define CHARUCO_STACK_MATCH_BOARD 16200
+#define CHARUCO_STACK_MATCH_BOARD 16184
 #define CHARUCO_STACK_MAP_CHARUCO_CORNERS 2232
 #define CHARUCO_STACK_VALIDATE_MARKER_CORNER_LINKS 32920
 
@@ -216,7 +218,8 @@ enum charuco_header_word {
     CHARUCO_HEADER_CELL_SIZE = 8,         /* its bits */
     CHARUCO_HEADER_MARKER_SIZE_REL = 9,   /* its bits */
     CHARUCO_HEADER_CODES = 10,            /* how many codes, at most CHARUCO_MAX_RECORD_CODES */
-    CHARUCO_HEADER_CELLS = 11             /* how many cells, at most CHARUCO_MAX_RECORD_CELLS */
+    CHARUCO_HEADER_CELLS = 11,            /* how many cells, at most CHARUCO_MAX_RECORD_CELLS */
+    CHARUCO_HEADER_LEGACY_PATTERN = 12    /* 1 for a legacy board, else 0: bit 4 of the map byte */
 };
 
 /* Entry k, 0 to 510, of the record's likelihood table or of the built-in one. 0: 1 if there is such an entry, else 0; 1: its bits, or 0. */
@@ -329,6 +332,7 @@ enum charuco_marker_word {
 /*
  * The corner entry: which inner corner of the board each corner is, per id the one with the greatest score, the earlier on a tie. Corners
  * without a grid point and those that are no inner corner are passed over. Asks 1 to 8, 18, 14.
+ * legacy_pattern: 0 is no mark, every other number marks a legacy board (see "The board"); corner ids are the same for both.
  * codes: the dictionary, code k of marker k. scores, grid: as in the cells entry. turn, tx, ty: the alignment of the corners, words 13 to 15 of
  * a match, not the best placement's, which is that of cells.
  * corners, lent: by rising id the words of enum charuco_corner_word for each corner. 14 asks for (rows - 1) * (cols - 1) * CHARUCO_CORNER_WORDS
@@ -336,7 +340,7 @@ enum charuco_marker_word {
  * values: 0 how many corners were mapped.
  */
 uint32_t charuco_map_charuco_corners(uint32_t rows, uint32_t cols, uint32_t bits, uint32_t border_bits,
-                                     float cell_size, float marker_size_rel,
+                                     uint32_t legacy_pattern, float cell_size, float marker_size_rel,
                                      const uint64_t *codes, size_t codes_len,
                                      const float *scores, size_t scores_len,
                                      const int32_t *grid, size_t grid_len,
@@ -364,7 +368,7 @@ enum charuco_corner_word {
  * values: 0 how many violations there are.
  */
 uint32_t charuco_validate_marker_corner_links(uint32_t rows, uint32_t cols, uint32_t bits, uint32_t border_bits,
-                                              float cell_size, float marker_size_rel,
+                                              uint32_t legacy_pattern, float cell_size, float marker_size_rel,
                                               const uint64_t *codes, size_t codes_len,
                                               const uint32_t *links, size_t links_len,
                                               uint32_t mode,

@@ -1,4 +1,4 @@
-"""What `place` should print for a shot record: a plain model of Match, written from document 01.
+"""What `place` should print for a shot record: a plain model of Match, written from documents 01 and 02.
 
 usage: python3 check_samples.py              hold every sheet's model against its stored text and truth.tsv
        python3 check_samples.py --write      store the texts
@@ -58,7 +58,8 @@ class Shot:
         ask(21, len(data) <= 65535)
         self.data, self.at = data, 0
         given = self.take("B")
-        ask(21, given < 16)
+        ask(21, given < 32)
+        self.legacy = bool(given & 16)
         self.minimum = self.take("f") if given & 1 else f32(0.05)
         self.border_threshold = self.take("f") if given & 2 else f32(0.5)
         self.px_per_square = self.take("f") if given & 4 else f32(60)
@@ -93,7 +94,8 @@ class Shot:
 class Match:
     def __init__(self, shot):
         self.shot = shot
-        self.squares = [(i, j) for j in range(shot.rows) for i in range(shot.cols) if (i + j) % 2 == 1]
+        parity = 0 if shot.legacy and shot.rows % 2 == 0 else 1
+        self.squares = [(i, j) for j in range(shot.rows) for i in range(shot.cols) if (i + j) % 2 == parity]
         self.questions()
         self.ids = {square: id for id, square in enumerate(self.squares)}
         self.null = f32(shot.bits ** 2) * -LN_2
@@ -255,7 +257,17 @@ def truth_rows():
 def without_table(data):
     """The record with the built-in table in place of its own."""
     start = 1 + 4 * bin(data[0] & 7).count("1")
-    return bytes([data[0] & 7]) + data[1:start] + data[start + 4 * 511:]
+    return bytes([data[0] & ~8]) + data[1:start] + data[start + 4 * 511:]
+
+
+def without_mark(data):
+    """The record without the mark of a legacy board."""
+    return bytes([data[0] & ~16]) + data[1:]
+
+
+def placement(text):
+    """Turn, tx and ty of the line `best`, or None for a refusal."""
+    return tuple(int(number) for number in text.splitlines()[1].split()[1:4]) if text.startswith("placed") else None
 
 
 def faults(name, truth, known_wrong):
@@ -266,7 +278,7 @@ def faults(name, truth, known_wrong):
         yield "not the stored text"
     if not (HERE / f"{name}.png").exists():
         yield "no picture"
-    placed = tuple(int(number) for number in text.splitlines()[1].split()[1:4]) if text.startswith("placed") else None
+    placed = placement(text)
     if known_wrong:
         if placed is None or placed == truth:
             yield f"placed {placed}, and wrongly was expected: drawn {truth}"
@@ -276,6 +288,8 @@ def faults(name, truth, known_wrong):
         yield f"placed {placed}, drawn {truth}"
     if data[0] & 8 and model(without_table(data)) == text:
         yield "its own table changes nothing"
+    if data[0] & 16 and placement(model(without_mark(data))) == truth:
+        yield "without its mark it is placed the same"
 
 
 def check():

@@ -5,7 +5,7 @@ usage: python3 make_samples.py [--full] [directory]
 The sheets go to the given directory, or to the one of this file, each with a small picture, and `truth.tsv`: the
 placement that each picture was taken with. With --full the pictures that were sampled go there too, as NAME-full.png.
 All noise comes from fixed seeds, so a second run writes the same bytes. Nothing here comes from the library: boards,
-markers and codes are OpenCV's, the record is written from document 01.
+markers and codes are OpenCV's, the record is written from documents 01 and 02.
 """
 
 import math
@@ -15,83 +15,16 @@ from fractions import Fraction
 from pathlib import Path
 from typing import NamedTuple
 
-try:
-    import cv2
-    import numpy as np
-except ImportError as error:
-    sys.exit(f"{error}: this needs Debian's python3 with python3-opencv")
+sys.dont_write_bytecode = True  # no __pycache__ beside the sources
 
-if not hasattr(getattr(cv2, "aruco", None), "CharucoBoard_create"):
-    sys.exit(f"OpenCV {cv2.__version__} has no aruco.CharucoBoard_create (Debian's 4.6.0 has)")
+from boards import (BORDER, LANE, MARKER_REL, OLD, OTHER, ROOM, SQUARE_PX, WALL,
+                    Board, cv2, np, printed, tiles)
 
 WIDTH, HEIGHT = 640, 480        # of the picture
-SQUARE_PX = 96                  # of a square in the drawing: 12 pixels a module of a 4 x 4 marker, 9 of a 6 x 6 one
-MARKER_REL = 0.75
-BORDER = 1
-INK, PAPER, ROOM = 28.0, 205.0, 110.0
 RIM_PX = 10                     # a cell with a corner nearer to the picture's rim is not sampled
 
 # Quarter turns, document 01: where (u, v) goes
 TURNS = [((1, 0), (0, 1)), ((0, 1), (-1, 0)), ((-1, 0), (0, -1)), ((0, -1), (1, 0))]
-
-
-# ---------------------------------------------------------------- boards
-
-class Board:
-    def __init__(self, cols, rows, dictionary, codes):
-        self.cols, self.rows = cols, rows
-        self.dictionary = cv2.aruco.Dictionary_get(dictionary)
-        self.bits = self.dictionary.markerSize
-        self.side = self.bits + 2 * BORDER
-        self.codes = [self.code(id) for id in range(codes)]
-
-    def marker(self, id):
-        """The marker as OpenCV draws it, one pixel a module: 0 is black."""
-        return cv2.aruco.drawMarker(self.dictionary, id, self.side, borderBits=BORDER)
-
-    def code(self, id):
-        inner = self.marker(id)[BORDER:-BORDER, BORDER:-BORDER]
-        return sum(1 << k for k, grey in enumerate(inner.flatten()) if grey == 0)
-
-    def drawing(self):
-        """OpenCV's picture of the board, held against document 01's layout module by module."""
-        board = cv2.aruco.CharucoBoard_create(self.cols, self.rows, 1.0, MARKER_REL, self.dictionary)
-        picture = board.draw((self.cols * SQUARE_PX, self.rows * SQUARE_PX), marginSize=0, borderBits=BORDER)
-        rim = round(SQUARE_PX * (1 - MARKER_REL) / 2)
-        module = (SQUARE_PX - 2 * rim) // self.side
-        next_id = 0
-        for j in range(self.rows):
-            for i in range(self.cols):
-                square = picture[j * SQUARE_PX:(j + 1) * SQUARE_PX, i * SQUARE_PX:(i + 1) * SQUARE_PX]
-                if (i + j) % 2 == 0:
-                    assert (square == 0).all(), f"square ({i}, {j}) should be plain"
-                    continue
-                seen = square[rim:-rim, rim:-rim][module // 2::module, module // 2::module]
-                assert (square[0] == 255).all(), f"square ({i}, {j}) should have a white rim"
-                assert (seen == self.marker(next_id)).all(), f"square ({i}, {j}) should hold marker {next_id}"
-                next_id += 1
-        return picture
-
-
-LANE = Board(5, 7, cv2.aruco.DICT_4X4_50, 50)
-OTHER = Board(5, 7, cv2.aruco.DICT_5X5_50, 50)
-WALL = Board(12, 9, cv2.aruco.DICT_6X6_100, 100)
-
-
-def printed(board):
-    """The board on its sheet of paper, with one square of room around."""
-    greys = np.where(board.drawing() == 0, INK, PAPER)
-    sheet = cv2.copyMakeBorder(greys, *[SQUARE_PX // 2] * 4, cv2.BORDER_CONSTANT, value=PAPER)
-    return cv2.copyMakeBorder(sheet, *[SQUARE_PX // 2] * 4, cv2.BORDER_CONSTANT, value=ROOM)
-
-
-def tiles(board):
-    """A wall of white tiles in place of the board."""
-    wall = np.full(((board.rows + 2) * SQUARE_PX, (board.cols + 2) * SQUARE_PX), PAPER)
-    for k in range(0, max(wall.shape), SQUARE_PX):
-        wall[max(k - 2, 0):k + 2, :] = 150.0
-        wall[:, max(k - 2, 0):k + 2] = 150.0
-    return wall
 
 
 # ---------------------------------------------------------------- a picture
@@ -241,10 +174,10 @@ def likelihood_table(slope, floor):
 
 
 def record(asked, cells):
-    """The shot record of document 01."""
+    """The shot record of document 01, with document 02's mark of a legacy board."""
     board, *settings, table = asked
-    given = [value is not None for value in (*settings, table)]
-    out = bytes([sum(1 << k for k in range(4) if given[k])])
+    given = [*(value is not None for value in (*settings, table)), board.legacy]
+    out = bytes([sum(1 << k for k in range(5) if given[k])])
     out += b"".join(struct.pack("<f", value) for value in settings if value is not None)
     out += struct.pack("<511f", *table) if table else b""
     out += bytes([board.rows, board.cols, board.bits, BORDER])
@@ -289,6 +222,7 @@ SHOTS = [
                  Light(haze=0.1, blur=7.5)),
     lambda: Shot("table", 11, LANE, View(2, [(201, 66), (441, 43), (462, 421), (187, 434)], (-8, 3)),
                  Light(blur=4.5), Asked(LANE, table=likelihood_table(12.0, -2.0))),
+    lambda: Shot("legacy", 13, OLD, View(3, [(158, 41), (473, 33), (498, 447), (136, 429)], (5, -7))),
 ]
 
 

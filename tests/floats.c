@@ -212,6 +212,7 @@ static void ask(struct answers *a)
 {
     const uint32_t rows = header[CHARUCO_HEADER_ROWS], cols = header[CHARUCO_HEADER_COLS];
     const uint32_t bits = header[CHARUCO_HEADER_BITS], border = header[CHARUCO_HEADER_BORDER];
+    const uint32_t legacy = header[CHARUCO_HEADER_LEGACY_PATTERN];
     size_t n = record_length, n_codes = header[CHARUCO_HEADER_CODES] < LENGTH(codes) ? header[CHARUCO_HEADER_CODES] : LENGTH(codes);
     ASK(0, charuco_match_board(record, n, a->markers, LENGTH(a->markers), a->match, LENGTH(a->match)));
     ASK(1, charuco_read_header(record, n, a->header, LENGTH(a->header)));
@@ -221,9 +222,9 @@ static void ask(struct answers *a)
     ASK(5, charuco_grid(record, n, 0, a->part, LENGTH(a->part)));
     ASK(6, charuco_build_marker_cells(scores, LENGTH(scores), grid, LENGTH(grid), inliers, LENGTH(inliers), a->cells, LENGTH(a->cells),
                                       &a->counts[0], 1));
-    ASK(7, charuco_map_charuco_corners(rows, cols, bits, border, sizes[0], sizes[1], codes, n_codes, scores, LENGTH(scores), grid, LENGTH(grid),
-                                       0, 1, 1, a->corners, LENGTH(a->corners), &a->counts[1], 1));
-    ASK(8, charuco_validate_marker_corner_links(rows, cols, bits, border, sizes[0], sizes[1], codes, n_codes, links, LENGTH(links),
+    ASK(7, charuco_map_charuco_corners(rows, cols, bits, border, legacy, sizes[0], sizes[1], codes, n_codes, scores, LENGTH(scores), grid,
+                                       LENGTH(grid), 0, 1, 1, a->corners, LENGTH(a->corners), &a->counts[1], 1));
+    ASK(8, charuco_validate_marker_corner_links(rows, cols, bits, border, legacy, sizes[0], sizes[1], codes, n_codes, links, LENGTH(links),
                                                 CHARUCO_MUST_MATCH_ALL_4, a->violations, LENGTH(a->violations), &a->counts[2], 1));
 }
 

@@ -139,7 +139,7 @@ static void map_corners(size_t len, const uint32_t *match)
         const float marker_size_rel = word_float(head[CHARUCO_HEADER_MARKER_SIZE_REL]);
         saved = charuco_floats_enter();
         number = charuco_map_charuco_corners(head[CHARUCO_HEADER_ROWS], head[CHARUCO_HEADER_COLS], head[CHARUCO_HEADER_BITS],
-                                             head[CHARUCO_HEADER_BORDER], cell_size, marker_size_rel,
+                                             head[CHARUCO_HEADER_BORDER], head[CHARUCO_HEADER_LEGACY_PATTERN], cell_size, marker_size_rel,
                                              codes, codes_len, scores, count, grid, count * CHARUCO_GRID_POINT_WORDS,
                                              match[CHARUCO_CORNERS_TURN], word_int(match[CHARUCO_CORNERS_TX]),
                                              word_int(match[CHARUCO_CORNERS_TY]),

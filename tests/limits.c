@@ -1,7 +1,7 @@
 /*
  * What the header says of sizes, tried at both sides of each limit: the most codes and cells that a whole record holds, and the most corners
- * that a board has. What it says of lists of corners: which words question 18 looks at, and which corner an id gets. And what it says of two
- * cells with the same (u, v).
+ * that a board has. What it says of lists of corners: which words question 18 looks at, and which corner an id gets. And what it says of the
+ * mark of a legacy board and of two cells with the same (u, v).
  */
 #include <stdio.h>
 #include <stdlib.h>
@@ -46,7 +46,7 @@ static uint32_t map_corners(size_t words, uint32_t *count)
         grid[3 * k + 1] = k % 32;
         grid[3 * k + 2] = k / 32;
     }
-    return charuco_map_charuco_corners(32, 32, 8, 1, 1.0f, 0.5f, codes, 512, scores, CHARUCO_MAX_CORNERS, grid,
+    return charuco_map_charuco_corners(32, 32, 8, 1, 0, 1.0f, 0.5f, codes, 512, scores, CHARUCO_MAX_CORNERS, grid,
                                        CHARUCO_MAX_CORNERS * CHARUCO_GRID_POINT_WORDS, 0, 0, 0, corners, words, count, 1);
 }
 
@@ -61,7 +61,7 @@ static uint32_t map_diagonal(float score, int32_t labelled, int32_t u, int32_t v
     }
     memcpy(grid + 4 * CHARUCO_GRID_POINT_WORDS, last, sizeof last);
     scores[4] = score;
-    return charuco_map_charuco_corners(5, 5, 8, 1, 1.0f, 0.5f, codes, 12, scores, 5, grid, words, 0, 0, 0, corners, 16 * CHARUCO_CORNER_WORDS,
+    return charuco_map_charuco_corners(5, 5, 8, 1, 0, 1.0f, 0.5f, codes, 12, scores, 5, grid, words, 0, 0, 0, corners, 16 * CHARUCO_CORNER_WORDS,
                                        count, CHARUCO_COUNT_WORDS);
 }
 
@@ -80,6 +80,24 @@ static void check_corner_lists(void)
           "of two corners with one score the later one is taken");
     check(map_diagonal(1.0f, 1, 2, 2, all, &count) == 0 && count == 4 && corners[CHARUCO_CORNER_WORDS + CHARUCO_CORNER_INDEX] == 4,
           "the corner with the lesser score is taken");
+}
+
+/* How many violations the link of marker 3 and corner 0 has on a board of 4 rows and 5 columns: without the mark the marker is on square (2, 1), with
+ * it on (1, 1), whose top left corner is corner 0. */
+static uint32_t violations_with(uint32_t legacy_pattern)
+{
+    static const uint32_t link[CHARUCO_LINK_WORDS] = {3, 0};
+    uint32_t violations[CHARUCO_VIOLATIONS_PER_LINK * CHARUCO_VIOLATION_WORDS], count = UINT32_MAX;
+    uint32_t number = charuco_validate_marker_corner_links(4, 5, 8, 1, legacy_pattern, 1.0f, 0.5f, codes, 10, link, CHARUCO_LINK_WORDS,
+                                                           CHARUCO_SUBSET_OK, violations, sizeof violations / 4, &count, 1);
+    check(number == CHARUCO_OK, "links are refused");
+    return count;
+}
+
+static void check_mark(void)
+{
+    check(violations_with(0) == 1, "a legacy pattern of 0 marks the board");
+    check(violations_with(1) == 0 && violations_with(256) == 0 && violations_with(UINT32_MAX) == 0, "a legacy pattern that is not 0 does not mark the board");
 }
 
 /* Document 01's record, with the built-in table and its cell twice: both show marker 0. */
@@ -109,6 +127,7 @@ int main(void)
     check(map_corners(CHARUCO_MAX_BOARD_CORNERS * CHARUCO_CORNER_WORDS - 1, &count) == CHARUCO_LIST_TOO_SHORT, "fewer words are enough");
     check(map_corners(CHARUCO_MAX_BOARD_CORNERS * CHARUCO_CORNER_WORDS, &count) == 0 && count == CHARUCO_MAX_BOARD_CORNERS, "a corner is missing");
     check_corner_lists();
+    check_mark();
     check_same_cells();
     printf("limits: %d codes, %d cells, %d corners\n", CHARUCO_MAX_RECORD_CODES, CHARUCO_MAX_RECORD_CELLS, CHARUCO_MAX_BOARD_CORNERS);
     return 0;

@@ -3,27 +3,33 @@
 usage: python3 compare_layout.py [stored answers]
 
 The stored answers (default: ../../crates/replay/stdin, seen from this file)
-hold, in the lines of kind 11, how many markers a board has and two digests of
-its whole layout; the comment at the top of that file says what is digested.
-This script works the same digests out from what OpenCV says about a board of
-the same size, and a second time from what can be seen in the board picture that
-OpenCV draws. None of the layout rules are written down here: every marker
-square, corner id and object point comes from OpenCV.
+hold, in the lines of kind 11 and for legacy boards of kind 111, how many markers
+a board has and two digests of its whole layout; the comment at the top of that
+file says what is digested. This script works the same digests out from what
+OpenCV says about the board, and a second time from what can be seen in the board
+picture that OpenCV draws. Every marker square, corner id and object point comes
+from OpenCV; the one layout rule that is written down here is which boards begin
+with a white square (`Line.begins_white`).
 
-Exit status 0: every size from 2 x 2 to 32 x 32 was compared, and all agrees.
-1: something differs, or a size was not compared.
+Exit status 0: every size from 2 x 2 to 32 x 32 was compared in both kinds, and
+all agrees. 1: something differs, or a size was not compared.
 """
 
+import functools
 import sys
 from pathlib import Path
 
 sys.dont_write_bytecode = True  # no __pycache__ beside the sources
 
-from opencv_layout import Data, Picture, cv2, make_board, np
+from opencv_layout import Data, cut_board, cv2, make_board, np
+from opencv_picture import Picture
 
 DEFAULT_PATH = Path(__file__).resolve().parent / "../../crates/replay/stdin"
 
 SIZES = {(rows, cols) for rows in range(2, 33) for cols in range(2, 33)}
+
+KINDS = {"11": "boards without the mark", "111": "legacy boards"}
+LEGACY = "111"
 
 ANSWERS = ("marker count", "D1", "D2")
 SUBJECTS = {
@@ -37,15 +43,15 @@ SUBJECTS = {
 # ---------------------------------------------------------------- stored lines
 
 class Line:
-    """A line of kind 11: a board size, a cell size, and the stored answers."""
+    """A line of kind 11 or 111: a board size, a cell size, and the stored answers."""
 
     def __init__(self, number, words):
+        self.number, self.kind = number, words[0]
         if len(words) != 9:
-            raise ValueError(f"line {number}: kind 11 has 9 words, not {len(words)}")
+            raise ValueError(f"line {number}: kind {self.kind} has 9 words, not {len(words)}")
         values = [int(word, 16) for word in words]
         if values[4] or values[8]:
-            raise ValueError(f"line {number}: kind 11 has 0 before the answers and behind them")
-        self.number = number
+            raise ValueError(f"line {number}: kind {self.kind} has 0 before the answers and behind them")
         self.rows, self.cols, cell_bits = values[1:4]
         if cell_bits >> 32:
             raise ValueError(f"line {number}: the cell size has more than 32 bits")
@@ -56,25 +62,49 @@ class Line:
     def size(self):
         return self.rows, self.cols
 
+    @property
+    def begins_white(self):
+        """OpenCV's document of setLegacyPattern: "Legacy setting creates chessboard
+        patterns starting with a white box in the upper left corner if there is an
+        even row count of chessboard boxes, otherwise it starts with a black box." """
+        return self.kind == LEGACY and self.rows % 2 == 0
+
+    @property
+    def cut(self):
+        """How many rows of OpenCV's board are cut off to have the line's board.
+
+        OpenCV 4.6.0 begins every board with a black square, so the row below begins
+        with a white one: from there on the board of one row more is the legacy board.
+        """
+        return 1 if self.begins_white else 0
+
     def __str__(self):
         return (f"line {self.number} ({self.rows} rows x {self.cols} columns, "
                 f"cell size {self.cell_size!s})")
 
 
 def read_lines(path):
-    lines = []
     with open(path, encoding="ascii") as stored:
-        for number, text in enumerate(stored, 1):
-            words = text.split()
-            if words and words[0] == "11":
-                lines.append(Line(number, words))
-    return lines
+        rows = [(number, text.split()) for number, text in enumerate(stored, 1)]
+    return [Line(number, words) for number, words in rows if words and words[0] in KINDS]
 
 
 # ------------------------------------------------------------------ the comparison
 
-def object_points(line, layout):
+@functools.cache
+def look_at(size, cut):
+    """OpenCV's data and picture of a board, or None where OpenCV does not take it."""
+    if cut_board(size, cut, 1.0, 0.5) is None:
+        return None
+    return Data(size, cut), Picture(size, cut)
+
+
+def object_points(line, data):
     """The object points for the line's cell size, and the board they come from.
+
+    That board has the line's own rows also where a row is cut off: corner ids and
+    points do not depend on the markers, and points of one row more, moved up by a
+    square, would be rounded otherwise.
 
     OpenCV wants a marker that is smaller than the square but not 0, which the
     least f32 above 0 does not leave room for. There the whole-number points are
@@ -85,7 +115,7 @@ def object_points(line, layout):
     if board is not None:
         return board.chessboardCorners, board
     with np.errstate(over="ignore"):
-        return layout.points * cell, None
+        return data.same_size.chessboardCorners * cell, None
 
 
 def same_nearest(board, other):
@@ -124,38 +154,30 @@ class Tally:
 
 
 class Comparison:
-    def __init__(self):
+    """The lines of one kind."""
+
+    def __init__(self, kind):
+        self.kind = kind
         self.data = {name: Tally("data: " + text) for name, text in SUBJECTS.items()}
         self.picture = {name: Tally("picture: " + text) for name, text in SUBJECTS.items()}
         self.data_shape = Tally("data: sizes of the expected shape")
         self.picture_shape = Tally("picture: sizes of the expected shape")
         self.both = Tally("picture: sizes that show the data's layout")
-        self.sizes = {}          # what OpenCV says, by size; None where it does not take it
-        self.refused = []        # lines with such sizes
+        self.white = Tally("picture: top left white where documented")
+        self.compared = {}       # the lines, by size
+        self.refused = []        # lines whose size OpenCV does not take
         self.own_nearest = []    # cell sizes with the nearest markers of square length 1
         self.other_nearest = []  # cell sizes with others
 
-    def look_at(self, size):
-        """OpenCV's layout and picture of a size, worked out once."""
-        if size not in self.sizes:
-            board = make_board(size, 1.0, 0.5)
-            if board is None:
-                self.sizes[size] = None
-            else:
-                data, picture = Data(board, size), Picture(size)
-                self.sizes[size] = board, data, picture
-                where = "{} rows x {} columns".format(*size)
-                self.data_shape.inspect(where, data.faults)
-                self.picture_shape.inspect(where, picture.faults)
-                self.both.inspect(where, [] if picture.same_as(data) else ["another layout"])
-        return self.sizes[size]
-
     def add(self, line):
-        known = self.look_at(line.size)
+        known = look_at(line.size, line.cut)
         if known is None:
             self.refused.append(line)
             return
-        unit_board, data, picture = known
+        data, picture = known
+        if line.size not in self.compared:
+            self.inspect(line, data, picture)
+        self.compared[line.size] = line
         points, board = object_points(line, data)
         for tallies, source in ((self.data, data), (self.picture, picture)):
             tallies["marker count"].compare(line, line.stored["marker count"], source.marker_count)
@@ -163,31 +185,42 @@ class Comparison:
             tally = tallies["D2" if board is not None else "D2 multiplied"]
             tally.compare(line, line.stored["D2"], source.d2(points))
         if board is not None:
-            same = same_nearest(board, unit_board)
+            same = same_nearest(board, data.same_size)
             (self.own_nearest if same else self.other_nearest).append(line.cell_size)
+
+    def inspect(self, line, data, picture):
+        """What does not depend on the stored answers, once for each size."""
+        self.data_shape.inspect(line, data.faults)
+        self.picture_shape.inspect(line, picture.faults)
+        self.both.inspect(line, [] if picture.same_as(data) else ["another layout"])
+        as_documented = picture.top_left_light == line.begins_white
+        self.white.inspect(line, [] if as_documented else ["another top left square"])
 
     def missing(self):
         """The sizes from 2 x 2 to 32 x 32 that were not compared."""
-        return SIZES - {size for size, known in self.sizes.items() if known is not None}
+        return SIZES - set(self.compared)
 
     def tallies(self):
         return [self.data_shape, *self.data.values(),
-                self.picture_shape, self.both, *self.picture.values()]
+                self.picture_shape, self.both, self.white, *self.picture.values()]
 
     def print(self):
+        print(f"{KINDS[self.kind]} (kind {self.kind})")
         for tally in self.tallies():
             tally.print()
-        self.print_parities()
+        self.print_cuts()
         self.print_nearest()
         self.print_coverage()
 
-    def print_parities(self):
-        """Which pattern is drawn: before 4.6.0 the top left was light for even rows."""
+    def print_cuts(self):
+        """How the sizes were compared, and which top left square was seen."""
         for parity, name in enumerate(("even", "odd")):
-            dark = [known[2].top_left_dark for size, known in self.sizes.items()
-                    if known is not None and size[0] % 2 == parity]
-            print(f"note: {name} number of rows: the top left square is drawn dark "
-                  f"in {sum(dark)} of {len(dark)} sizes")
+            lines = [line for line in self.compared.values() if line.rows % 2 == parity]
+            white = sum(look_at(line.size, line.cut)[1].top_left_light for line in lines)
+            cut = sum(line.cut for line in lines)
+            print(f"note: {name} number of rows: {len(lines) - cut} sizes compared with OpenCV's board "
+                  f"of that size, {cut} with its board of one row more, the top row cut off; "
+                  f"the top left square is white in {white}")
 
     def print_nearest(self):
         """The four corners are read at square length 1; say where that choice matters.
@@ -204,9 +237,8 @@ class Comparison:
               f"and {len(large)} with large{span(large)}")
 
     def print_coverage(self):
-        taken = {size for size, known in self.sizes.items() if known is not None}
-        print(f"note: {len(taken & SIZES)} of the {len(SIZES)} sizes from 2 x 2 to 32 x 32 "
-              f"compared, and {len(taken - SIZES)} others; "
+        print(f"note: {len(SIZES - self.missing())} of the {len(SIZES)} sizes from 2 x 2 to 32 x 32 "
+              f"compared, and {len(set(self.compared) - SIZES)} others; "
               f"{len(self.refused)} lines not compared, their size is not taken")
         for line in self.refused[:Tally.SHOWN]:
             print(f"    {line}")
@@ -224,15 +256,18 @@ def main():
         lines = read_lines(path)
     except (OSError, ValueError) as error:
         sys.exit(str(error))
-    comparison = Comparison()
+    comparisons = {kind: Comparison(kind) for kind in KINDS}
     for line in lines:
-        comparison.add(line)
+        comparisons[line.kind].add(line)
     print(f"OpenCV {cv2.__version__}; {len(lines)} stored layouts")
-    comparison.print()
-    if any(tally.differences for tally in comparison.tallies()):
+    for comparison in comparisons.values():
+        comparison.print()
+    if any(tally.differences for comparison in comparisons.values() for tally in comparison.tallies()):
         sys.exit("OpenCV and the stored answers differ")
-    if comparison.missing():
-        sys.exit(f"{len(comparison.missing())} sizes from 2 x 2 to 32 x 32 were not compared")
+    missing = {kind: len(comparison.missing()) for kind, comparison in comparisons.items()}
+    if any(missing.values()):
+        sys.exit("sizes from 2 x 2 to 32 x 32 that were not compared: "
+                 + ", ".join(f"{count} of kind {kind}" for kind, count in missing.items()))
 
 
 if __name__ == "__main__":

@@ -1,7 +1,11 @@
-"""The layout of a ChArUco board as OpenCV has it: in its data and in its picture.
+"""The layout of a ChArUco board as OpenCV's data have it, and its digests.
 
 None of the layout rules are written down here, only what is digested: the
 comment at the top of crates/replay/stdin has that.
+
+A board can also be what is left of an OpenCV board when its top row is cut off.
+`size` is that of the board in question, `cut` the number of rows cut off, 0 or 1:
+OpenCV's board has that many rows more.
 """
 
 import sys
@@ -17,12 +21,6 @@ if not hasattr(getattr(cv2, "aruco", None), "CharucoBoard_create"):
 
 # A 32 x 32 board holds 512 markers; this dictionary has enough of them.
 DICTIONARY = cv2.aruco.Dictionary_get(cv2.aruco.DICT_4X4_1000)
-
-# The picture: 24 pixels a square, so that a marker of 3/4 of the square is 18
-# pixels, 3 for each of its 6 modules, and nothing has to be rounded.
-SQUARE_PX = 24
-RIM_PX = 3
-MARKER_REL = 0.75
 
 
 # --------------------------------------------------------------------- digests
@@ -62,9 +60,21 @@ class Layout:
     What does not have the expected shape at all is noted in `faults`.
     """
 
-    def __init__(self, size):
+    def __init__(self, size, cut):
         self.size = size
+        self.cut = cut
         self.faults = []
+
+    def count_anew(self, name, pairs, gone):
+        """(id, anything) with ids from 0 again, where `gone` ids went with the top row.
+
+        OpenCV numbers markers and corners row by row from the top: the ids that
+        went are the lowest, and taking their number off the others leaves those
+        in OpenCV's own order, without a gap. That the lowest went is inspected.
+        """
+        if min((number for number, _ in pairs), default=gone) != gone:
+            self.faults.append(f"the {name} ids that were cut off are not the {gone} lowest")
+        return [(number - gone, rest) for number, rest in pairs]
 
     def take(self, markers, corners, around):
         """Markers with their squares and corners with their places, each as a list
@@ -86,16 +96,16 @@ class Layout:
         return place_of, at
 
     def d2(self, points):
-        """`points` are OpenCV's for the corners 0, 1, ...; a corner that this source
-        does not have has no point either."""
-        bits = bits_of_points(points)
+        """`points` are OpenCV's for the corners 0, 1, ...; only a corner that this
+        source has too has a point."""
+        bits = dict(enumerate(bits_of_points(points)))
 
         def numbers():
             for number in IDS:
                 for places in (self.square_of, self.place_of):
                     i, j = places.get(number, (None, None))
                     yield from halves(None if i is None else j * 65536 + i)
-                yield from bits[number] if number in self.place_of else NO_POINT
+                yield from bits.get(number, NO_POINT) if number in self.place_of else NO_POINT
                 for corner in self.around.get(number, (None,) * 4):
                     yield from halves(corner)
 
@@ -123,16 +133,37 @@ def make_board(size, square, marker):
         return None
 
 
+def cut_board(size, cut, square, marker):
+    """OpenCV's board whose `cut` top rows are to be cut off, or None."""
+    rows, cols = size
+    return make_board((rows + cut, cols), square, marker)
+
+
 class Data(Layout):
     """The layout in OpenCV's data, for squares of length 1 and markers of 1/2.
 
-    With these lengths every coordinate is a multiple of 1/4, hence exact in f32.
+    With these lengths every coordinate is a multiple of 1/4, hence exact in f32,
+    also when it is counted from the cut.
     """
 
-    def __init__(self, board, size):
-        super().__init__(size)
-        self.points = board.chessboardCorners
-        self.take(self.find_squares(board), self.find_corners(), self.find_around(board))
+    def __init__(self, size, cut):
+        super().__init__(size, cut)
+        board = cut_board(size, cut, 1.0, 0.5)
+        self.same_size = make_board(size, 1.0, 0.5)
+        # A corner on the line of the cut is on the rim, no inner corner any more.
+        squares, markers_gone = self.below("marker", self.find_squares(board), cut)
+        corners, corners_gone = self.below("corner", self.find_corners(board), cut + 1)
+        # Object points are taken from OpenCV's board of the same size.
+        if corners != self.find_corners(self.same_size):
+            self.faults.append("the corners are not those of OpenCV's board of the same size")
+        self.take(squares, corners, self.find_around(board, markers_gone, corners_gone))
+
+    def below(self, name, pairs, top):
+        """What is in row `top` and below, with ids and rows counted from the cut,
+        and how many ids are above."""
+        left = [(number, (i, j - self.cut)) for number, (i, j) in pairs if j >= top]
+        gone = len(pairs) - len(left)
+        return self.count_anew(name, left, gone), gone
 
     def find_squares(self, board):
         """The square of each marker: the one in whose middle its four points lie.
@@ -150,131 +181,43 @@ class Data(Layout):
             squares.append((marker, (i, j)))
         return squares
 
-    def find_corners(self):
-        """The board corner of each id: a corner's id is its place in OpenCV's row."""
+    def find_corners(self, board):
+        """The board corner of each id: a corner's id is its place in OpenCV's list."""
         corners = []
-        for corner, (x, y, z) in enumerate(self.points.tolist()):
+        for corner, (x, y, z) in enumerate(board.chessboardCorners.tolist()):
             if (x, y, z) != (int(x), int(y), 0.0):
                 self.faults.append(f"corner {corner} lies at {(x, y, z)}")
             corners.append((corner, (int(x), int(y))))
         return corners
 
-    def find_around(self, board):
+    def find_around(self, board, markers_gone, corners_gone):
         """The inner corners around each marker, by OpenCV's nearest markers.
 
         For each inner corner OpenCV lists the markers nearest to it, and which
         of the marker's corners (0 top left, then clockwise) looks at it. Turned
         round, this gives each marker's inner corners; off the rim it has four.
+        Ids are counted from the cut: the markers and corners above it have those
+        below 0. Such a corner is passed over, and no other corner may be nearest
+        to such a marker.
         """
+        ids = (board.ids.ravel() - markers_gone).tolist()
         found = {}
         for corner, (markers, looking) in enumerate(
-                zip(board.nearestMarkerIdx, board.nearestMarkerCorners)):
+                zip(board.nearestMarkerIdx, board.nearestMarkerCorners), -corners_gone):
             if len(markers) != 2 or len(looking) != 2:
                 self.faults.append(f"corner {corner} has nearest markers {markers.tolist()}")
+            if corner < 0:
+                continue
             for index, k in zip(markers.tolist(), looking.tolist()):
-                marker = int(board.ids.ravel()[index])
+                marker = ids[index]
+                if marker < 0:
+                    self.faults.append(f"corner {corner} is nearest to a marker that was cut off")
                 if (marker, k) in found:
                     self.faults.append(f"corner {k} of marker {marker} is nearest twice")
                 found[marker, k] = corner
         around = {}
-        for marker in board.ids.ravel().tolist():
+        for marker in ids:
             corners = [found.get((marker, k)) for k in range(4)]
             if None not in corners:
                 around[marker] = corners
         return around
-
-
-# ------------------------------------------------------ what OpenCV's picture shows
-
-class Picture(Layout):
-    """The layout as it can be seen in the picture that OpenCV draws.
-
-    The markers are found by OpenCV's detector and the inner corners by its
-    ChArUco corner finder; their places are read off in pixels from the top left.
-    """
-
-    def __init__(self, size):
-        super().__init__(size)
-        rows, cols = size
-        board = make_board(size, 1.0, MARKER_REL)
-        width, height = ((n + 2) * SQUARE_PX for n in (cols, rows))
-        # One square of margin: the detector drops markers at the picture's edge.
-        image = board.draw((width, height), marginSize=SQUARE_PX, borderBits=1)
-        markers, corners = self.detect(image, board)
-        squares = self.marker_squares(markers)
-        self.take(squares, self.corner_places(corners), self.find_around(markers, corners))
-        light = self.light_squares(image)
-        if light != {square for _, square in squares}:
-            self.faults.append("the light squares are not the squares with markers")
-        self.top_left_dark = (0, 0) not in light
-
-    def detect(self, image, board):
-        """Each marker with its four points, and each corner with its point."""
-        settings = cv2.aruco.DetectorParameters_create()
-        # The picture is perfect: no wrong bit is to be forgiven, and one
-        # threshold is enough.
-        settings.errorCorrectionRate = 0.0
-        settings.adaptiveThreshWinSizeMin = settings.adaptiveThreshWinSizeMax = 13
-        points, ids, _ = cv2.aruco.detectMarkers(image, DICTIONARY, parameters=settings)
-        if ids is None:
-            return [], []
-        markers = [(marker, quad.reshape(4, 2)) for marker, quad in zip(ids.ravel().tolist(), points)]
-        count, seen, corners = cv2.aruco.interpolateCornersCharuco(points, ids, image, board)
-        if not count:
-            return markers, []
-        return markers, list(zip(corners.ravel().tolist(), seen.reshape(-1, 2)))
-
-    def marker_squares(self, markers):
-        """The square of each marker. Markers must stand upright: their first point,
-        by their own bits, is the top left one in the picture, and so on."""
-        squares = []
-        for marker, quad in markers:
-            i, j = (int(x) for x in np.floor(quad.mean(axis=0) / SQUARE_PX) - 1)
-            near, far = RIM_PX, SQUARE_PX - RIM_PX
-            upright = np.array([(near, near), (far, near), (far, far), (near, far)])
-            offset = quad - (np.array([i, j]) + 1) * SQUARE_PX - upright
-            if abs(offset).max() > 1:
-                self.faults.append(f"marker {marker} is seen at {quad.tolist()}")
-            squares.append((marker, (i, j)))
-        return squares
-
-    def corner_places(self, corners):
-        """The board corner of each ChArUco corner."""
-        places = []
-        for corner, point in corners:
-            grid = point / SQUARE_PX - 1
-            i, j = (int(x) for x in np.rint(grid))
-            if abs(grid - (i, j)).max() * SQUARE_PX > 1:
-                self.faults.append(f"corner {corner} is seen at {point.tolist()}")
-            places.append((corner, (i, j)))
-        return places
-
-    def find_around(self, markers, corners):
-        """The inner corners around each marker: those that are seen within half a
-        square of its points. Off the rim there is one for each of the four."""
-        ids = [corner for corner, _ in corners]
-        seen = np.array([point for _, point in corners]).reshape(-1, 2)
-        around = {}
-        for marker, quad in markers:
-            close = [np.flatnonzero(np.hypot(*(seen - point).T) < SQUARE_PX / 2) for point in quad]
-            if any(len(found) > 1 for found in close):
-                self.faults.append(f"a point of marker {marker} is close to several corners")
-            if all(len(found) for found in close):
-                around[marker] = [ids[found[0]] for found in close]
-        return around
-
-    def light_squares(self, image):
-        """The squares with a white rim; every other square must be black all over."""
-        rows, cols = self.size
-        light = set()
-        for j in range(rows):
-            for i in range(cols):
-                y, x = (j + 1) * SQUARE_PX, (i + 1) * SQUARE_PX
-                square = image[y:y + SQUARE_PX, x:x + SQUARE_PX].copy()
-                if square.max() == 0:
-                    continue
-                square[RIM_PX:-RIM_PX, RIM_PX:-RIM_PX] = 255
-                if square.min() < 255:
-                    self.faults.append(f"square {(i, j)} is neither black nor white-rimmed")
-                light.add((i, j))
-        return light

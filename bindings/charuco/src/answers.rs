@@ -31,7 +31,7 @@ pub struct Header {
     pub cells: usize,
 }
 
-pub(crate) const HEADER_WORDS: usize = 12;
+pub(crate) const HEADER_WORDS: usize = 13;
 
 impl Header {
     pub(crate) fn new(words: [u32; HEADER_WORDS]) -> Self {
@@ -45,6 +45,7 @@ impl Header {
                 cols: words[5],
                 bits: words[6],
                 border_bits: words[7],
+                legacy_pattern: words[12] == 1,
                 cell_size: f32::from_bits(words[8]),
                 marker_size_rel: f32::from_bits(words[9]),
             },

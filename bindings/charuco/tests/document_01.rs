@@ -29,6 +29,7 @@ const BOARD: BoardSpec = BoardSpec {
     cols: 5,
     bits: 4,
     border_bits: 1,
+    legacy_pattern: false,
     cell_size: 0.5,
     marker_size_rel: 0.75,
 };

@@ -142,7 +142,7 @@ impl Random {
 fn vary(sheet: &[u8], random: &mut Random) -> Vec<u8> {
     let mut record = sheet.to_vec();
     let header = charuco::read_header(sheet).expect("a whole record");
-    let settings = 4 * (header.map & 7).count_ones() + 2044 * (header.map >> 3);
+    let settings = 4 * (header.map & 7).count_ones() + 2044 * (header.map >> 3 & 1);
     let sizes = 1 + settings as usize + 4;
     let all_subnormal = random.below(2) == 0;
     record[sizes..sizes + 4].copy_from_slice(&random.fraction().to_le_bytes());

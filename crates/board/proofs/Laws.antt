@@ -1,13 +1,15 @@
 -- What a user of the layout relies on, for every size and both parities: ids and places undo each other, ids are exactly
--- 0 to count − 1, no two places share one, they rise row by row, and a marker has four corners exactly off the rim. Assumes nothing.
-use mathlib.Core.Path.{_≡_, sym, ap, _∙_}
-use mathlib.Core.Bool.{Bool}
+-- 0 to count − 1, no two places share one, they rise row by row, and a marker has four corners exactly off the rim; where legacy boards
+-- begin with a white square. Assumes nothing.
+use mathlib.Core.Path.{_≡_, refl, sym, ap, _∙_}
+use mathlib.Core.Bool.{Bool, true, false, cond, _&&_}
 use mathlib.Core.Logic.{_⊎_}
-use Prim.Native.Nat.{ℕ, suc, _+_, _-_, _*_, _≤_, _<_}
+use Prim.Native.Nat.{ℕ, suc, _+_, _-_, _*_, _/_, _%_, _≤_, _<_}
 use native.Mathlib.Nat.{mul-le-mul}
 use native.Mathlib.Omega.{arith}
 use lib.IntN.{ℤ, pos, negsuc}
-use lib.Dec.{ltb, ltb→lt}
+use lib.Dec.{ltb, eqb, ltb→lt, lit<}
+use borrow.Author.Tests.{eqb-true}
 use lib.Ieee.Fits.{and-l, and-r}
 use Rattle.board.specs.declared.Board.{Board}
 use Rattle.board.specs.declared.Numbered.{Numbered}
@@ -15,7 +17,7 @@ use Rattle.board.specs.declared.Numbered.the-variants as numbered
 use Rattle.board.specs.declared.Located.the-variants as located
 use Rattle.board.specs.declared.Surrounding.the-variants as surrounding
 use Rattle.board.specs.Numbering.{numberAt, numberAtℤ, placeNumbered, total}
-use Rattle.board.specs.Layout.{holdsMarker, inner, parityOf, markerCount, markerAt, markerOn, squareOf, allFour, around, fourCorners}
+use Rattle.board.specs.Layout.{holdsMarker, inner, evenParity, oddParity, parityOf, markerCount, markerTotal, markerAt, markerOn, squareOf, allFour, around, fourCorners}
 use Rattle.board.proofs.Places.{Place, number-has, place-of-number, number-of-place, placed, unplaced, number-below, numbers-differ, numbers-rise}
 use Rattle.board.proofs.Markers.{parity-bit, marker-total}
 use Rattle.board.proofs.Surroundings.{OffRim, off-rim}
@@ -64,6 +66,40 @@ pub id-small : (b : Board) (i j : ℤ) (id : ℕ) → b .rows ≤ 32 → b .cols
 id-small b i j id r c e =
     let p = parityOf b in
     omega (arith, id-below p (b .rows) (b .cols) i j id e, marker-total p (b .rows) (b .cols) (parity-bit b), mul-le-mul {n₂ = 32} {m₂ = 32} r c)
+
+-- ---- legacy boards. OpenCV, `setLegacyPattern`: the pattern starts "with a white box in the upper left corner if there is an even row count of
+-- chessboard boxes, otherwise it starts with a black box". White squares hold markers.
+pub white-top-left : (b : Board) → holdsMarker (parityOf b) 0 0 ≡ (b .«legacy_pattern» && eqb (b .rows % 2) 0)
+unfolding parityOf
+white-top-left b = go (b .«legacy_pattern» && eqb (b .rows % 2) 0)
+  where
+    go : (even : Bool) → eqb 0 (cond even evenParity oddParity) ≡ even
+    go true = refl
+    go false = refl
+
+-- with an odd row count the mark changes nothing
+pub odd-rows : (b : Board) → b .rows % 2 ≡ 1 → parityOf b ≡ oddParity
+unfolding parityOf
+odd-rows b e = rw e (go (b .«legacy_pattern»))
+  where
+    go : (marked : Bool) → cond (marked && false) evenParity oddParity ≡ oddParity
+    go true = refl
+    go false = refl
+
+-- and so, marked or not, a board has as many markers: half of its squares, rounded down
+pub same-count : (b : Board) → markerTotal b ≡ b .rows * b .cols / 2
+unfolding parityOf
+same-count b = go (b .«legacy_pattern») (eqb (b .rows % 2) 0) refl
+  where
+    odd : markerCount oddParity (b .rows) (b .cols) ≡ b .rows * b .cols / 2
+    odd = marker-total oddParity (b .rows) (b .cols) (lit< tt) ∙ omega arith
+
+    go : (marked even : Bool) → eqb (b .rows % 2) 0 ≡ even → markerCount (cond (marked && even) evenParity oddParity) (b .rows) (b .cols) ≡ b .rows * b .cols / 2
+    go true true e =
+        let half : b .rows ≡ 2 * (b .rows / 2) = omega (arith, eqb-true (b .rows % 2) 0 e) in
+        marker-total evenParity (b .rows) (b .cols) (lit< tt) ∙ omega (arith, ap (λ (n : ℕ). n * b .cols) half)
+    go true false e = odd
+    go false even e = odd
 
 -- ---- the four corners of a marker on square (i, j)
 each-four : (x y z u : Numbered) (a b c d : ℕ) → allFour x y z u ≡ surrounding.Corners a b c d → (x ≡ numbered.Id a) × (y ≡ numbered.Id b)

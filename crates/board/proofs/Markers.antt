@@ -1,7 +1,7 @@
 -- The formulas for markers: of each two ranks 2m and 2m + 1 one holds marker m. For both parities and every size.
 -- Assumes nothing.
 use mathlib.Core.Path.{_≡_, refl, sym, ap, _∙_}
-use mathlib.Core.Bool.{Bool, true, false, not}
+use mathlib.Core.Bool.{Bool, true, false, not, cond, _&&_}
 use Prim.Native.Nat.{ℕ, zero, suc, _+_, _-_, _*_, _/_, _%_, _≤_, _<_}
 use native.Mathlib.Nat.{mod-lt, div-add-mod', mul-zero}
 use native.Mathlib.Numerals.{add-one}
@@ -10,7 +10,7 @@ use lib.Dec.{T, eqb, eqb→eq, eqb-refl, lit<}
 use lib.Arith.{digits-div, digits-mod}
 use Rattle.board.specs.declared.Board.{Board}
 use Rattle.board.specs.Numbering.{asOne, countPassing, byRank, numberIf, numberAt}
-use Rattle.board.specs.Layout.{holdsMarker, parityOf, markerCount}
+use Rattle.board.specs.Layout.{holdsMarker, evenParity, oddParity, parityOf, markerCount}
 use Rattle.board.proofs.Counting.{one-false, count-suc, count-under}
 use Rattle.board.proofs.Parities.{opposite}
 use Rattle.board.proofs.Places.{Has, place-has, has-number, unnumbered}
@@ -152,7 +152,11 @@ module _ (p w : ℕ) (bit : p < 2) (some : 0 < w) where
 -- a board's parity is one of the two
 pub parity-bit : (b : Board) → parityOf b < 2
 unfolding parityOf
-parity-bit b = lit< tt
+parity-bit b = go (b .«legacy_pattern» && eqb (b .rows % 2) 0)
+  where
+    go : (even : Bool) → cond even evenParity oddParity < 2
+    go true = lit< tt
+    go false = lit< tt
 
 -- a board of any size has half as many markers as squares, rounded down for odd and up for even
 pub marker-total : (p rows w : ℕ) → p < 2 → markerCount p rows w ≡ (rows * w + (1 - p)) / 2

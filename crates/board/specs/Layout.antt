@@ -1,6 +1,6 @@
 -- The layout of a ChArUco board, from OpenCV's ChArUco documents and document 01, Board. Squares (i, j): column i rightward, row j downward.
 use Prim.Native.Nat.{ℕ, suc, _+_, _%_}
-use mathlib.Core.Bool.{Bool, _&&_}
+use mathlib.Core.Bool.{Bool, cond, _&&_}
 use lib.IntN.{ℤ, pos}
 use lib.Dec.{ltb, eqb}
 use lib.Ieee.{Float, binary32, mul, ofInt}
@@ -19,12 +19,17 @@ use Rattle.board.specs.Numbering.{numberAt, numberAtℤ, total, placeNum
 abbrev pub holdsMarker : ℕ → ℕ → ℕ → Bool
 holdsMarker p i j = eqb ((i + j) % 2) p
 
+abbrev pub evenParity : ℕ
+evenParity = 0
+
 abbrev pub oddParity : ℕ
 oddParity = 1
 
--- The parity of a board, in this one place: "Squares with i + j odd hold markers." Folded, so that no proof uses which one it is.
+-- The parity of a board, in this one place. Document 01: "Squares with i + j odd hold markers." Document 02: a legacy board with an even row count
+-- begins with a white square at the top left, "There the markers sit on squares with i + j even … With an odd row count nothing differs."
+-- Folded, so that no proof uses which one it is.
 unfoldable pub parityOf : Board → ℕ
-parityOf b = oddParity
+parityOf b = cond (b .«legacy_pattern» && eqb (b .rows % 2) 0) evenParity oddParity
 
 -- Markers are numbered row by row from 0.
 abbrev pub markerCount : ℕ → ℕ → ℕ → ℕ

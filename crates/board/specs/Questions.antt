@@ -49,6 +49,7 @@ boardOf s =
       cols = s .cols;
       bits = s .bits;
       «border_bits» = s .«border_bits»;
+      «legacy_pattern» = s .«legacy_pattern»;
       «cell_size» = s .«cell_size»;
       «marker_size_rel» = s .«marker_size_rel»;
     }

@@ -11,12 +11,13 @@ pub mod squares;
 
 use refusal::Refusal;
 
-// What a board is asked for. `bits` is the side of its codes.
+// What a board is asked for. `bits` is the side of its codes; `legacy_pattern` marks a board from before OpenCV 4.6.
 pub struct CharucoBoardSpec {
     pub rows: u32,
     pub cols: u32,
     pub bits: u32,
     pub border_bits: u32,
+    pub legacy_pattern: bool,
     pub cell_size: f32,
     pub marker_size_rel: f32,
 }
@@ -27,6 +28,7 @@ pub struct Board {
     pub cols: u8,
     pub bits: u8,
     pub border_bits: u8,
+    pub legacy_pattern: bool,
     pub cell_size: f32,
     pub marker_size_rel: f32,
 }
@@ -116,6 +118,9 @@ impl Board {
     fn parity(self) -> u8
         ensures { λ r. ⌜ r ≡ parityOf self ⌝ }
     {
+        if self.legacy_pattern {
+            return self.rows % 2;
+        }
         1
     }
 

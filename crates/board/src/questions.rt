@@ -77,6 +77,7 @@ pub fn board_of(spec: CharucoBoardSpec) -> Board
         cols: spec.cols as u8,
         bits: spec.bits as u8,
         border_bits: spec.border_bits as u8,
+        legacy_pattern: spec.legacy_pattern,
         cell_size: spec.cell_size,
         marker_size_rel: spec.marker_size_rel,
     }

@@ -1,8 +1,8 @@
 -- The words by which the C functions tell the answers of the other entries.
 use Prim.Native.Nat.{ℕ, zero, suc}
-use mathlib.Core.Bool.{cond}
+use mathlib.Core.Bool.{cond, not}
 use mathlib.Core.List.{List, [], _∷_, _++_}
-use lib.Dec.{ltb}
+use lib.Dec.{ltb, eqb}
 use lib.IntN.{ℤ}
 use lib.Ieee.{Float, binary32, toBits}
 use mir.Syntax.{w32}
@@ -60,10 +60,18 @@ abbrev pub matchTold : Matched → Answer
 matchTold (matched.Placed m) = worked (matchWords m)
 matchTold (matched.Refused r) = refused r
 
--- The corner and link entries: what they are given of a board,
-abbrev pub specFrom : ℕ → ℕ → ℕ → ℕ → Float → Float → CharucoBoardSpec
-specFrom rows cols bits border size marker =
-    record { rows = rows; cols = cols; bits = bits; «border_bits» = border; «cell_size» = size; «marker_size_rel» = marker }
+-- The corner and link entries: what they are given of a board, where a legacy pattern of 0 is no mark and every other number marks it,
+abbrev pub specFrom : ℕ → ℕ → ℕ → ℕ → ℕ → Float → Float → CharucoBoardSpec
+specFrom rows cols bits border legacy size marker =
+    record {
+      rows = rows;
+      cols = cols;
+      bits = bits;
+      «border_bits» = border;
+      «legacy_pattern» = not (eqb legacy 0);
+      «cell_size» = size;
+      «marker_size_rel» = marker;
+    }
 
 -- the alignment of the corners, in which a turn above 3 counts as 4, which question 18 refuses,
 abbrev pub turnByte : ℕ → ℕ

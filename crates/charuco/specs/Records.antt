@@ -7,6 +7,7 @@ use lib.IntN.{ℤ}
 use lib.Ieee.{binary32, toBits}
 use mir.Syntax.{w32}
 use mir.Val.{ofZ}
+use Rattle.board.specs.Numbering.{asOne}
 use Rattle.shot_record.specs.declared.Header.{Header}
 use Rattle.shot_record.specs.declared.ReadHeader.{ReadHeader}
 use Rattle.shot_record.specs.declared.ReadHeader.the-variants as header
@@ -21,7 +22,7 @@ use Rattle.shot_record.specs.Shots.{parse}
 use Rattle.shot_record.specs.Answers.{partAnswer}
 use Rattle.charuco.specs.Answers.{Answer, worked, refused, countWord}
 
--- map, minimum margin, border threshold, px_per_square, rows, cols, bits, border, cell_size, marker_size_rel, counts of codes and cells
+-- map, minimum margin, border threshold, px_per_square, rows, cols, bits, border, cell_size, marker_size_rel, counts of codes and cells, 1 for a legacy board
 abbrev pub headerWords : Header → List ℕ
 headerWords h =
     h .map
@@ -36,6 +37,7 @@ headerWords h =
     ∷ toBits binary32 (h .spec .«marker_size_rel»)
     ∷ countWord (h .«code_count»)
     ∷ countWord (h .«cell_count»)
+    ∷ asOne (h .spec .«legacy_pattern»)
     ∷ []
 
 abbrev pub headerTold : ReadHeader → Answer

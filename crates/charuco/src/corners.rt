@@ -43,6 +43,7 @@ pub extern "C" fn charuco_map_charuco_corners(
     cols: u32,
     bits: u32,
     border_bits: u32,
+    legacy_pattern: u32,
     cell_size: f32,
     marker_size_rel: f32,
     codes: &[u64],
@@ -54,14 +55,22 @@ pub extern "C" fn charuco_map_charuco_corners(
     corners: &mut [u32],
     values: &mut [u32],
 ) -> u32
-    ensures answer { λ r. ⌜ Tells (cornersTold (mapCorners (specFrom rows cols bits «border_bits» «cell_size» «marker_size_rel») (now (codes .entry))
+    ensures answer { λ r. ⌜ Tells (cornersTold (mapCorners (specFrom rows cols bits «border_bits» «legacy_pattern» «cell_size» «marker_size_rel») (now (codes .entry))
         (now (scores .entry))
         (now (grid .entry)) (alignmentOf turn tx ty) (now (corners .entry)))) r (now (values .entry)) (now (values .exit)) ⌝ }
     ensures list { λ _. ⌜ now (corners .exit)
-        ≡ mapCornersList (specFrom rows cols bits «border_bits» «cell_size» «marker_size_rel») (now (codes .entry)) (now (scores .entry))
+        ≡ mapCornersList (specFrom rows cols bits «border_bits» «legacy_pattern» «cell_size» «marker_size_rel») (now (codes .entry)) (now (scores .entry))
         (now (grid .entry)) (alignmentOf turn tx ty) (now (corners .entry)) ⌝ }
 {
-    let spec = boards::spec(rows, cols, bits, border_bits, cell_size, marker_size_rel);
+    let spec = boards::spec(
+        rows,
+        cols,
+        bits,
+        border_bits,
+        legacy_pattern,
+        cell_size,
+        marker_size_rel,
+    );
     let alignment = alignment(turn, tx, ty);
     let answer = corner_mapping::map_charuco_corners(spec, codes, scores, grid, alignment, corners);
     tell_corners(answer, values)

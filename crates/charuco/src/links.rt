@@ -33,6 +33,7 @@ pub extern "C" fn charuco_validate_marker_corner_links(
     cols: u32,
     bits: u32,
     border_bits: u32,
+    legacy_pattern: u32,
     cell_size: f32,
     marker_size_rel: f32,
     codes: &[u64],
@@ -41,14 +42,22 @@ pub extern "C" fn charuco_validate_marker_corner_links(
     violations: &mut [u32],
     values: &mut [u32],
 ) -> u32
-    ensures answer { λ r. ⌜ Tells (linksTold (checkLinks (specFrom rows cols bits «border_bits» «cell_size» «marker_size_rel») (now (codes .entry))
+    ensures answer { λ r. ⌜ Tells (linksTold (checkLinks (specFrom rows cols bits «border_bits» «legacy_pattern» «cell_size» «marker_size_rel») (now (codes .entry))
         (modeOf mode)
         (now (links .entry)) (now (violations .entry)))) r (now (values .entry)) (now (values .exit)) ⌝ }
     ensures list { λ _. ⌜ now (violations .exit)
-        ≡ checkLinksList (specFrom rows cols bits «border_bits» «cell_size» «marker_size_rel») (now (codes .entry)) (modeOf mode)
+        ≡ checkLinksList (specFrom rows cols bits «border_bits» «legacy_pattern» «cell_size» «marker_size_rel») (now (codes .entry)) (modeOf mode)
         (now (links .entry)) (now (violations .entry)) ⌝ }
 {
-    let spec = boards::spec(rows, cols, bits, border_bits, cell_size, marker_size_rel);
+    let spec = boards::spec(
+        rows,
+        cols,
+        bits,
+        border_bits,
+        legacy_pattern,
+        cell_size,
+        marker_size_rel,
+    );
     let answer = link_check::validate_marker_corner_links(
         spec,
         codes,

@@ -1,5 +1,6 @@
 // Reading a shot record.
 ghost use mathlib.Core.Path.{_≡_};
+ghost use Rattle.board.specs.Numbering.{asOne};
 ghost use Rattle.shot_record.specs.Shots.{parse};
 ghost use Rattle.shot_record.specs.Answers.{headerAnswer, entryAnswer, codeAnswer, cellAnswer, partAnswer, gridAnswer};
 ghost use Rattle.charuco.specs.Answers.{Tells};
@@ -12,7 +13,16 @@ use shot_record::ReadEntry;
 use shot_record::ReadHeader;
 use shot_record::cells;
 
-fn header_words(h: Header) -> [u32; 12]
+fn mark_word(legacy_pattern: bool) -> u32
+    ensures { λ r. ⌜ r ≡ asOne «legacy_pattern» ⌝ }
+{
+    if legacy_pattern {
+        return 1;
+    }
+    0
+}
+
+fn header_words(h: Header) -> [u32; 13]
     ensures { λ r. ⌜ r ≡ headerWords h ⌝ }
 {
     let config = h.config;
@@ -30,6 +40,7 @@ fn header_words(h: Header) -> [u32; 12]
         floats::to_bits(spec.marker_size_rel),
         values::count_word(h.code_count),
         values::count_word(h.cell_count),
+        mark_word(spec.legacy_pattern),
     ]
 }
 

@@ -2,7 +2,7 @@
 use Prim.Native.Nat.{ℕ, zero, suc, _+_, _*_, _<_}
 use mathlib.Core.Path.{_≡_}
 use mathlib.Core.List.{List, []}
-use mathlib.Core.Bool.{Bool, true, false, _&&_}
+use mathlib.Core.Bool.{Bool, true, false, not, _&&_}
 use lib.Dec.{leb, eqb}
 use lib.ListN.{getD, length}
 use lib.IntN.{ℤ}
@@ -46,9 +46,17 @@ rectCorner u v px k axis = getD (getD (rectCorners u v px) k []) axis nan
 abbrev pub unitSize : Float
 unitSize = ofBits binary32 0x3F800000
 
-abbrev pub boardWith : ℕ → ℕ → Float → Board
-boardWith rows cols size =
-    record { rows = rows; cols = cols; bits = 1; «border_bits» = 1; «cell_size» = size; «marker_size_rel» = unitSize }
+abbrev pub boardWith : ℕ → ℕ → ℕ → Float → Board
+boardWith rows cols legacy size =
+    record {
+      rows = rows;
+      cols = cols;
+      bits = 1;
+      «border_bits» = 1;
+      «legacy_pattern» = not (eqb legacy 0);
+      «cell_size» = size;
+      «marker_size_rel» = unitSize;
+    }
 
 abbrev pub idWord : Numbered → ℕ
 idWord (numbered.Id n) = n

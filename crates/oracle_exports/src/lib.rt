@@ -97,15 +97,16 @@ pub extern "C" fn oracle_cell_rect_corner(u: i16, v: i16, px: f32, corner: u8, a
     corners[k][a]
 }
 
-// A board by its size. The layout depends on nothing else but the cells' size.
-fn board_of(rows: u8, cols: u8, cell_size: f32) -> Board
-    ensures { λ r. ⌜ r ≡ boardWith rows cols «cell_size» ⌝ }
+// A board by its size and mark, 0 for none. The layout depends on nothing else but the cells' size.
+fn board_of(rows: u8, cols: u8, legacy: u32, cell_size: f32) -> Board
+    ensures { λ r. ⌜ r ≡ boardWith rows cols legacy «cell_size» ⌝ }
 {
     Board {
         rows,
         cols,
         bits: 1,
         border_bits: 1,
+        legacy_pattern: legacy != 0,
         cell_size,
         marker_size_rel: 1.0,
     }
@@ -131,46 +132,53 @@ fn place_word(place: Located) -> u64
 }
 
 #[no_mangle]
-pub extern "C" fn oracle_marker_count(rows: u8, cols: u8) -> u64
-    ensures { λ r. ⌜ r ≡ markerTotal (boardWith rows cols unitSize) ⌝ }
+pub extern "C" fn oracle_marker_count(rows: u8, cols: u8, legacy: u32) -> u64
+    ensures { λ r. ⌜ r ≡ markerTotal (boardWith rows cols legacy unitSize) ⌝ }
 {
-    board_of(rows, cols, 1.0).marker_count() as u64
+    board_of(rows, cols, legacy, 1.0).marker_count() as u64
 }
 
 #[no_mangle]
-pub extern "C" fn oracle_marker_id_at(rows: u8, cols: u8, i: i32, j: i32) -> u64
-    ensures { λ r. ⌜ r ≡ idWord (markerOn (boardWith rows cols unitSize) i j) ⌝ }
+pub extern "C" fn oracle_marker_id_at(rows: u8, cols: u8, legacy: u32, i: i32, j: i32) -> u64
+    ensures { λ r. ⌜ r ≡ idWord (markerOn (boardWith rows cols legacy unitSize) i j) ⌝ }
 {
-    id_word(board_of(rows, cols, 1.0).marker_id_at(i, j))
+    id_word(board_of(rows, cols, legacy, 1.0).marker_id_at(i, j))
 }
 
 #[no_mangle]
-pub extern "C" fn oracle_marker_position(rows: u8, cols: u8, id: u32) -> u64
-    ensures { λ r. ⌜ r ≡ placeWord (markerSquare (boardWith rows cols unitSize) id) ⌝ }
+pub extern "C" fn oracle_marker_position(rows: u8, cols: u8, legacy: u32, id: u32) -> u64
+    ensures { λ r. ⌜ r ≡ placeWord (markerSquare (boardWith rows cols legacy unitSize) id) ⌝ }
 {
-    place_word(board_of(rows, cols, 1.0).marker_position(id))
+    place_word(board_of(rows, cols, legacy, 1.0).marker_position(id))
 }
 
 #[no_mangle]
-pub extern "C" fn oracle_corner_id(rows: u8, cols: u8, i: i32, j: i32) -> u64
+pub extern "C" fn oracle_corner_id(rows: u8, cols: u8, legacy: u32, i: i32, j: i32) -> u64
     ensures { λ r. ⌜ r ≡ idWord (cornerAt rows cols i j) ⌝ }
 {
-    id_word(board_of(rows, cols, 1.0).charuco_corner_id_from_board_corner(i, j))
+    id_word(board_of(rows, cols, legacy, 1.0).charuco_corner_id_from_board_corner(i, j))
 }
 
 #[no_mangle]
-pub extern "C" fn oracle_corner_position(rows: u8, cols: u8, id: u32) -> u64
+pub extern "C" fn oracle_corner_position(rows: u8, cols: u8, legacy: u32, id: u32) -> u64
     ensures { λ r. ⌜ r ≡ placeWord (cornerPlace rows cols id) ⌝ }
 {
-    place_word(board_of(rows, cols, 1.0).board_corner(id))
+    place_word(board_of(rows, cols, legacy, 1.0).board_corner(id))
 }
 
 // NaN for an unknown id.
 #[no_mangle]
-pub extern "C" fn oracle_object_xy(rows: u8, cols: u8, cell_size: f32, id: u32, axis: u8) -> f32
+pub extern "C" fn oracle_object_xy(
+    rows: u8,
+    cols: u8,
+    legacy: u32,
+    cell_size: f32,
+    id: u32,
+    axis: u8,
+) -> f32
     ensures { λ r. ⌜ r ≡ axisOfPoint (objectPoint rows cols «cell_size» id) axis ⌝ }
 {
-    let point = board_of(rows, cols, cell_size).charuco_object_xy(id);
+    let point = board_of(rows, cols, legacy, cell_size).charuco_object_xy(id);
     match point {
         ObjectPoint::At { x, y } => { if axis == 0 { x } else { y } }
         ObjectPoint::Absent => 0.0 / 0.0,
@@ -179,10 +187,16 @@ pub extern "C" fn oracle_object_xy(rows: u8, cols: u8, cell_size: f32, id: u32, 
 
 // Corners 0 to 3 are top left, top right, bottom right, bottom left.
 #[no_mangle]
-pub extern "C" fn oracle_surrounding_corner(rows: u8, cols: u8, marker: u32, corner: u8) -> u64
-    ensures { λ r. ⌜ r ≡ fourWord (surroundingCorners (boardWith rows cols unitSize) marker) (corner % 4) ⌝ }
+pub extern "C" fn oracle_surrounding_corner(
+    rows: u8,
+    cols: u8,
+    legacy: u32,
+    marker: u32,
+    corner: u8,
+) -> u64
+    ensures { λ r. ⌜ r ≡ fourWord (surroundingCorners (boardWith rows cols legacy unitSize) marker) (corner % 4) ⌝ }
 {
-    let around = board_of(rows, cols, 1.0).marker_surrounding_charuco_corners(marker);
+    let around = board_of(rows, cols, legacy, 1.0).marker_surrounding_charuco_corners(marker);
     match around {
         Surrounding::Corners {
             top_left,

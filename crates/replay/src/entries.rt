@@ -1,4 +1,4 @@
-// Kinds 5 to E: the entries, asked through their C functions, and the text of `place` for a record.
+// Kinds 5 to E, 10D and 10E: the entries, asked through their C functions, and the text of `place` for a record.
 use stored_rows::answers;
 use stored_rows::answers::Answer;
 use stored_rows::answers::BEFORE;
@@ -90,7 +90,7 @@ pub fn marker_cells(words: &[u64], row: [u64; 32]) -> Answer {
     whole_cells(words, &mut cells[..places], row)
 }
 
-// Kind D: what a board is made of, the alignment of the corners, words of the grid points.
+// Kinds D and 10D: what a board is made of, the alignment of the corners, words of the grid points.
 fn corners(words: &[u64], row: [u64; 32], list: &mut [u32], told: &mut [u32]) -> u32 {
     let bits = numbers::lows(row);
     let codes = lists::codes(row[8], row[9]);
@@ -104,6 +104,7 @@ fn corners(words: &[u64], row: [u64; 32], list: &mut [u32], told: &mut [u32]) ->
         bits[2],
         bits[3],
         bits[4],
+        numbers::legacy(row[0]),
         floats::from_bits(bits[5]),
         floats::from_bits(bits[6]),
         &codes[..code_count],
@@ -117,7 +118,7 @@ fn corners(words: &[u64], row: [u64; 32], list: &mut [u32], told: &mut [u32]) ->
     )
 }
 
-// Kind E: what a board is made of, the mode.
+// Kinds E and 10E: what a board is made of, the mode.
 fn links(words: &[u64], row: [u64; 32], list: &mut [u32], told: &mut [u32]) -> u32 {
     let bits = numbers::lows(row);
     let codes = lists::codes(row[8], row[9]);
@@ -129,6 +130,7 @@ fn links(words: &[u64], row: [u64; 32], list: &mut [u32], told: &mut [u32]) -> u
         bits[2],
         bits[3],
         bits[4],
+        numbers::legacy(row[0]),
         floats::from_bits(bits[5]),
         floats::from_bits(bits[6]),
         &codes[..code_count],
@@ -146,14 +148,14 @@ fn number_with_list(
     list: &mut [u32],
     told: &mut [u32],
 ) -> u32 {
-    match row[0] {
+    match numbers::kind(row[0]) {
         0xA => charuco::charuco_match_board(bytes, list, told),
         0xD => corners(words, row, list, told),
         _ => links(words, row, list, told),
     }
 }
 
-// Kinds A, D and E, which are lent a list of words.
+// Kinds A, D and E, 10D and 10E, which are lent a list of words.
 pub fn with_list(bytes: &[u8], words: &[u64], row: [u64; 32], list: &mut [u32]) -> Answer {
     let mut told = BEFORE;
     lists::fill(list);

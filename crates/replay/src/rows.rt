@@ -26,7 +26,7 @@ fn shape(arguments: u8, words: u8) -> Shape {
 // No row has 32 arguments: they stand for an unknown kind.
 fn shape_of(kind: u64) -> Shape {
     match kind {
-        0x5 => shape(0, 12),
+        0x5 => shape(0, 13),
         0x6 => shape(1, 2),
         0x7 => shape(1, 3),
         0x8 => shape(1, 5),
@@ -46,20 +46,23 @@ fn shape_of(kind: u64) -> Shape {
         0x16 => shape(1, 1),
         0x17 => shape(3, 1),
         0x18 => shape(4, 4),
+        0x10D => shape(14, 2),
+        0x10E => shape(11, 2),
+        0x111 => shape(3, 3),
         _ => shape(32, 0),
     }
 }
 
-// How many places of the list for results a row of kind A, D or E lends.
+// How many places of the list for results a row of kind A, D or E lends, or 10D or 10E.
 fn places_of(row: [u64; 32]) -> u64 {
-    match row[0] {
+    match numbers::kind(row[0]) {
         0xA => row[1],
         0xD => row[14],
         _ => row[11],
     }
 }
 
-// Kinds A, D and E.
+// Kinds A, D and E, 10D and 10E.
 fn answer_with_list(bytes: &[u8], words: &[u64], row: [u64; 32]) -> Answer {
     let mut list: [u32; 147500] = [0; 147500];
     let places = numbers::least(places_of(row), 147500);
@@ -68,15 +71,16 @@ fn answer_with_list(bytes: &[u8], words: &[u64], row: [u64; 32]) -> Answer {
 
 // The answer to a row that asks, about the bytes and words that are in use.
 fn answer(bytes: &[u8], words: &[u64], row: [u64; 32]) -> Answer {
-    match row[0] {
+    let kind = numbers::kind(row[0]);
+    match kind {
         0xA => answer_with_list(bytes, words, row),
         0xC => entries::marker_cells(words, row),
         0xD => answer_with_list(bytes, words, row),
         0xE => answer_with_list(bytes, words, row),
         0xF => texts::of_match(words),
         _ => {
-            if row[0] < 0x10 {
-                entries::read(bytes, row[0], row[1] as usize)
+            if kind < 0x10 {
+                entries::read(bytes, kind, row[1] as usize)
             } else {
                 answers::of_part(parts::words_of(bytes, row))
             }

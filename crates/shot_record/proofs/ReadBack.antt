@@ -8,7 +8,7 @@ use lib.ListN.{length}
 use Rattle.matcher.specs.Codes.{bit, fromBits}
 use Rattle.matcher.proofs.Bits.{bit-small}
 use Rattle.score_matrix.specs.Table.{patterns}
-use Rattle.shot_record.specs.Fields.{byte, number, mapByte, marginAt, thresholdAt, pxAt, tableAt, rowsAt, bitsOf, borderOf, codeCount, codesAt}
+use Rattle.shot_record.specs.Fields.{byte, number, mapByte, isSet, marginAt, thresholdAt, pxAt, tableAt, rowsAt, bitsOf, borderOf, codeCount, codesAt}
 use Rattle.shot_record.specs.Fields.{cellCountAt, cellCount, cellMapAt, cellMap, mapSize, sampled, gridSize, cellsAt, cellAt}
 use Rattle.shot_record.specs.Shots.{Cell, Shot, list, numbers, setting, defaultMargin, defaultThreshold, defaultPx, cellOf, shot, parse}
 use Rattle.shot_record.specs.Writing.{littleEndian, ifSet, each, marks, bytesOf, isSampled, FitCell, Default, Fit, WrittenShot}
@@ -71,6 +71,9 @@ module _ (bytes : List ℕ) (s : Shot) (w : WrittenShot bytes s) where
   border : borderOf bytes ≡ s .border
   border = byte-is (rowsAt bytes + 3) 3 refl (table .next)
 
+  legacy : isSet m 4 ≡ s .legacyPattern
+  legacy = sym (fit .legacy)
+
   cell-size : Read (number 4 (rowsAt bytes + 4) bytes) (s .cellSize) bytes (rowsAt bytes + 8) (fromMarkerSize s)
   cell-size =
       number-read 4 (rowsAt bytes + 8) (s .cellSize) (fit .cell-size) (omega arith)
@@ -123,6 +126,7 @@ module _ (bytes : List ℕ) (s : Shot) (w : WrittenShot bytes s) where
         cols = cols i;
         bits = bits i;
         border = border i;
+        legacyPattern = legacy i;
         cellSize = cell-size .value i;
         markerSizeRel = marker-size .value i;
         codes = codes .value i;

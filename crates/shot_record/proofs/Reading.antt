@@ -17,7 +17,7 @@ use Rattle.matcher.proofs.Bits.{bit-small, bit-under}
 use Rattle.shot_record.specs.declared.fields.Fields.{Fields}
 use Rattle.shot_record.specs.Shots.{numbers, setting, shot}
 use Rattle.shot_record.proofs.Lists.{length-list, getD-list}
-use Rattle.shot_record.specs.Fields.{fieldsOf, byte, number, mapByte, thresholdAt, pxAt, tableAt, rowsAt, bitsOf, borderOf, codeCount, codesAt}
+use Rattle.shot_record.specs.Fields.{fieldsOf, byte, number, mapByte, isSet, thresholdAt, pxAt, tableAt, rowsAt, bitsOf, borderOf, codeCount, codesAt}
 use Rattle.shot_record.specs.Fields.{cellCountAt, cellCount, cellMapAt, cellMap, sampled, mapSize, gridSize, cellLength, cellsAt, cellAt}
 
 -- the fields that were found, one by one
@@ -68,7 +68,7 @@ table-size bytes =
     setting-either (λ (l : List ℕ). length l ≡ 511) (bit (mapByte bytes) 3) (length-list (λ (k : ℕ). number 4 (tableAt bytes + 4 * k) bytes) 511) pattern-count
 
 -- the table of a record, by whether it sets one
-module _ (f : Fields) (bytes : List ℕ) (e : f ≡ fieldsOf bytes) (sets : Bool) (h : sets ≡ not (eqb (bit (f .map) 3) 0)) where
+module _ (f : Fields) (bytes : List ℕ) (e : f ≡ fieldsOf bytes) (sets : Bool) (h : sets ≡ isSet (f .map) 3) where
   flag : bit (f .map) 3 ≡ bit (mapByte bytes) 3
   flag = ap (λ (m : ℕ). bit m 3) (found f bytes e .map)
 

@@ -132,6 +132,7 @@ module _ (bytes : List ℕ) (b : Bytes bytes) (w : Whole bytes) where
         cols = small (rowsAt bytes + 1);
         bits = small (rowsAt bytes + 2);
         border = small (rowsAt bytes + 3);
+        legacy = refl;
         cell-size = number-below bytes small 4 (rowsAt bytes + 4);
         marker-size = number-below bytes small 4 (rowsAt bytes + 8);
         code-count = rw length-list (number-below bytes small 2 (rowsAt bytes + 12));

@@ -41,6 +41,7 @@ specOf s =
       cols = s .cols;
       bits = s .bits;
       «border_bits» = s .border;
+      «legacy_pattern» = s .legacyPattern;
       «cell_size» = ofPattern (s .cellSize);
       «marker_size_rel» = ofPattern (s .markerSizeRel);
     }

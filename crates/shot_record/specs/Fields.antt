@@ -1,7 +1,9 @@
 -- Document 01, "The shot record": where each field of a record starts. A byte past the end of the record counts as 0; such a record is
 -- refused (`whole` in Shots.antt).
 use Prim.Native.Nat.{ℕ, zero, suc, _+_, _*_, _/_}
+use mathlib.Core.Bool.{Bool, not}
 use mathlib.Core.List.{List}
+use lib.Dec.{eqb}
 use lib.ListN.{getD}
 use Rattle.matcher.specs.Codes.{bit}
 use Rattle.score_matrix.specs.Scores.{side}
@@ -16,9 +18,12 @@ number zero at bytes = 0
 number (suc n) at bytes = byte at bytes + 256 * number n (suc at) bytes
 
 -- One map byte, bit 0 lowest, then only the fields whose bit is set: 0 minimum margin, 1 border threshold, 2 px_per_square,
--- 3 table, 2,044 bytes.
+-- 3 table, 2,044 bytes. Document 02: "Bit 4 … marks a legacy board; it adds no field."
 abbrev pub mapByte : List ℕ → ℕ
 mapByte bytes = byte 0 bytes
+
+abbrev pub isSet : ℕ → ℕ → Bool
+isSet map k = not (eqb (bit map k) 0)
 
 abbrev pub marginAt : ℕ
 marginAt = 1

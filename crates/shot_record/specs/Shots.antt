@@ -11,7 +11,7 @@ use mir.Val.{toZ}
 use Rattle.matcher.specs.Codes.{bit}
 use Rattle.score_matrix.specs.Locality.{part}
 use Rattle.score_matrix.specs.Table.{patterns}
-use Rattle.shot_record.specs.Fields.{byte, number, mapByte, marginAt, thresholdAt, pxAt, tableAt, rowsAt, bitsOf, borderOf, codeCount, codesAt, cellCount}
+use Rattle.shot_record.specs.Fields.{byte, number, mapByte, isSet, marginAt, thresholdAt, pxAt, tableAt, rowsAt, bitsOf, borderOf, codeCount, codesAt, cellCount}
 use Rattle.shot_record.specs.Fields.{cellMap, sampled, gridSize, cellAt}
 
 -- What is sampled of a cell. A float is its pattern of 32 bits, here and below, so that a shot has every bit of its record.
@@ -34,6 +34,7 @@ pub record Shot : Type 0 where
   pub cols : ℕ
   pub bits : ℕ
   pub border : ℕ
+  pub legacyPattern : Bool
   pub cellSize : ℕ
   pub markerSizeRel : ℕ
   pub codes : List ℕ
@@ -87,6 +88,7 @@ shot bytes =
       cols = byte (rowsAt bytes + 1) bytes;
       bits = bitsOf bytes;
       border = borderOf bytes;
+      legacyPattern = isSet (mapByte bytes) 4;
       cellSize = number 4 (rowsAt bytes + 4) bytes;
       markerSizeRel = number 4 (rowsAt bytes + 8) bytes;
       codes = numbers 8 (codeCount bytes) (codesAt bytes) bytes;
@@ -98,7 +100,7 @@ shot bytes =
 unfoldable pub wholeRecord : List ℕ → Bool
 wholeRecord bytes =
     leb (length bytes) 65535
-    && (ltb (mapByte bytes) 16 && (ltb (cellMap bytes) (2 ^ cellCount bytes) && eqb (cellAt bytes (cellCount bytes)) (length bytes)))
+    && (ltb (mapByte bytes) 32 && (ltb (cellMap bytes) (2 ^ cellCount bytes) && eqb (cellAt bytes (cellCount bytes)) (length bytes)))
 
 -- The one meaning of a record: a shot, or refused.
 unfoldable pub parse : List ℕ → Option Shot

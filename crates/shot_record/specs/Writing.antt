@@ -8,7 +8,7 @@ use mir.Syntax.{w16}
 use mir.Val.{SFits, ofZ}
 use Rattle.matcher.specs.Codes.{bit, fromBits}
 use Rattle.score_matrix.specs.Table.{patterns}
-use Rattle.shot_record.specs.Fields.{mapByte, mapSize, gridSize}
+use Rattle.shot_record.specs.Fields.{mapByte, isSet, mapSize, gridSize}
 use Rattle.shot_record.specs.Shots.{Sample, Cell, Shot, defaultMargin, defaultThreshold, defaultPx, parse}
 
 -- a number in n bytes, little-endian
@@ -97,7 +97,7 @@ pub record FitCell (grid : ℕ) (c : Cell) : Type 0 where
   pub sample : IfSampled grid (c .sample)
 
 pub record Fit (m : ℕ) (s : Shot) : Type 0 where
-  pub map : m < 16
+  pub map : m < 32
   pub margin : s .minimumMargin < 2 ^ 32
   pub margin-default : Default (bit m 0) (s .minimumMargin) defaultMargin
   pub threshold : s .borderThreshold < 2 ^ 32
@@ -111,6 +111,7 @@ pub record Fit (m : ℕ) (s : Shot) : Type 0 where
   pub cols : s .cols < 256
   pub bits : s .bits < 256
   pub border : s .border < 256
+  pub legacy : s .legacyPattern ≡ isSet m 4
   pub cell-size : s .cellSize < 2 ^ 32
   pub marker-size : s .markerSizeRel < 2 ^ 32
   pub code-count : length (s .codes) < 65536

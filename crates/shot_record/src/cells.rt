@@ -75,7 +75,7 @@ pub fn is_whole(bytes: &[u8], f: Fields) -> bool
     if 65535 < bytes.len() {
         return false;
     }
-    if 15 < f.map {
+    if 31 < f.map {
         return false;
     }
     if !has_clear_map(bytes, f) {

@@ -1,11 +1,8 @@
 // Where the fields of a record start, and those before its cells.
 ghost use mathlib.Core.Path.{_≡_};
-ghost use mathlib.Core.Bool.{not};
 ghost use Prim.Native.Nat.{_+_, _*_, _^_, _<_, _≤_};
-ghost use lib.Dec.{eqb};
 ghost use lib.ListN.{getD};
-ghost use Rattle.matcher.specs.Codes.{bit};
-ghost use Rattle.shot_record.specs.Fields.{number, codesAt, gridSize, fieldsOf};
+ghost use Rattle.shot_record.specs.Fields.{isSet, number, codesAt, gridSize, fieldsOf};
 ghost use Rattle.shot_record.specs.Shots.{setting as settingOf, shot};
 ghost use Rattle.shot_record.specs.Answers.{ofPattern, configOf, specOf};
 use super::numbers;
@@ -102,6 +99,7 @@ pub fn spec(bytes: &[u8], f: Fields) -> CharucoBoardSpec
         cols: numbers::byte_at(bytes, at + 1) as u32,
         bits: numbers::byte_at(bytes, at + 2) as u32,
         border_bits: numbers::byte_at(bytes, at + 3) as u32,
+        legacy_pattern: numbers::bit(f.map, 4) != 0,
         cell_size: numbers::float_at(bytes, at + 4),
         marker_size_rel: numbers::float_at(bytes, at + 8),
     }
@@ -109,7 +107,7 @@ pub fn spec(bytes: &[u8], f: Fields) -> CharucoBoardSpec
 
 // Has the record a table of its own?
 pub fn sets_table(f: Fields) -> bool
-    ensures { λ r. ⌜ r ≡ not (eqb (bit (f .map) 3) 0) ⌝ }
+    ensures { λ r. ⌜ r ≡ isSet (f .map) 3 ⌝ }
 {
     numbers::bit(f.map, 3) != 0
 }

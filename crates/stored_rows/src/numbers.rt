@@ -13,6 +13,15 @@ pub fn byte(w: u64) -> u8 {
     (w % 256) as u8
 }
 
+// A row above FF asks what the kind 100 less asks, of a legacy board.
+pub fn kind(w: u64) -> u64 {
+    w % 256
+}
+
+pub fn legacy(w: u64) -> u32 {
+    low(w / 256)
+}
+
 // The low halves of a row's words.
 pub fn lows(row: [u64; 32]) -> [u32; 32] {
     let mut bits: [u32; 32] = [0; 32];

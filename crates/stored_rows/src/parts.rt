@@ -100,7 +100,7 @@ fn by_point(kind: u64, bits: [u32; 32]) -> [u32; 17] {
 
 // The words for a row; those of a score for the last kind.
 pub fn words_of(bytes: &[u8], row: [u64; 32]) -> [u32; 17] {
-    match row[0] {
+    match numbers::kind(row[0]) {
         0x10 => turned_code(row),
         0x11 => layout::words_of(row),
         0x15 => table_entries(numbers::byte(row[1] / 16)),

@@ -1,7 +1,7 @@
 -- Document 01, "Proved table": its rows P1 to P12, as statements about the definitions.
 use mathlib.Core.Path.{_≡_}
 use Prim.Native.Nat.{ℕ, _≤_}
-use mathlib.Core.Bool.{true}
+use mathlib.Core.Bool.{true, false}
 use mathlib.Core.List.{List, [], _∷_}
 use mathlib.Core.Option.{Option, none, some}
 use lib.ListN.{length}
@@ -93,6 +93,7 @@ showing s u first second =
       cols = 5;
       bits = s .bits;
       border = s .border;
+      legacyPattern = s .legacyPattern;
       cellSize = s .cellSize;
       markerSizeRel = s .markerSizeRel;
       codes = s .codes;
@@ -111,6 +112,7 @@ tooWide =
       cols = 5;
       bits = 4;
       border = 1;
+      legacyPattern = false;
       cellSize = 0x3F800000;
       markerSizeRel = 0x3F000000;
       codes = 0 ∷ 1 ∷ 2 ∷ 3 ∷ 4 ∷ 5 ∷ 6 ∷ 7 ∷ 8 ∷ 9 ∷ [];
@@ -119,7 +121,7 @@ tooWide =
 
 -- a board with so many rows and cols, otherwise as there
 abbrev pub board : ℕ → ℕ → Board
-board rows cols = record { rows = rows; cols = cols; bits = 4; «border_bits» = 1; «cell_size» = oneFloat; «marker_size_rel» = half }
+board rows cols = record { rows = rows; cols = cols; bits = 4; «border_bits» = 1; «legacy_pattern» = false; «cell_size» = oneFloat; «marker_size_rel» = half }
 
 -- P8's links: a marker and a corner each
 abbrev pub links : List ℕ

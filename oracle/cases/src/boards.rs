@@ -13,6 +13,8 @@ pub struct BoardArguments {
     pub cols: u32,
     pub bits: u32,
     pub border_bits: u32,
+    /// The mark of a board from before OpenCV 4.6.
+    pub legacy_pattern: bool,
     pub cell_size: f32,
     pub marker_size_rel: f32,
     pub code_count: usize,
@@ -21,6 +23,13 @@ pub struct BoardArguments {
 }
 
 impl BoardArguments {
+    pub const fn with_mark(self, legacy_pattern: bool) -> Self {
+        Self {
+            legacy_pattern,
+            ..self
+        }
+    }
+
     /// They live as long as the program, which the dictionary of the Rust asks for. Each list is made once.
     pub fn codes(&self) -> &'static [u64] {
         type Made = HashMap<(usize, usize, u64), &'static [u64]>;
@@ -37,13 +46,14 @@ impl BoardArguments {
     }
 }
 
-/// A board that is accepted, with as many codes as it has markers.
+/// A board that is accepted, with as many codes as it has markers and without a mark.
 pub const fn board([rows, cols]: [u32; 2], cell_size: f32) -> BoardArguments {
     BoardArguments {
         rows,
         cols,
         bits: 4,
         border_bits: 1,
+        legacy_pattern: false,
         cell_size,
         marker_size_rel: 0.75,
         code_count: (rows * cols / 2) as usize,

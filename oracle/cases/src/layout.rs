@@ -34,8 +34,10 @@ pub fn ids(count: u32) -> Vec<u32> {
     shifted.into_iter().flatten().chain(ends).collect()
 }
 
-/// The squares with markers, by id: those whose column and row make an odd sum, row by row.
-pub fn marker_squares(rows: u32, cols: u32) -> impl Iterator<Item = [u32; 2]> {
+/// The squares with markers, by id: those whose column and row make an odd sum, row by row. On a legacy board with an
+/// even row count, whose top left square is white, they make an even one.
+pub fn marker_squares(rows: u32, cols: u32, legacy: bool) -> impl Iterator<Item = [u32; 2]> {
     let squares = (0..rows).flat_map(move |j| (0..cols).map(move |i| [i, j]));
-    squares.filter(|[i, j]| (i + j) % 2 == 1)
+    let parity = if legacy && rows % 2 == 0 { 0 } else { 1 };
+    squares.filter(move |[i, j]| (i + j) % 2 == parity)
 }

@@ -43,6 +43,12 @@ impl LinkInput {
         }
     }
 
+    /// The same links on a legacy board.
+    pub const fn marked(mut self) -> Self {
+        self.board.legacy_pattern = true;
+        self
+    }
+
     pub fn links(&self) -> &[[u32; 2]] {
         self.words.as_chunks().0
     }
@@ -55,7 +61,7 @@ impl LinkInput {
 
 /// The squares with markers, by id.
 pub fn marker_squares(board: &BoardArguments) -> Vec<[u32; 2]> {
-    layout::marker_squares(board.rows, board.cols).collect()
+    layout::marker_squares(board.rows, board.cols, board.legacy_pattern).collect()
 }
 
 /// The ids of the corners top left, top right, bottom right, bottom left of a square, which is not on the rim.

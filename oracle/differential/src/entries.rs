@@ -102,6 +102,7 @@ const fn spec(board: &BoardArguments) -> BoardSpec {
         cols: board.cols,
         bits: board.bits,
         border_bits: board.border_bits,
+        legacy_pattern: board.legacy_pattern,
         cell_size: board.cell_size,
         marker_size_rel: board.marker_size_rel,
     }

@@ -15,13 +15,26 @@ unsafe extern "C" {
     safe fn oracle_corner_translation(turn: u8, tx: i16, ty: i16, axis: u8) -> i32;
     safe fn oracle_cell_rect_corner(u: i16, v: i16, px: f32, corner: u8, axis: u8) -> f32;
 
-    safe fn oracle_marker_count(rows: u8, cols: u8) -> u64;
-    safe fn oracle_marker_id_at(rows: u8, cols: u8, i: i32, j: i32) -> u64;
-    safe fn oracle_marker_position(rows: u8, cols: u8, id: u32) -> u64;
-    safe fn oracle_corner_id(rows: u8, cols: u8, i: i32, j: i32) -> u64;
-    safe fn oracle_corner_position(rows: u8, cols: u8, id: u32) -> u64;
-    safe fn oracle_object_xy(rows: u8, cols: u8, cell_size: f32, id: u32, axis: u8) -> f32;
-    safe fn oracle_surrounding_corner(rows: u8, cols: u8, marker: u32, corner: u8) -> u64;
+    safe fn oracle_marker_count(rows: u8, cols: u8, legacy: u32) -> u64;
+    safe fn oracle_marker_id_at(rows: u8, cols: u8, legacy: u32, i: i32, j: i32) -> u64;
+    safe fn oracle_marker_position(rows: u8, cols: u8, legacy: u32, id: u32) -> u64;
+    safe fn oracle_corner_id(rows: u8, cols: u8, legacy: u32, i: i32, j: i32) -> u64;
+    safe fn oracle_corner_position(rows: u8, cols: u8, legacy: u32, id: u32) -> u64;
+    safe fn oracle_object_xy(
+        rows: u8,
+        cols: u8,
+        legacy: u32,
+        cell_size: f32,
+        id: u32,
+        axis: u8,
+    ) -> f32;
+    safe fn oracle_surrounding_corner(
+        rows: u8,
+        cols: u8,
+        legacy: u32,
+        marker: u32,
+        corner: u8,
+    ) -> u64;
 }
 
 pub fn turned(turn: u8, [u, v]: [i16; 2]) -> [i32; 2] {
@@ -40,43 +53,64 @@ pub fn cell_rect_corners([u, v]: [i16; 2], px: f32) -> [[f32; 2]; 4] {
     [0, 1, 2, 3].map(|corner| [0, 1].map(|axis| oracle_cell_rect_corner(u, v, px, corner, axis)))
 }
 
-/// A board by its size, which is all that the layout depends on.
+/// A board by its size and mark, which is all that the layout depends on.
 pub struct Board {
     pub rows: u8,
     pub cols: u8,
+    pub legacy: bool,
 }
 
 impl Board {
+    fn mark(&self) -> u32 {
+        self.legacy.into()
+    }
+
     pub fn marker_count(&self) -> u64 {
-        oracle_marker_count(self.rows, self.cols)
+        oracle_marker_count(self.rows, self.cols, self.mark())
     }
 
     pub fn marker_id_at(&self, i: i32, j: i32) -> Option<u64> {
-        present(oracle_marker_id_at(self.rows, self.cols, i, j))
+        present(oracle_marker_id_at(self.rows, self.cols, self.mark(), i, j))
     }
 
     pub fn marker_position(&self, id: u32) -> Option<[u64; 2]> {
-        present(oracle_marker_position(self.rows, self.cols, id)).map(column_and_row)
+        present(oracle_marker_position(
+            self.rows,
+            self.cols,
+            self.mark(),
+            id,
+        ))
+        .map(column_and_row)
     }
 
     pub fn corner_id(&self, i: i32, j: i32) -> Option<u64> {
-        present(oracle_corner_id(self.rows, self.cols, i, j))
+        present(oracle_corner_id(self.rows, self.cols, self.mark(), i, j))
     }
 
     pub fn corner_position(&self, id: u32) -> Option<[u64; 2]> {
-        present(oracle_corner_position(self.rows, self.cols, id)).map(column_and_row)
+        present(oracle_corner_position(
+            self.rows,
+            self.cols,
+            self.mark(),
+            id,
+        ))
+        .map(column_and_row)
     }
 
     /// Both are NaN where the id is unknown.
     pub fn object_xy(&self, cell_size: f32, id: u32) -> [f32; 2] {
-        [0, 1].map(|axis| oracle_object_xy(self.rows, self.cols, cell_size, id, axis))
+        [0, 1].map(|axis| oracle_object_xy(self.rows, self.cols, self.mark(), cell_size, id, axis))
     }
 
     /// Each of the four by itself: the library answers for one corner at a time.
     pub fn surrounding_corners(&self, marker: u32) -> [Option<u64>; 4] {
         [0, 1, 2, 3].map(|corner| {
             present(oracle_surrounding_corner(
-                self.rows, self.cols, marker, corner,
+                self.rows,
+                self.cols,
+                self.mark(),
+                marker,
+                corner,
             ))
         })
     }

@@ -32,6 +32,15 @@ pub struct Marker {
     pub corners: [[f32; 2]; 4],
 }
 
+/// What the search chooses among the placements.
+#[derive(Clone, Copy, Debug)]
+pub struct Selected {
+    pub best: Hypothesis,
+    pub runner_up: Option<Hypothesis>,
+    pub margin: f32,
+    pub placements: usize,
+}
+
 #[derive(Clone, Debug)]
 pub struct Placed {
     pub best: Hypothesis,
@@ -93,6 +102,23 @@ impl Hypothesis {
 }
 
 impl Placed {
+    pub fn new(selected: Selected, corners: Alignment, markers: Vec<Marker>) -> Self {
+        let Selected {
+            best,
+            runner_up,
+            margin,
+            placements,
+        } = selected;
+        Self {
+            best,
+            runner_up,
+            margin,
+            placements,
+            corners,
+            markers,
+        }
+    }
+
     fn words(&self) -> Vec<u32> {
         let next = self.runner_up.as_ref();
         let words = [

@@ -21,6 +21,8 @@ pub struct Given {
 
 pub struct Kind {
     pub name: &'static str,
+    /// Of legacy boards, with scenes that are drawn on their layout.
+    pub legacy: bool,
     pub count: usize,
     make: Make,
 }
@@ -46,17 +48,35 @@ pub const KINDS: [Kind; 14] = [
     kind("damaged records", 8_000, Make::Given(damaged)),
 ];
 
-/// A shot gets a list with a place for each cell.
+/// The same kinds of legacy boards, half as many records of each.
+pub const LEGACY_KINDS: [Kind; KINDS.len()] = {
+    let mut kinds = KINDS;
+    let mut place = 0;
+    while place < kinds.len() {
+        kinds[place].legacy = true;
+        kinds[place].count /= 2;
+        place += 1;
+    }
+    kinds
+};
+
+/// A shot gets a list with a place for each cell. The second argument is the mark.
+#[derive(Clone, Copy)]
 enum Make {
-    Shot(fn(&mut Prng) -> Shot),
-    Given(fn(&mut Prng) -> Given),
+    Shot(fn(&mut Prng, bool) -> Shot),
+    Given(fn(&mut Prng, bool) -> Given),
 }
 
 const fn kind(name: &'static str, count: usize, make: Make) -> Kind {
-    Kind { name, count, make }
+    Kind {
+        name,
+        legacy: false,
+        count,
+        make,
+    }
 }
 
-const fn shots(name: &'static str, count: usize, make: fn(&mut Prng) -> Shot) -> Kind {
+const fn shots(name: &'static str, count: usize, make: fn(&mut Prng, bool) -> Shot) -> Kind {
     kind(name, count, Make::Shot(make))
 }
 
@@ -68,14 +88,15 @@ impl Kind {
     /// The first so many, or more than there are of the kind.
     pub fn first(&self, count: usize) -> impl Iterator<Item = Given> {
         let name = self.name.bytes().map(u64::from);
-        let seed = name.fold(7u64, |seed, byte| seed.wrapping_mul(1_000_003) ^ byte);
+        let first = if self.legacy { 21u64 } else { 7 };
+        let seed = name.fold(first, |seed, byte| seed.wrapping_mul(1_000_003) ^ byte);
         let mut prng = Prng::new(seed);
         (0..count).map(move |_| match self.make {
             Make::Shot(make) => {
-                let shot = make(&mut prng);
+                let shot = make(&mut prng, self.legacy);
                 with_places(&mut prng, shot)
             }
-            Make::Given(make) => make(&mut prng),
+            Make::Given(make) => make(&mut prng, self.legacy),
         })
     }
 }
@@ -94,8 +115,8 @@ fn with_places(prng: &mut Prng, mut shot: Shot) -> Given {
 }
 
 /// A list around the length that is needed, or of any other.
-fn with_any_places(prng: &mut Prng) -> Given {
-    let shot = numbers::shown(prng);
+fn with_any_places(prng: &mut Prng, legacy: bool) -> Given {
+    let shot = numbers::shown(prng, legacy);
     let needed = shot.cells.len() * MARKER_WORDS;
     let near = [needed - 1, needed, needed, needed + 1, needed + 100];
     let any = [0, 1, MARKER_WORDS, needed / 2];
@@ -104,16 +125,17 @@ fn with_any_places(prng: &mut Prng) -> Given {
     Given { record, places }
 }
 
-fn damaged(prng: &mut Prng) -> Given {
-    let shot = numbers::shown(prng);
+fn damaged(prng: &mut Prng, legacy: bool) -> Given {
+    let shot = numbers::shown(prng, legacy);
     let written = write(&shot);
     let one_of =
         |prng: &mut Prng, mut records: Vec<Vec<u8>>| records.swap_remove(prng.place(records.len()));
     let record = match prng.below(8) {
-        0 => one_of(prng, damage::spare_bits(&written, shot.cells.len())),
+        0 => one_of(prng, damage::bits_without_field(&written, shot.cells.len())),
         1 => one_of(prng, damage::counts(&written)),
         2 => one_of(prng, damage::one_byte_more(&written.bytes).to_vec()),
         3 | 4 => written.bytes[..prng.place(written.bytes.len())].to_vec(),
+        5 if legacy => damage::marked(damage::random_bytes(prng)),
         5 => damage::random_bytes(prng),
         _ => damage::with_bytes_changed(prng, &written.bytes),
     };

@@ -8,12 +8,15 @@ mod model;
 mod questions;
 mod rust;
 mod text;
+mod turned;
 mod wide;
 
 pub use answer::{
-    ANSWER_WORDS, Alignment, Hypothesis, MARKER_WORDS, MOST_PLACES, Marker, Matched, Placed, told,
+    ANSWER_WORDS, Alignment, Hypothesis, MARKER_WORDS, MOST_PLACES, Marker, Matched, Placed,
+    Selected, told,
 };
-pub use questions::{by_rust_and_model, match_record, match_shot};
+pub use questions::{by_rust_and_model, by_turned_rust_and_model, match_record, match_shot};
 pub use rust::{Matching, Samples};
 pub use text::text;
+pub use turned::{Compared, TurnedShot};
 pub use wide::Wide;

@@ -1,7 +1,8 @@
-//! The match by the rules of document 01 alone, for tables that no formula gives: naive, sentence by sentence, without the
-//! Rust. Tests hold it to the Rust where there is a formula.
+//! The match by the rules of document 01 alone, for tables that no formula gives and for legacy boards with an even row count:
+//! naive, sentence by sentence, without the Rust. The comparison holds it to the Rust, also for such boards, which are turned
+//! for it (`turned.rs`), where there is a formula.
 
-use crate::answer::{Alignment, Hypothesis, Marker, Matched, Placed, below_minimum};
+use crate::answer::{Alignment, Hypothesis, Marker, Matched, Placed, Selected, below_minimum};
 use cases::answer::Answer;
 use cases::cells::Cell as Grid;
 use cases::layout::marker_squares;
@@ -19,27 +20,18 @@ pub fn match_shot(shot: &Shot) -> Matched {
         return Err(Answer::refused(11));
     }
     let model = Model::new(shot);
-    let all = model.hypotheses();
-    let Some(best) = first_greatest(&all, None) else {
+    let Some(selected) = model.selected(&model.hypotheses()) else {
         return Err(Answer::refused(15));
     };
-    let runner_up = first_greatest(&all, Some(best));
-    let margin = model.margin(&all[best], runner_up.map(|place| &all[place]));
-    if margin < f32::from_bits(shot.minimum_margin) {
-        return Err(below_minimum(margin));
+    if selected.margin < f32::from_bits(shot.minimum_margin) {
+        return Err(below_minimum(selected.margin));
     }
-    let markers = model.markers(all[best].alignment);
+    let at = selected.best.alignment;
+    let markers = model.markers(at);
     if markers.is_empty() {
         return Err(Answer::refused(17));
     }
-    Ok(Placed {
-        best: all[best],
-        runner_up: runner_up.map(|place| all[place]),
-        margin,
-        placements: all.len(),
-        corners: corner_alignment(all[best].alignment),
-        markers,
-    })
+    Ok(Placed::new(selected, corner_alignment(at), markers))
 }
 
 /// The place of the first of the greatest, but for one that does not count. None is below every number.
@@ -100,7 +92,7 @@ impl<'a> Model<'a> {
     pub fn new(shot: &'a Shot) -> Self {
         let [rows, cols] = [shot.rows, shot.cols].map(u32::from);
         let mut markers = vec![None; (rows * cols) as usize];
-        for (id, [i, j]) in marker_squares(rows, cols).enumerate() {
+        for (id, [i, j]) in marker_squares(rows, cols, shot.is_legacy()).enumerate() {
             markers[(j * cols + i) as usize] = Some(id);
         }
         let samples = shot.cells.iter().map(|cell| cell.sample.as_ref());
@@ -144,6 +136,18 @@ impl<'a> Model<'a> {
     pub fn hypotheses(&self) -> Vec<Hypothesis> {
         let alignments = self.alignments().into_iter();
         alignments.map(|at| self.hypothesis(at)).collect()
+    }
+
+    /// Of all placements.
+    pub fn selected(&self, all: &[Hypothesis]) -> Option<Selected> {
+        let best = first_greatest(all, None)?;
+        let runner_up = first_greatest(all, Some(best)).map(|place| all[place]);
+        Some(Selected {
+            best: all[best],
+            runner_up,
+            margin: self.margin(&all[best], runner_up.as_ref()),
+            placements: all.len(),
+        })
     }
 
     fn hypothesis(&self, at: Alignment) -> Hypothesis {

@@ -2,6 +2,7 @@
 //! made, 11 and 15 to 17 in the matcher. The rule for the added ones stands here and in `theirs`.
 
 use crate::answer::{MARKER_WORDS, Matched};
+use crate::turned::{self, Compared};
 use crate::{model, rust};
 use calib_targets_charuco::CharucoBoard;
 use cases::answer::Answer;
@@ -24,17 +25,33 @@ pub fn match_record(record: &[u8], places: usize) -> Matched {
 pub fn match_shot(shot: &Shot, places: usize) -> Matched {
     asked_first(shot, places)?;
     match slope_and_floor(&shot.table) {
-        Some(slope_and_floor) => rust::Matching::new(shot, slope_and_floor).matched(),
-        None => model::match_shot(shot),
+        Some(slope_and_floor) if !is_unknown_to_rust(shot) => {
+            rust::Matching::new(shot, slope_and_floor).matched()
+        }
+        _ => model::match_shot(shot),
     }
 }
 
-/// What the Rust and the rules alone say, for a shot that comes so far and has a table by the formula.
+/// What the Rust and the rules alone say, for a shot that comes so far, has a table by the formula and a board that the Rust
+/// knows.
 pub fn by_rust_and_model(shot: &Shot) -> Option<[Matched; 2]> {
     asked_first(shot, usize::MAX).ok()?;
-    let slope_and_floor = slope_and_floor(&shot.table)?;
+    let slope_and_floor = slope_and_floor(&shot.table).filter(|_| !is_unknown_to_rust(shot))?;
     let by_rust = rust::Matching::new(shot, slope_and_floor).matched();
     Some([by_rust, model::match_shot(shot)])
+}
+
+/// What the Rust says of the board turned by a quarter, and the rules alone of the board as it is, for a shot that comes so
+/// far, has a table by the formula and a board that the Rust does not know.
+pub fn by_turned_rust_and_model(shot: &Shot) -> Option<[Compared; 2]> {
+    asked_first(shot, usize::MAX).ok()?;
+    let slope_and_floor = slope_and_floor(&shot.table).filter(|_| is_unknown_to_rust(shot))?;
+    (!shot.cells.is_empty()).then(|| turned::by_rust_and_model(shot, slope_and_floor))
+}
+
+/// The Rust knows no mark. With an odd row count it answers as if there were none.
+const fn is_unknown_to_rust(shot: &Shot) -> bool {
+    shot.is_legacy() && shot.rows % 2 == 0
 }
 
 /// The questions 1 to 10 and 12 to 14. Where there is no cell, 12 to 14 have nothing to refuse, so that the Rust may
@@ -64,6 +81,7 @@ pub fn board(shot: &Shot) -> Result<CharucoBoard, Answer> {
         cols: shot.cols.into(),
         bits: shot.bits.into(),
         border_bits: shot.border.into(),
+        legacy_pattern: shot.is_legacy(),
         cell_size: f32::from_bits(shot.cell_size),
         marker_size_rel: f32::from_bits(shot.marker_size_rel),
         code_count: shot.codes.len(),

@@ -1,12 +1,12 @@
 //! A shot in the shapes of the upstream Rust, and the answer of its matcher.
 
-use crate::answer::{Alignment, Hypothesis, Marker, Matched, Placed, below_minimum};
+use crate::answer::{Alignment, Hypothesis, Marker, Matched, Placed, Selected, below_minimum};
 use crate::questions::board;
 use calib_targets_aruco::{
     CellSamples, MarkerCell, MarkerDetection, ScanDecodeConfig, corners_of_place, place_of_corners,
 };
 use calib_targets_charuco::{
-    CharucoBoard, DiagHypothesis, Gate, MatchRun, MatchSettings, count_of_markers,
+    CharucoBoard, DiagHypothesis, Gate, MatchRun, MatchSettings, ScoredCells, count_of_markers,
 };
 use calib_targets_core::{Coord, GRID_TRANSFORMS_C4, GridAlignment};
 use cases::answer::Answer;
@@ -56,36 +56,75 @@ impl Matching {
     }
 
     pub fn matched(&self) -> Matched {
+        self.selected_and_matched().1
+    }
+
+    /// Also what the search chose, which a refusal by 17 does not tell; none where it came to no placement.
+    pub fn selected_and_matched(&self) -> (Option<Selected>, Matched) {
         let samples = self.samples();
         let run = MatchRun::new(&self.board, &self.cells, &samples.0, self.settings);
-        Err(match run.gate {
-            Some(Gate::NoCells) => Answer::refused(11),
-            Some(Gate::TranslationWindow) => Answer::refused(15),
-            Some(Gate::Margin) => below_minimum(run.selected.expect("there is a best").margin),
-            Some(Gate::NoMarkers) => Answer::refused(17),
+        let selected = run.selected.as_ref().map(|chosen| Selected {
+            best: hypothesis(&chosen.best),
+            runner_up: chosen.runner_up.as_ref().map(hypothesis),
+            margin: chosen.margin,
+            placements: chosen.total,
+        });
+        let chosen = || selected.expect("there is a best");
+        let matched = match run.gate {
+            Some(Gate::NoCells) => Err(Answer::refused(11)),
+            Some(Gate::TranslationWindow) => Err(Answer::refused(15)),
+            Some(Gate::Margin) => Err(below_minimum(chosen().margin)),
+            Some(Gate::NoMarkers) => Err(Answer::refused(17)),
             Some(Gate::EmptyBoard) => panic!("a board that is made has markers"),
-            None => return Ok(placed(run)),
-        })
+            None => Ok(placed(chosen(), run)),
+        };
+        (selected, matched)
+    }
+
+    /// Every placement of a shot that has cells. The search tells the best alone, so it is asked about one placement at a time:
+    /// two cells that are not sampled, on opposite squares of the board, leave one translation in each turn, and the scores of
+    /// the other turns are taken away. Only translations that put the first cell on the board are tried.
+    pub fn hypotheses(&self) -> Vec<Hypothesis> {
+        let [cols, rows] = [self.board.spec().cols, self.board.spec().rows].map(|n| n as i32);
+        let samples = [&self.samples[..], &[None, None]].concat();
+        let mut all = Vec::new();
+        for turn in 0..4 {
+            let transform = GRID_TRANSFORMS_C4[usize::from(turn)];
+            let back = GRID_TRANSFORMS_C4[usize::from((4 - turn) % 4)];
+            let scores = ScoredCells::new(&self.board, &samples, self.settings);
+            let mut scores = scores.expect("a board that is made has markers");
+            scores.keep_turn(turn);
+            let first = transform.apply(self.cells[0].gc);
+            for tx in -first.u..cols - first.u {
+                for ty in -first.v..rows - first.v {
+                    let opposite = [[0, 0], [cols - 1, rows - 1]].map(|[i, j]| {
+                        let point = back.apply(Coord::new(i - tx, j - ty));
+                        MarkerCell::new(point, Default::default())
+                    });
+                    let cells = [&self.cells[..], &opposite].concat();
+                    let best = scores.best(&self.board, &cells);
+                    all.extend(best.map(|best| Hypothesis {
+                        alignment: Alignment { turn, tx, ty },
+                        evidence: evidence(&best),
+                    }));
+                }
+            }
+        }
+        all
     }
 }
 
-fn placed(run: MatchRun) -> Placed {
-    let selected = run.selected.expect("there is a best");
+fn placed(selected: Selected, run: MatchRun) -> Placed {
     let (markers, corners) = run.result.expect("there is a match");
-    Placed {
-        best: hypothesis(&selected.best),
-        runner_up: selected.runner_up.as_ref().map(hypothesis),
-        margin: selected.margin,
-        placements: selected.total,
-        corners: alignment(&corners),
-        markers: markers
-            .iter()
-            .map(|found| marker(found, &run.quotients))
-            .collect(),
-    }
+    let markers = markers.iter().map(|found| marker(found, &run.quotients));
+    Placed::new(selected, alignment(&corners), markers.collect())
 }
 
 /// The Rust's minus infinity is none.
+fn evidence(found: &DiagHypothesis) -> Option<f32> {
+    (found.score != f32::NEG_INFINITY).then_some(found.score)
+}
+
 fn hypothesis(found: &DiagHypothesis) -> Hypothesis {
     let [tx, ty] = found.translation;
     Hypothesis {
@@ -94,7 +133,7 @@ fn hypothesis(found: &DiagHypothesis) -> Hypothesis {
             tx,
             ty,
         },
-        evidence: (found.score != f32::NEG_INFINITY).then_some(found.score),
+        evidence: evidence(found),
     }
 }
 

@@ -9,7 +9,7 @@ use cases::prng::Prng;
 pub fn all(prng: &mut Prng, shot: &Shot) -> Vec<Vec<u8>> {
     let written = write(shot);
     [
-        spare_bits(&written, shot.cells.len()),
+        bits_without_field(&written, shot.cells.len()),
         map_bytes(&written.bytes),
         counts(&written),
         one_byte_more(&written.bytes).to_vec(),
@@ -23,18 +23,31 @@ pub fn truncations(record: &[u8]) -> impl Iterator<Item = &[u8]> {
     (0..record.len()).map(|length| &record[..length])
 }
 
+/// The record with the mark of a legacy board, as far as it has a map byte.
+pub fn marked(mut record: Vec<u8>) -> Vec<u8> {
+    if let Some(map) = record.first_mut() {
+        *map |= settings::LEGACY;
+    }
+    record
+}
+
 /// Each spare bit of both maps set by itself: those of the map byte, then those of the cell map.
 pub fn spare_bits(written: &Written, cells: usize) -> Vec<Vec<u8>> {
+    let mark_and_spare = bits_without_field(written, cells);
+    mark_and_spare[1..].to_vec()
+}
+
+/// Likewise, with the mark of a legacy board, which only looks like damage, before the others.
+pub fn bits_without_field(written: &Written, cells: usize) -> Vec<Vec<u8>> {
     let last = written.cell_map_at + cells / 8;
     let spare = match cells % 8 {
         0 => 8..8,
         used => used..8,
     };
-    let of_map = settings::SPARE.map(|bit| (0, bit)).into_iter();
+    let of_map = settings::WITHOUT_FIELD.map(|bit| (0, bit)).into_iter();
     let of_cells = spare.map(|place| (last, 1 << place));
-    let spare = of_map.chain(of_cells);
-    spare
-        .map(|(place, bit)| changed(&written.bytes, |record| record[place] |= bit))
+    let bits = of_map.chain(of_cells);
+    bits.map(|(place, bit)| changed(&written.bytes, |record| record[place] |= bit))
         .collect()
 }
 

@@ -55,7 +55,7 @@ impl<'a> Cursor<'a> {
 fn whole(cursor: &mut Cursor) -> Option<Read> {
     let mut shot = Shot::default();
     [shot.map] = cursor.array()?;
-    if shot.map > 0b1111 {
+    if shot.map > 0b1_1111 {
         return None;
     }
     let map = shot.map;

@@ -10,7 +10,11 @@ pub mod settings {
     pub const BORDER_THRESHOLD: u8 = 2;
     pub const PX_PER_SQUARE: u8 = 4;
     pub const TABLE: u8 = 8;
-    pub const SPARE: [u8; 4] = [16, 32, 64, 128];
+    /// Marks a legacy board (document 02, 2.1); it brings no field.
+    pub const LEGACY: u8 = 16;
+    pub const SPARE: [u8; 3] = [32, 64, 128];
+    /// The mark and the spare bits.
+    pub const WITHOUT_FIELD: [u8; 4] = [LEGACY, 32, 64, 128];
 }
 
 /// Worked out once: a reader wants it for most records.
@@ -116,6 +120,17 @@ impl Shot {
             (settings::PX_PER_SQUARE, one(&mut self.px_per_square)),
             (settings::TABLE, &mut self.table),
         ]
+    }
+
+    /// Is the board one from before OpenCV 4.6?
+    pub const fn is_legacy(&self) -> bool {
+        self.map & settings::LEGACY != 0
+    }
+
+    /// The shot with the mark of a legacy board.
+    pub const fn marked(mut self) -> Self {
+        self.map |= settings::LEGACY;
+        self
     }
 
     /// Gives a minimum margin.

@@ -1,12 +1,13 @@
 //! Telling records, good and damaged, and the places in them that tell most.
 
 use crate::LONGEST;
-use crate::damage::{counts, spare_bits, with_bytes_changed};
+use crate::damage::{bits_without_field, counts, marked, spare_bits, with_bytes_changed};
 use crate::random::{FLOATS, Shape, filled};
 use crate::shot::{Cell, Sample, Shot, TABLE_LENGTH, UNSAMPLED, settings};
 use crate::write::write;
 use cases::entries::changed;
 use cases::prng::Prng;
+use std::ops::RangeInclusive;
 
 /// A record, and the places to ask for beside its header.
 pub struct Telling {
@@ -71,6 +72,17 @@ pub fn telling() -> Vec<Telling> {
     all.0
 }
 
+/// Of legacy boards, from a seed of its own.
+pub fn telling_marked() -> Vec<Telling> {
+    let mut prng = Prng::new(33);
+    let mut all = All::default();
+    let shot = Shot::of_document_01().marked();
+    all.ask_shot(&shot, codes_and_cells(&shot).chain([Entry(255)]));
+    marked_map_bytes(&mut all, &mut prng);
+    marked_and_damaged(&mut all, &mut prng);
+    all.0
+}
+
 /// Every code and every cell, and one past each.
 fn codes_and_cells(shot: &Shot) -> impl Iterator<Item = Place> {
     let codes = (0..=shot.codes.len()).map(Code);
@@ -99,7 +111,16 @@ fn random_with_plain_table(prng: &mut Prng, shape: Shape) -> Shot {
 
 /// Each setting given and not.
 fn map_bytes(all: &mut All, prng: &mut Prng) {
-    for map in 0..=ALL {
+    with_maps(all, prng, 0..=ALL);
+}
+
+/// The same with the mark.
+fn marked_map_bytes(all: &mut All, prng: &mut Prng) {
+    with_maps(all, prng, settings::LEGACY..=settings::LEGACY | ALL);
+}
+
+fn with_maps(all: &mut All, prng: &mut Prng, maps: RangeInclusive<u8>) {
+    for map in maps {
         let shape = Shape::new(map, [2, 1], [1, usize::from(map % 3)], HALF);
         let shot = random_with_plain_table(prng, shape);
         let given = map & settings::TABLE != 0;
@@ -226,8 +247,12 @@ fn damaged(all: &mut All, prng: &mut Prng) {
         let written = write(&Shape::new(0, [1, 0], [2, cells], HALF).shot(prng));
         all.add(&written.bytes);
         // Those of the map byte come first.
-        let known = if cells == 0 { 0 } else { settings::SPARE.len() };
-        for record in &spare_bits(&written, cells)[known..] {
+        let known = if cells == 0 {
+            0
+        } else {
+            settings::WITHOUT_FIELD.len()
+        };
+        for record in &bits_without_field(&written, cells)[known..] {
             all.add(record);
         }
         if cells % 8 == 1 {
@@ -238,5 +263,24 @@ fn damaged(all: &mut All, prng: &mut Prng) {
             }
         }
         all.ask(&with_bytes_changed(prng, &written.bytes), ONE_OF_EACH);
+    }
+}
+
+/// A spare bit beside the mark, of both maps; a record cut short, wrong counts, bytes changed.
+fn marked_and_damaged(all: &mut All, prng: &mut Prng) {
+    let shot = Shape::new(settings::LEGACY, [1, 0], [2, 3], HALF).shot(prng);
+    let written = write(&shot);
+    for record in spare_bits(&written, shot.cells.len()) {
+        all.add(&record);
+    }
+    for cut in [1, 2, 13, written.bytes.len() - 1] {
+        all.ask(&written.bytes[..cut], ONE_OF_EACH);
+    }
+    for record in counts(&written) {
+        all.add(&record);
+    }
+    for _ in 0..4 {
+        let changed = with_bytes_changed(prng, &written.bytes);
+        all.ask(&marked(changed), ONE_OF_EACH);
     }
 }

@@ -33,6 +33,7 @@ pub fn header(read: Record) -> Answer {
             one_nan(shot.marker_size_rel),
             shot.codes.len() as u32,
             shot.cells.len() as u32,
+            shot.is_legacy().into(),
         ]
     })
 }

@@ -1,4 +1,5 @@
-//! The writer: any shot to bytes, also one that is too long or whose map byte has spare bits.
+//! The writer: any shot to bytes, also one that is too long or whose map byte has spare bits. The mark of a legacy board
+//! stands in the map byte alone.
 
 use crate::shot::{Shot, settings};
 

@@ -2,12 +2,12 @@
 
 use cases::prng::Prng;
 use records::damage::{spare_bits, truncations};
-use records::{Shape, Shot, read, write};
+use records::{Shape, Shot, read, settings, told, write};
 
 fn shots() -> Vec<Shot> {
     let mut prng = Prng::new(31);
     let mut shots = vec![Shot::default()];
-    for map in 0..16 {
+    for map in 0..32 {
         for sides in [[0, 0], [1, 1], [2, 1], [9, 0], [4, 5]] {
             for cells in [0, 1, 7, 8, 9, 16, 40] {
                 let shape = Shape::new(map, sides, [cells / 3, cells], prng.below(5));
@@ -42,6 +42,28 @@ fn what_is_damaged_is_refused() {
         if written.bytes.len() < 300 {
             assert!(truncations(&written.bytes).all(|cut| read(cut).is_none()));
         }
+    }
+}
+
+/// The mark adds no field and changes no other: the header tells it as its last word.
+#[test]
+fn the_mark_of_a_legacy_board() {
+    for shot in shots() {
+        let [unmarked, marked] =
+            [shot.map & !settings::LEGACY, shot.map | settings::LEGACY].map(|map| Shot {
+                map,
+                ..shot.clone()
+            });
+        let records = [&unmarked, &marked].map(|shot| write(shot).bytes);
+        assert_eq!(records[0][1..], records[1][1..]);
+        assert_eq!(records[1][0], records[0][0] + 16);
+        let headers = records.map(|record| {
+            let header = told::header(read(&record).as_ref());
+            assert_eq!((header.number, header.words.len()), (0, 13));
+            header.words
+        });
+        assert_eq!(headers[0][1..12], headers[1][1..12]);
+        assert_eq!(headers.map(|words| words[12]), [0, 1]);
     }
 }
 

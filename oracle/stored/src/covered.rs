@@ -50,16 +50,26 @@ pub fn check(asked: &[Asked]) {
         let answers: Vec<&Answer> = answers.map(|asked| &asked.answer).collect();
         check_kind(kind, &answers);
     }
+    // Kinds that ask about a record have none of their own for legacy boards.
+    let of_marked = asked.iter().filter(|asked| asked.is_marked);
+    let matches = of_marked.filter(|asked| asked.kind == kinds::MATCH);
+    let answers: Vec<&Answer> = matches.map(|asked| &asked.answer).collect();
+    check_numbers("matches of legacy boards", kinds::MATCH.numbers, &answers);
     check_text(asked);
+}
+
+/// Every number comes up, and no other.
+fn check_numbers(name: &str, expected: &[u32], answers: &[&Answer]) {
+    let numbers: BTreeSet<u32> = answers.iter().map(|answer| answer.number).collect();
+    let expected: BTreeSet<u32> = expected.iter().copied().collect();
+    assert_eq!(numbers, expected, "numbers of {name}");
 }
 
 /// Refusals tell words of their own.
 fn check_kind(kind: Kind, answers: &[&Answer]) {
     let name = kind.name;
-    let numbers: BTreeSet<u32> = answers.iter().map(|answer| answer.number).collect();
-    let expected: BTreeSet<u32> = kind.numbers.iter().copied().collect();
-    assert_eq!(numbers, expected, "numbers of {name}");
-    for number in numbers {
+    check_numbers(name, kind.numbers, answers);
+    for &number in kind.numbers {
         let of_number = answers.iter().filter(|answer| answer.number == number);
         let words: Vec<Vec<u32>> = of_number.map(|answer| answer.words.clone()).collect();
         let alike = match (kind, number) {

@@ -1,10 +1,10 @@
 //! The entries for cells, corners and links, and through that for corners the questions about a board.
 
-use crate::kinds::{CELLS, CORNERS, LINKS};
+use crate::kinds::{CELLS, CORNERS, LEGACY_CORNERS, LEGACY_LINKS, LINKS};
 use crate::script::{MOST_PLACES, Script, few, float, signed};
 use cases::answer::Answer;
-use cases::boards::{self, BASES, BoardArguments, double_changes};
-use cases::corner_entry::{self, CornerInput, alignments, full_board, most_corners};
+use cases::boards::{self, BASES, BoardArguments, board, double_changes};
+use cases::corner_entry::{self, CornerInput, alignments, full_board, largest_board, most_corners};
 use cases::corner_lists::{
     self, CornerLists, WORDS_OF_A_CORNER, far, most_of_each, random_grid, random_list, shapes,
     traps,
@@ -92,8 +92,9 @@ pub fn ask_boards(script: &mut Script) {
     }
 }
 
-pub fn ask_corners(script: &mut Script) {
-    let mut prng = Prng::new(27);
+/// Of boards with the mark or without it, each from a seed of its own.
+pub fn ask_corners(script: &mut Script, legacy: bool) {
+    let mut prng = Prng::new(if legacy { 34 } else { 27 });
     // Longer lists are left to those with the most corners.
     let short = |CornerInput { lists, .. }: &CornerInput| {
         lists.count() <= 16 && lists.grid.len() <= lists.count() * WORDS_OF_A_CORNER
@@ -117,9 +118,14 @@ pub fn ask_corners(script: &mut Script) {
     inputs.extend(random.filter(short).take(90));
     let full = prng.many(200, full_board).into_iter();
     inputs.extend(full.filter(short).take(10));
-    inputs.extend(most_corners());
-    for input in &inputs {
-        ask_corner_input(script, input);
+    if legacy {
+        inputs.push(largest_board());
+    } else {
+        inputs.extend(most_corners());
+    }
+    for mut input in inputs {
+        input.board.legacy_pattern = legacy;
+        ask_corner_input(script, &input);
     }
 }
 
@@ -131,13 +137,22 @@ fn ask_corner_input(script: &mut Script, input: &CornerInput) {
     let others = [(*turn).into(), tx, ty, words, places];
     let arguments = [&board_arguments(&input.board)[..], &others].concat();
     let answer = map_charuco_corners(input);
-    script.ask_with_list(CORNERS, &arguments, answer, lists.places);
+    let kind = if input.board.legacy_pattern {
+        LEGACY_CORNERS
+    } else {
+        CORNERS
+    };
+    script.ask_with_list(kind, &arguments, answer, lists.places);
 }
 
-pub fn ask_links(script: &mut Script) {
-    let mut prng = Prng::new(28);
+/// Of boards with the mark or without it, each from a seed of its own.
+pub fn ask_links(script: &mut Script, legacy: bool) {
+    let mut prng = Prng::new(if legacy { 35 } else { 28 });
     let short = |input: &LinkInput| input.links().len() <= 30;
     let mut inputs = link_entry::single_changes();
+    if legacy {
+        inputs.splice(0..0, on_small_boards());
+    }
     inputs.retain(short);
     let refused = [
         link_entry::pairs_of_refusals(),
@@ -148,8 +163,8 @@ pub fn ask_links(script: &mut Script) {
         all.retain(|input| short(input) && is_new(links_answer(input).number));
         inputs.append(&mut all);
     }
-    inputs.extend(prng.many(110, link_entry::random_input));
-    let whole = prng.many(200, whole_board).into_iter();
+    inputs.extend(prng.many(110, |prng| link_entry::random_input(prng, legacy)));
+    let whole = prng.many(200, |prng| whole_board(prng, legacy)).into_iter();
     let whole = whole.filter(|input| short(input) && !input.words.is_empty());
     inputs.extend(whole.take(10));
     let spreads = [
@@ -158,11 +173,27 @@ pub fn ask_links(script: &mut Script) {
         link_entry::EQUAL_KEYS_OF_ONE_MARKER,
         link_entry::ANY_CORNER,
     ];
-    inputs.extend(spreads.map(|spread| many_links(&mut prng, spread, 200, true)));
+    inputs.extend(spreads.map(|spread| many_links(&mut prng, legacy, spread, 200, true)));
     inputs.extend(most_of_one_link());
-    for input in &inputs {
-        ask_link_input(script, input);
+    for mut input in inputs {
+        input.board.legacy_pattern = legacy;
+        ask_link_input(script, &input);
     }
+}
+
+/// Every marker and one more with every corner and one more, on the boards of 2 by 2, of 4 rows and 5 columns, and of 3 by 3,
+/// beside P1 to P3, P7 and P8 of document 01. Each input has two of the corners, so that it is short.
+fn on_small_boards() -> Vec<LinkInput> {
+    let mut inputs = Vec::new();
+    for [rows, cols] in [[2, 2], [4, 5], [3, 3]] {
+        let [markers, corners] = [rows * cols / 2, (rows - 1) * (cols - 1)];
+        let marker_with = |corner: u32| (0..=markers).map(move |marker| [marker, corner]);
+        for two in (0..=corners).collect::<Vec<_>>().chunks(2) {
+            let links: Vec<_> = two.iter().copied().flat_map(marker_with).collect();
+            inputs.push(LinkInput::new(board([rows, cols], 1.0), &links, true));
+        }
+    }
+    inputs
 }
 
 /// By the rules, which must be those of the Rust but for the order.
@@ -177,5 +208,10 @@ fn ask_link_input(script: &mut Script, input: &LinkInput) {
     script.give_words(&words);
     let last = [input.all_four.into(), input.places as u64];
     let arguments = [&board_arguments(&input.board)[..], &last].concat();
-    script.ask_with_list(LINKS, &arguments, links_answer(input), input.places);
+    let kind = if input.board.legacy_pattern {
+        LEGACY_LINKS
+    } else {
+        LINKS
+    };
+    script.ask_with_list(kind, &arguments, links_answer(input), input.places);
 }

@@ -33,6 +33,15 @@ const fn reader(number: u64, name: &'static str, arguments: usize, words: usize)
     }
 }
 
+/// The same, asked of a legacy board.
+const fn of_legacy(kind: Kind, name: &'static str) -> Kind {
+    Kind {
+        number: kind.number + 0x100,
+        name,
+        ..kind
+    }
+}
+
 macro_rules! kinds {
     ($($name:ident = $kind:expr;)*) => {
         $(pub const $name: Kind = $kind;)*
@@ -41,7 +50,7 @@ macro_rules! kinds {
 }
 
 kinds! {
-    HEADER = reader(0x5, "charuco_read_header", 0, 12);
+    HEADER = reader(0x5, "charuco_read_header", 0, 13);
     TABLE_ENTRY = reader(0x6, "charuco_table_entry", 1, 2);
     CODE = reader(0x7, "charuco_code", 1, 3);
     CELL = reader(0x8, "charuco_cell", 1, 5);
@@ -79,4 +88,7 @@ kinds! {
     NULL_SCORE = part(0x16, "null score", 1, 1);
     CELL_WEIGHT = part(0x17, "cell_weight", 3, 1);
     SCORE = part(0x18, "score", 4, 4);
+    LEGACY_CORNERS = of_legacy(CORNERS, "charuco_map_charuco_corners, legacy board");
+    LEGACY_LINKS = of_legacy(LINKS, "charuco_validate_marker_corner_links, legacy board");
+    LEGACY_LAYOUT = of_legacy(LAYOUT, "layout, legacy board");
 }

@@ -20,13 +20,19 @@ fn main() -> io::Result<()> {
     entries::ask_boards(&mut script);
     records::ask(&mut script);
     entries::ask_cells(&mut script);
-    entries::ask_corners(&mut script);
-    entries::ask_links(&mut script);
+    entries::ask_corners(&mut script, false);
+    entries::ask_links(&mut script, false);
     matches::ask(&mut script);
+    // Legacy boards come last, so that the rows before them stay.
+    parts::ask_layouts(&mut script, true);
+    records::ask_marked(&mut script);
+    entries::ask_corners(&mut script, true);
+    entries::ask_links(&mut script, true);
+    matches::ask_marked(&mut script);
     covered::check(&script.asked);
     for &kind in kinds::ALL {
         let rows = script.asked.iter().filter(|asked| asked.kind == kind);
-        eprintln!("{:2X} {}: {}", kind.number, kind.name, rows.count());
+        eprintln!("{:3X} {}: {}", kind.number, kind.name, rows.count());
     }
     eprintln!("all: {}", script.asked.len());
     let mut out = io::stdout().lock();

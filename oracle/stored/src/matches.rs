@@ -3,12 +3,12 @@
 
 use crate::kinds::{ANSWER_TEXT, Kind, MATCH, TEXT};
 use crate::records::{ask_header, ask_place};
-use crate::script::{Script, few};
+use crate::script::{Script, few, is_marked};
 use cases::answer::Answer;
-use matches::given::{Given, KINDS};
-use matches::{MARKER_WORDS, MOST_PLACES, Placed, match_record, text};
+use matches::given::{Given, KINDS, Kind as GivenKind, LEGACY_KINDS};
+use matches::{MARKER_WORDS, MOST_PLACES, Placed, by_turned_rust_and_model, match_record, text};
 use records::telling::Place;
-use records::{Shot, read, write};
+use records::{REFUSED, Shot, read, write};
 
 /// Most records are no longer than this. A table alone has 2,044 bytes, so few records have one.
 const SHORT: usize = 200;
@@ -40,8 +40,27 @@ const MOST_MARKERS: usize = 6;
 /// The other readers are asked about one record in so many.
 const ONE_IN: usize = 8;
 
+/// Of each kind of legacy boards so many.
+const OF_EACH_LEGACY_KIND: usize = 10;
+
 pub fn ask(script: &mut Script) {
-    for (number, given) in chosen().iter().enumerate() {
+    ask_all(script, &chosen());
+    ask_answers(script);
+}
+
+/// Of legacy boards.
+pub fn ask_marked(script: &mut Script) {
+    let mut chosen = small_legacy_boards().map(with_one_place).to_vec();
+    chosen.extend(with_every_refusal(&LEGACY_KINDS));
+    for kind in &LEGACY_KINDS {
+        let (longest, most) = lengths(kind);
+        chosen.extend(of_kind(kind, longest, most.min(OF_EACH_LEGACY_KIND)));
+    }
+    ask_all(script, &chosen);
+}
+
+fn ask_all(script: &mut Script, chosen: &[Given]) {
+    for (number, given) in chosen.iter().enumerate() {
         script.give_bytes(&given.record);
         let answer = told(given);
         script.ask_with_list(MATCH, &[given.places as u64], answer, given.places);
@@ -49,6 +68,12 @@ pub fn ask(script: &mut Script) {
         let matched = match_record(&given.record, MOST_PLACES);
         ask_text(script, TEXT, text(&matched));
         let read = read(&given.record);
+        // What the rules answer for a legacy board must be what the Rust finds on the board turned by a quarter.
+        let turned = read.as_ref();
+        let turned = turned.and_then(|read| by_turned_rust_and_model(&read.shot));
+        if let Some([rust, rules]) = turned {
+            assert_eq!(rules, rust, "record {number}");
+        }
         ask_header(script, read.as_ref());
         if number % ONE_IN == 0 {
             let entry = Place::Entry(255 + number % 256);
@@ -57,7 +82,6 @@ pub fn ask(script: &mut Script) {
             }
         }
     }
-    ask_answers(script);
 }
 
 fn ask_text(script: &mut Script, kind: Kind, text: String) {
@@ -70,6 +94,7 @@ fn ask_text(script: &mut Script, kind: Kind, text: String) {
 /// which no marker is emitted; with numbers as large as their words hold.
 fn ask_answers(script: &mut Script) {
     let records = KINDS.iter().flat_map(|kind| kind.first(ANSWERS));
+    let records = records.filter(|given| !is_marked(&given.record));
     let placed = records.filter_map(|given| match_record(&given.record, MOST_PLACES).ok());
     let short = placed.filter(|placed| placed.markers.len() <= MOST_MARKERS);
     for (number, placed) in short.enumerate() {
@@ -105,23 +130,43 @@ fn told(given: &Given) -> Answer {
     matches::told(&match_record(&given.record, given.places))
 }
 
+/// By which records are chosen: the number of the answer. One that has the mark by damage alone counts as refused, as before
+/// bit 4 was the mark (document 02, 2.1), so that the choice stays.
+fn chosen_by(kind: &GivenKind, given: &Given) -> u32 {
+    if is_marked(&given.record) && !kind.legacy {
+        REFUSED
+    } else {
+        told(given).number
+    }
+}
+
 fn chosen() -> Vec<Given> {
-    let mut chosen = vec![example()];
-    chosen.extend(with_every_refusal());
+    let mut chosen = vec![with_one_place(Shot::of_document_01())];
+    chosen.extend(with_every_refusal(&KINDS));
     for kind in &KINDS {
-        let (longest, most) = match kind.name {
-            "tables by the formula" | "any tables" => (WITH_TABLE, OF_LONG_KINDS),
-            "about 256 cells" => (LONG, OF_VERY_LONG),
-            _ => (SHORT, OF_EACH_KIND),
-        };
-        let mut is_new = few(OF_EACH_NUMBER);
-        let fitting = kind.first(LOOKED_THROUGH.min(kind.count)).filter(|given| {
-            // Matches tell most.
-            fits(given, longest) && matches!(told(given).number, n if n == 0 || is_new(n))
-        });
-        chosen.extend(fitting.take(most));
+        let (longest, most) = lengths(kind);
+        chosen.extend(of_kind(kind, longest, most));
     }
     chosen
+}
+
+/// How long records of a kind may be, and how many are chosen.
+fn lengths(kind: &GivenKind) -> (usize, usize) {
+    match kind.name {
+        "tables by the formula" | "any tables" => (WITH_TABLE, OF_LONG_KINDS),
+        "about 256 cells" => (LONG, OF_VERY_LONG),
+        _ => (SHORT, OF_EACH_KIND),
+    }
+}
+
+fn of_kind(kind: &GivenKind, longest: usize, most: usize) -> impl Iterator<Item = Given> {
+    let mut is_new = few(OF_EACH_NUMBER);
+    let looked_through = kind.first(LOOKED_THROUGH.min(kind.count));
+    let fitting = looked_through.filter(move |given| {
+        // Matches tell most.
+        fits(given, longest) && matches!(chosen_by(kind, given), n if n == 0 || is_new(n))
+    });
+    fitting.take(most)
 }
 
 fn fits(given: &Given, longest: usize) -> bool {
@@ -129,20 +174,38 @@ fn fits(given: &Given, longest: usize) -> bool {
 }
 
 /// Some of them have a table, which question 10 refuses.
-fn with_every_refusal() -> Vec<Given> {
-    let faults = KINDS.iter().find(|kind| kind.name == "one fault or two");
+fn with_every_refusal(kinds: &[GivenKind]) -> Vec<Given> {
+    let faults = kinds.iter().find(|kind| kind.name == "one fault or two");
     let faults = faults.expect("a kind of this name");
     let mut is_new = few(OF_EACH_REFUSAL);
     let fitting = faults
         .all()
-        .filter(|given| fits(given, WITH_TABLE) && is_new(told(given).number));
+        .filter(|given| fits(given, WITH_TABLE) && is_new(chosen_by(faults, given)));
     fitting.collect()
 }
 
-/// The record of document 01 for the program `place`.
-fn example() -> Given {
+/// A shot of one cell.
+fn with_one_place(shot: Shot) -> Given {
     Given {
-        record: write(&Shot::of_document_01()).bytes,
+        record: write(&shot).bytes,
         places: MARKER_WORDS,
     }
+}
+
+/// The record of document 01 with the mark, and its cell on legacy boards of 4 rows and 5 columns and of 3 by 3: they stand
+/// beside P1 to P12.
+fn small_legacy_boards() -> [Shot; 3] {
+    // Marker 3 shows what the cell does.
+    let of_size = |[rows, cols]: [u8; 2]| {
+        let mut shot = Shot::of_document_01().marked();
+        [shot.rows, shot.cols] = [rows, cols];
+        shot.codes = vec![15; usize::from(rows) * usize::from(cols) / 2];
+        shot.codes[3] = 1;
+        shot
+    };
+    [
+        Shot::of_document_01().marked(),
+        of_size([4, 5]),
+        of_size([3, 3]),
+    ]
 }

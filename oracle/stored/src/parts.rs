@@ -1,8 +1,8 @@
 //! Parts of the library that no entry tells by itself: turned codes, layouts, alignments, the built-in table, null scores and weights.
 
 use crate::kinds::{
-    BUILT_IN_TABLE, CELL_WEIGHT, CORNER_ALIGNMENT, Kind, LAYOUT, NULL_SCORE, RECT_CORNERS,
-    ROTATE_CODE, TURNED,
+    BUILT_IN_TABLE, CELL_WEIGHT, CORNER_ALIGNMENT, Kind, LAYOUT, LEGACY_LAYOUT, NULL_SCORE,
+    RECT_CORNERS, ROTATE_CODE, TURNED,
 };
 use crate::script::{Script, digest, float, signed};
 use cases::answer::Answer;
@@ -30,7 +30,7 @@ const RANDOM_WEIGHTS: usize = 10;
 
 pub fn ask(script: &mut Script) {
     codes(script);
-    layouts(script);
+    ask_layouts(script, false);
     for_each_turn(script, CORNER_ALIGNMENT, 14, theirs::corner_translation);
     for_each_turn(script, TURNED, 15, theirs::turned);
     rect_corners(script);
@@ -69,19 +69,25 @@ fn codes(script: &mut Script) {
     }
 }
 
-/// A board of each size, with a telling size of its squares or any up to 100.
-fn layouts(script: &mut Script) {
-    let mut prng = Prng::new(12);
+/// A board of each size, with a telling size of its squares or any up to 100. With the mark, the boards of 2 by 2, of 4 rows
+/// and 5 columns, and of 3 by 3 stand beside P1 to P3 of document 01.
+pub fn ask_layouts(script: &mut Script, legacy: bool) {
+    let (kind, seed) = if legacy {
+        (LEGACY_LAYOUT, 32)
+    } else {
+        (LAYOUT, 12)
+    };
+    let mut prng = Prng::new(seed);
     for [rows, cols] in sizes() {
         let cell_size = match prng.below(2) {
             0 => prng.pick(&GOOD_CELL_SIZES),
             _ => (prng.below(1_000_000) + 1) as f32 / 10_000.0,
         };
-        let board = Board::new(rows, cols, cell_size);
+        let board = Board::new(rows, cols, legacy, cell_size);
         let [d1, d2] = [by_place(&board, rows, cols), by_id(&board)];
         let words = [board.marker_count(), digest(d1), digest(d2)].map(|word| word as u32);
         let arguments = [rows.into(), cols.into(), float(cell_size)];
-        script.ask(LAYOUT, &arguments, Answer::of_words(words));
+        script.ask(kind, &arguments, Answer::of_words(words));
     }
 }
 

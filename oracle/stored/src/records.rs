@@ -2,11 +2,20 @@
 
 use crate::kinds::{CELL, CODE, GRID, HEADER, TABLE_ENTRY};
 use crate::script::Script;
-use records::telling::{Place, telling};
+use records::telling::{Place, Telling, telling, telling_marked};
 use records::{Read, read, told};
 
 pub fn ask(script: &mut Script) {
-    for asked in telling() {
+    ask_all(script, telling());
+}
+
+/// Of legacy boards.
+pub fn ask_marked(script: &mut Script) {
+    ask_all(script, telling_marked());
+}
+
+fn ask_all(script: &mut Script, records: Vec<Telling>) {
+    for asked in records {
         script.give_bytes(&asked.record);
         let read = read(&asked.record);
         ask_header(script, read.as_ref());

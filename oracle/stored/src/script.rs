@@ -2,6 +2,7 @@
 
 use crate::kinds::Kind;
 use cases::answer::{Answer, after};
+use records::settings;
 use std::collections::HashMap;
 use std::fmt::Write;
 
@@ -19,6 +20,8 @@ const LONG_RUN_OF_WORDS: usize = 10;
 pub struct Asked {
     pub kind: Kind,
     pub answer: Answer,
+    /// Have the bytes, if they are a record, the mark of a legacy board?
+    pub is_marked: bool,
     /// That of place, if the row asks for it.
     pub text: String,
 }
@@ -124,9 +127,15 @@ impl Script {
         self.asked.push(Asked {
             kind,
             answer,
+            is_marked: is_marked(&self.bytes),
             text: String::new(),
         });
     }
+}
+
+pub fn is_marked(record: &[u8]) -> bool {
+    let map = record.first();
+    map.is_some_and(|map| map & settings::LEGACY != 0)
 }
 
 /// What every list holds before it is asked for.

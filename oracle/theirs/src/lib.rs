@@ -7,6 +7,7 @@ mod link_check;
 mod marker_cells;
 mod refusals;
 mod scores;
+mod turned_board;
 mod turns;
 
 pub use board::Board;
@@ -19,4 +20,5 @@ pub use scores::{
     BORDER_THRESHOLD, Samples, ScoreBoard, Scores, cell_samples, cell_weight, null_score,
     read_code, rotate_gc_top_left,
 };
+pub use turned_board::TurnedBoard;
 pub use turns::{CodeMatcher, cell_rect_corners, corner_translation, rotate_code, turned};

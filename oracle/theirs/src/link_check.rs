@@ -2,6 +2,7 @@
 //! a `HashMap`; the order of document 01, and its questions 19 and 14, which are added, stand here.
 
 mod rules;
+mod turned;
 
 use crate::refusals::accepted_board;
 use calib_targets_charuco::{
@@ -24,12 +25,23 @@ pub mod kind {
     pub const MISSING: u32 = 5;
 }
 
-/// The violations that the Rust finds, without their order, or the refusal that is expected.
+/// The violations that the Rust finds, without their order, or the refusal that is expected. The Rust knows no legacy board;
+/// one with an even row count is shown to it turned by a quarter.
 pub fn links_by_rust(input: &LinkInput) -> Result<Vec<Violation>, Answer> {
     passed(input)?;
-    let checked = CheckedOnBoard::of_input(input).expect("it passed the questions");
-    let violations: Vec<_> = checked.violations().iter().map(words).collect();
+    let violations = if input.board.legacy_pattern && input.board.rows % 2 == 0 {
+        turned::violations(input)
+    } else {
+        found_by_rust(input)
+    };
+    let violations: Vec<_> = violations.iter().map(words).collect();
     Ok(sorted(&violations))
+}
+
+/// Whatever the board's mark.
+fn found_by_rust(input: &LinkInput) -> Vec<LinkViolation> {
+    let checked = CheckedOnBoard::of_input(input).expect("it passed the questions");
+    checked.violations()
 }
 
 /// The answer that is expected by document 01.

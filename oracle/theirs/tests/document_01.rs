@@ -11,7 +11,7 @@ use theirs::{
 const TURNS: [u8; 4] = [0, 1, 2, 3];
 
 fn board(rows: u8, cols: u8) -> Board {
-    Board::new(rows, cols, 1.0)
+    Board::new(rows, cols, false, 1.0)
 }
 
 fn squares(board: &Board) -> Vec<[u64; 2]> {

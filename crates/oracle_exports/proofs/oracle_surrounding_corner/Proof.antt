@@ -10,7 +10,7 @@ use Rattle.oracle_exports.proofs.oracle_surrounding_corner.Statement.{s
 use Rattle.oracle_exports.proofs.oracle_surrounding_corner.Tie as tie
 
 around-is : (c : tie.After-marker-surrounding-charuco-corners) → c .marker-surrounding-charuco-corners .result
-    ≡ surroundingCorners (boardWith (c .before .before .args .rows) (c .before .before .args .cols) unitSize) (c .before .before .args .marker)
+    ≡ surroundingCorners (boardWith (c .before .before .args .rows) (c .before .before .args .cols) (c .before .before .args .legacy) unitSize) (c .before .before .args .marker)
 around-is c =
     let b = c .before .board-of .ensures in
     c .marker-surrounding-charuco-corners .ensures ∙ (λ k. surroundingCorners (b k) (c .before .before .args .marker))

@@ -6,7 +6,7 @@ use crate::prng::Prng;
 
 const LONG_LIST: usize = 147_500;
 
-/// A marker off the rim of the largest board.
+/// A marker off the rim of the largest board, marked or not.
 const MARKER: u32 = 100;
 
 /// How links are chosen, on a board of 32 rows and columns: link k, where the four corners of each marker are given.
@@ -49,8 +49,14 @@ const fn with_key(marker: u32, turn: u32) -> [u32; 2] {
 }
 
 /// So many links on the largest board.
-pub fn many_links(prng: &mut Prng, spread: Spread, count: usize, all_four: bool) -> LinkInput {
-    let board = board([32, 32], 1.0);
+pub fn many_links(
+    prng: &mut Prng,
+    legacy: bool,
+    spread: Spread,
+    count: usize,
+    all_four: bool,
+) -> LinkInput {
+    let board = board([32, 32], 1.0).with_mark(legacy);
     let squares = marker_squares(&board).into_iter();
     let fours: Vec<_> = squares
         .map(|square| four_of_square(&board, square))
@@ -76,12 +82,12 @@ pub fn most_of_one_link() -> Vec<LinkInput> {
 }
 
 /// As many as are allowed, a few less, and one more.
-pub fn of_most_links(prng: &mut Prng) -> Vec<LinkInput> {
+pub fn of_most_links(prng: &mut Prng, legacy: bool) -> Vec<LinkInput> {
     let mut all = Vec::new();
     for spread in SPREADS {
         for count in [512, 1500, MOST_LINKS - 1, MOST_LINKS, MOST_LINKS + 1] {
             for all_four in [false, true] {
-                all.push(many_links(prng, spread, count, all_four));
+                all.push(many_links(prng, legacy, spread, count, all_four));
             }
         }
     }

@@ -18,8 +18,8 @@ pub fn example(all_four: bool) -> LinkInput {
 }
 
 /// Of few markers, so that links are repeated.
-pub fn random_input(prng: &mut Prng) -> LinkInput {
-    let board = random_board(prng);
+pub fn random_input(prng: &mut Prng, legacy: bool) -> LinkInput {
+    let board = random_board(prng).with_mark(legacy);
     let squares = marker_squares(&board);
     let mut input = LinkInput::new(board, &[], prng.one_in(2));
     let mut few = [0; 4].map(|_: u32| random_marker(prng, squares.len()));
@@ -63,8 +63,8 @@ fn random_corner(prng: &mut Prng, board: &BoardArguments, square: Option<&[u32; 
 }
 
 /// The four links of every marker that has four corners, in any order; some are missing, some there twice, some wrong.
-pub fn whole_board(prng: &mut Prng) -> LinkInput {
-    let board = random_board(prng);
+pub fn whole_board(prng: &mut Prng, legacy: bool) -> LinkInput {
+    let board = random_board(prng).with_mark(legacy);
     let one_in = prng.pick(&[3, 10, 100, 1_000_000]);
     let mut links = Vec::new();
     for (marker, &square) in (0..).zip(&marker_squares(&board)) {

@@ -30,6 +30,7 @@ pub fn seen(([rows, cols], bits): Board, squares: Vec<[i32; 2]>) -> Shot {
     let scene = Scene {
         rows,
         cols,
+        legacy: false,
         bits,
         border: 1,
         turn: 1,

@@ -36,7 +36,7 @@ fn corners() -> EntryCase {
 }
 
 fn links(spread: Spread) -> EntryCase {
-    let input = many_links(&mut Prng::new(9), spread, MOST_LINKS, true);
+    let input = many_links(&mut Prng::new(9), false, spread, MOST_LINKS, true);
     let checked = CheckedOnBoard::of_input(&input).expect("a board that is accepted");
     EntryCase::new(input, move || checked.violations().len())
 }

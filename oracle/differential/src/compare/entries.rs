@@ -2,7 +2,7 @@
 
 use crate::entry::compare_all;
 use crate::subject::Subject;
-use cases::boards::{BASES, double_changes, many_changes, single_changes};
+use cases::boards::{BASES, BoardArguments, double_changes, many_changes, single_changes};
 use cases::corner_entry::{self, CornerInput, alignments, full_board, most_corners};
 use cases::corner_lists::{
     self, dense, far, large_grid, most_of_each, random_grid, random_list, shapes, traps,
@@ -28,7 +28,13 @@ pub fn cells() -> Vec<Subject> {
 }
 
 pub fn corners() -> Vec<Subject> {
-    let mut prng = Prng::new(7);
+    let unmarked = corners_of("corners", 7, false);
+    let marked = corners_of("corners, legacy boards", 37, true);
+    [unmarked, marked].concat()
+}
+
+fn corners_of(name: &'static str, seed: u64, legacy: bool) -> Vec<Subject> {
+    let mut prng = Prng::new(seed);
     let groups = [
         alignments(),
         corner_entry::single_changes(),
@@ -38,8 +44,11 @@ pub fn corners() -> Vec<Subject> {
         prng.many(30_000, corner_entry::random_input),
         prng.many(2_000, full_board),
     ];
-    let inputs = groups.into_iter().flatten();
-    compare_all("corners", &[0, 1, 2, 3, 4, 5, 6, 7, 8, 18, 14], inputs)
+    let inputs = groups.into_iter().flatten().map(|mut input| {
+        input.board.legacy_pattern = legacy;
+        input
+    });
+    compare_all(name, &[0, 1, 2, 3, 4, 5, 6, 7, 8, 18, 14], inputs)
 }
 
 /// Which boards are refused, and with which number: the corner entry with no corners, so that no question of the entry itself
@@ -48,7 +57,14 @@ pub fn refusals() -> Vec<Subject> {
     let single = BASES.map(single_changes).concat();
     let double = BASES.map(double_changes).concat();
     let many = many_changes(&mut Prng::new(2), 200_000);
-    let boards = [single, double, many].concat();
+    let unmarked = refusals_of("new board", [single.clone(), double, many].concat());
+    let many = many_changes(&mut Prng::new(32), 60_000);
+    let marked = [single, many].concat().into_iter();
+    let marked = marked.map(|board| board.with_mark(true)).collect();
+    [unmarked, refusals_of("new legacy board", marked)].concat()
+}
+
+fn refusals_of(name: &'static str, boards: Vec<BoardArguments>) -> Vec<Subject> {
     let inputs = boards.into_iter().map(CornerInput::without_corners);
-    compare_all("new board", &[0, 1, 2, 3, 4, 5, 6, 7, 8], inputs)
+    compare_all(name, &[0, 1, 2, 3, 4, 5, 6, 7, 8], inputs)
 }

@@ -1,4 +1,4 @@
-//! The layout of every board from 2 by 2 to 32 by 32.
+//! The layout of every board from 2 by 2 to 32 by 32, without the mark of a legacy board and with it.
 
 use crate::subject::{Subject, Subjects};
 use cases::floats::{GOOD_CELL_SIZES, float_bits};
@@ -6,21 +6,42 @@ use cases::layout::{coordinates, ids, sizes};
 use differential::ours;
 
 pub fn compare() -> Vec<Subject> {
-    let mut subjects = Subjects::default();
+    let names = [(false, ""), (true, ", legacy board")];
+    let layouts = names.map(|(legacy, name)| compare_all(legacy, name));
+    layouts.concat()
+}
+
+fn compare_all(legacy: bool, name: &'static str) -> Vec<Subject> {
+    let mut subjects = Named {
+        subjects: Subjects::default(),
+        name,
+    };
     for [rows, cols] in sizes() {
-        let ours = ours::Board { rows, cols };
-        let theirs = theirs::Board::new(rows, cols, 1.0);
+        let ours = ours::Board { rows, cols, legacy };
+        let theirs = theirs::Board::new(rows, cols, legacy, 1.0);
         compare_places(&mut subjects, &ours, &theirs);
         compare_ids(&mut subjects, &ours, &theirs);
         for cell_size in GOOD_CELL_SIZES {
             compare_points(&mut subjects, &ours, cell_size);
         }
     }
-    subjects.0
+    subjects.subjects.0
 }
 
-fn compare_places(subjects: &mut Subjects, ours: &ours::Board, theirs: &theirs::Board) {
-    let ours::Board { rows, cols } = *ours;
+/// Subjects whose names end alike.
+struct Named {
+    subjects: Subjects,
+    name: &'static str,
+}
+
+impl Named {
+    fn of(&mut self, subject: &str) -> &mut Subject {
+        self.subjects.of(&format!("{subject}{}", self.name))
+    }
+}
+
+fn compare_places(subjects: &mut Named, ours: &ours::Board, theirs: &theirs::Board) {
+    let ours::Board { rows, cols, .. } = *ours;
     for [i, j] in coordinates(rows, cols) {
         let asked = format_args!("{rows} rows, {cols} cols, i {i}, j {j}");
         let markers = subjects.of("marker id at a square");
@@ -30,8 +51,8 @@ fn compare_places(subjects: &mut Subjects, ours: &ours::Board, theirs: &theirs::
     }
 }
 
-fn compare_ids(subjects: &mut Subjects, ours: &ours::Board, theirs: &theirs::Board) {
-    let ours::Board { rows, cols } = *ours;
+fn compare_ids(subjects: &mut Named, ours: &ours::Board, theirs: &theirs::Board) {
+    let ours::Board { rows, cols, .. } = *ours;
     let asked = format_args!("{rows} rows, {cols} cols");
     let count = subjects.of("marker count");
     count.check(ours.marker_count(), theirs.marker_count(), asked);
@@ -52,9 +73,9 @@ fn compare_ids(subjects: &mut Subjects, ours: &ours::Board, theirs: &theirs::Boa
 }
 
 /// An id without a point is NaN and NaN.
-fn compare_points(subjects: &mut Subjects, ours: &ours::Board, cell_size: f32) {
-    let ours::Board { rows, cols } = *ours;
-    let theirs = theirs::Board::new(rows, cols, cell_size);
+fn compare_points(subjects: &mut Named, ours: &ours::Board, cell_size: f32) {
+    let ours::Board { rows, cols, legacy } = *ours;
+    let theirs = theirs::Board::new(rows, cols, legacy, cell_size);
     let points = subjects.of("object point of a corner id");
     for id in ids(theirs.corner_count() as u32) {
         let asked = format_args!("{rows} rows, {cols} cols, cell size {cell_size:e}, corner {id}");

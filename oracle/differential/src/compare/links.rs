@@ -1,4 +1,5 @@
-//! The link entry: in the order of document 01 against its rules, and without order against the Rust.
+//! The link entry: in the order of document 01 against its rules, and without order against the Rust. A legacy board with an
+//! even row count is turned by a quarter for the Rust.
 
 use crate::entry::Entry;
 use crate::subject::Subject;
@@ -10,23 +11,32 @@ use cases::link_entry::{
 use cases::prng::Prng;
 use theirs::unordered;
 
-/// A kind of violation that never comes up is a failure of the inputs.
 pub fn compare() -> Vec<Subject> {
-    let mut prng = Prng::new(8);
-    let groups = [
+    let unmarked = compare_all("links", 8, false);
+    let marked = compare_all("links, legacy boards", 38, true);
+    [unmarked, marked].concat()
+}
+
+/// A kind of violation that never comes up is a failure of the inputs.
+fn compare_all(name: &'static str, seed: u64, legacy: bool) -> Vec<Subject> {
+    let mut prng = Prng::new(seed);
+    let mut groups = [
         single_changes(),
         most_of_one_link(),
         pairs_of_refusals(),
         on_changed_boards(&mut prng, 3_000),
-        prng.many(30_000, random_input),
-        prng.many(2_000, whole_board),
-        of_most_links(&mut prng),
+        prng.many(30_000, |prng| random_input(prng, legacy)),
+        prng.many(2_000, |prng| whole_board(prng, legacy)),
+        of_most_links(&mut prng, legacy),
     ];
-    let mut entry = Entry::new("links", &[0, 1, 2, 3, 4, 5, 6, 7, 8, 19, 14]);
-    let mut against_rust = Subject::new("links, without order against the Rust");
-    let mut against_rules = Subject::new("links, the rules without order against the Rust");
+    let mut entry = Entry::new(name, &[0, 1, 2, 3, 4, 5, 6, 7, 8, 19, 14]);
+    let mut against_rust = Subject::new(format!("{name}, without order against the Rust"));
+    let rules_name = format!("{name}, the rules without order against the Rust");
+    let mut against_rules = Subject::new(rules_name);
     let mut of_kinds = [0; 5];
-    for input in groups.iter().flatten() {
+    for input in groups.iter_mut().flatten() {
+        input.board.legacy_pattern = legacy;
+        let input = &*input;
         let both = entry.compare(input, input);
         let rust = theirs::links_by_rust(input);
         for violation in rust.iter().flatten() {
@@ -36,7 +46,7 @@ pub fn compare() -> Vec<Subject> {
         against_rust.check(&ours, &rust, format_args!("{input}"));
         against_rules.check(&rules, &rust, format_args!("{input}"));
     }
-    let mut up = Subject::new(format!("links, kinds that come up, {of_kinds:?} times"));
+    let mut up = Subject::new(format!("{name}, kinds that come up, {of_kinds:?} times"));
     for (kind, count) in (1..).zip(of_kinds) {
         up.check(count > 0, true, format_args!("kind {kind} comes up"));
     }

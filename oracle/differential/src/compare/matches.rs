@@ -4,8 +4,8 @@ mod program;
 
 use crate::entry::{Both, Entry};
 use crate::subject::{Bytes, Subject};
-use matches::given::{Given, KINDS, Kind};
-use matches::{by_rust_and_model, told};
+use matches::given::{Given, KINDS, Kind, LEGACY_KINDS};
+use matches::{Compared, by_rust_and_model, by_turned_rust_and_model, told};
 use records::REFUSED;
 use std::fmt::{self, Display, Formatter};
 
@@ -18,11 +18,20 @@ const NUMBERS: [u32; 19] = [
 ];
 
 pub fn compare() -> Vec<Subject> {
-    let mut entry = Entry::new("match", &NUMBERS);
-    let mut rules = Subject::new("match, the rules against the Rust");
+    let mut turned = Turned::default();
+    let mut subjects = compare_kinds("match", &KINDS, &mut turned);
+    let of_legacy = compare_kinds("match, legacy boards", &LEGACY_KINDS, &mut turned);
+    subjects.extend(of_legacy);
+    subjects.extend(turned.subjects());
+    subjects
+}
+
+fn compare_kinds(name: &'static str, kinds: &[Kind], turned: &mut Turned) -> Vec<Subject> {
+    let mut entry = Entry::new(name, &NUMBERS);
+    let mut rules = Subject::new(format!("{name}, the rules against the Rust"));
     let mut subjects = Vec::new();
-    for kind in &KINDS {
-        let mut of_kind = Subject::new(format!("match, {}", kind.name));
+    for kind in kinds {
+        let mut of_kind = Subject::new(format!("{name}, {}", kind.name));
         for (place, given) in kind.all().enumerate() {
             let asked = Shown(kind, place, &given);
             let Both { ours, theirs } = entry.compare(&given, &asked);
@@ -33,10 +42,15 @@ pub fn compare() -> Vec<Subject> {
                 format_args!("{asked}"),
             );
             // The rules answer for tables that the Rust cannot take, so they are held to it where it can.
-            let read = records::read(&given.record);
-            if let Some(both) = read.and_then(|read| by_rust_and_model(&read.shot)) {
+            let Some(read) = records::read(&given.record) else {
+                continue;
+            };
+            if let Some(both) = by_rust_and_model(&read.shot) {
                 let [rust, model] = both.map(|matched| told(&matched));
                 rules.check(model, rust, format_args!("{asked}"));
+            }
+            if let Some(both) = by_turned_rust_and_model(&read.shot) {
+                turned.check(both, &asked);
             }
         }
         subjects.push(of_kind);
@@ -46,13 +60,65 @@ pub fn compare() -> Vec<Subject> {
     subjects
 }
 
+/// Marked boards that the Rust knows only turned by a quarter.
+struct Turned {
+    /// The evidence of every placement, as bits, and the placements one to one.
+    placements: Subject,
+    /// Count, evidence of the best and of the runner-up, margin.
+    chosen: Subject,
+    /// Everything that is told, where both choose the same best.
+    answers: Subject,
+    count: u64,
+}
+
+impl Default for Turned {
+    fn default() -> Self {
+        let subject = |of: &str| Subject::new(format!("marked boards by the Rust, turned: {of}"));
+        Self {
+            placements: subject("evidence of every placement"),
+            chosen: subject("best, runner-up, margin"),
+            answers: subject("answers of the same best"),
+            count: 0,
+        }
+    }
+}
+
+impl Turned {
+    /// The rules are compared with the Rust, as elsewhere.
+    fn check(&mut self, [rust, model]: [Compared; 2], asked: &Shown) {
+        let asked = format_args!("{asked}");
+        self.count += rust.placements.len() as u64;
+        self.placements
+            .check(model.placements, rust.placements, asked);
+        self.chosen.check(model.chosen, rust.chosen, asked);
+        if rust.answer.is_some() {
+            self.answers.check(model.answer, rust.answer, asked);
+        }
+    }
+
+    fn subjects(self) -> [Subject; 4] {
+        let name = format!(
+            "marked boards by the Rust, turned: {} placements",
+            self.count
+        );
+        let mut up = Subject::new(name);
+        up.check(
+            self.answers.compared > 0,
+            true,
+            format_args!("answers come up"),
+        );
+        [self.placements, self.chosen, self.answers, up]
+    }
+}
+
 /// The kind of a record and its place in it, by which it can be had again, and its first bytes.
 pub struct Shown<'a>(pub &'a Kind, pub usize, pub &'a Given);
 
 impl Display for Shown<'_> {
     fn fmt(&self, f: &mut Formatter) -> fmt::Result {
         let Self(kind, place, Given { record, places }) = self;
-        write!(f, "{}, record {place}, {places} places, ", kind.name)?;
+        let of = if kind.legacy { " of legacy boards" } else { "" };
+        write!(f, "{}{of}, record {place}, {places} places, ", kind.name)?;
         write!(f, "{}", Bytes(record))
     }
 }

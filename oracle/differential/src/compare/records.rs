@@ -5,7 +5,7 @@ mod fields;
 use crate::subject::{Subject, Subjects};
 use cases::prng::Prng;
 use fields::Extent::{self, All, Few};
-use records::telling::telling;
+use records::telling::{Telling, telling, telling_marked};
 use records::{Cell, LONGEST, Sample, Shape, Shot, UNSAMPLED, damage, filled, write};
 
 const BITS: [u8; 11] = [0, 1, 2, 3, 4, 5, 6, 7, 8, 9, 255];
@@ -29,23 +29,28 @@ const LARGE_SIDES: [[u8; 2]; 9] = [
     [128, 64],
 ];
 
+/// The mark adds no field, so that every record may have it.
 pub fn compare() -> Vec<Subject> {
-    let mut prng = Prng::new(6);
     let mut subjects = Subjects::default();
-    let mut compare = |record: &[u8], extent| fields::compare(&mut subjects, record, extent);
-    for asked in telling() {
-        compare(&asked.record, Few);
+    for (record, extent) in all(telling(), &mut Prng::new(6)) {
+        fields::compare(&mut subjects, "record", &record, extent);
     }
-    for (record, extent) in good(&mut prng) {
-        compare(&record, extent);
-    }
-    for (record, extent) in at_the_limits(&mut prng) {
-        compare(&record, extent);
-    }
-    for record in damaged(&mut prng) {
-        compare(&record, Few);
+    for (record, extent) in all(telling_marked(), &mut Prng::new(36)) {
+        let record = damage::marked(record);
+        fields::compare(&mut subjects, "record with the mark", &record, extent);
     }
     subjects.0
+}
+
+fn all(telling: Vec<Telling>, prng: &mut Prng) -> impl Iterator<Item = Asked> {
+    let with_few = |record| (record, Few);
+    let telling = telling.into_iter().map(|asked| asked.record);
+    let whole = [good(prng), at_the_limits(prng)].concat();
+    let damaged = damaged(prng).into_iter();
+    telling
+        .map(with_few)
+        .chain(whole)
+        .chain(damaged.map(with_few))
 }
 
 /// A record, and how much of it is asked for.

@@ -108,9 +108,9 @@ const FAULTS: [Fault; 18] = [
 const BAD_FRACTIONS: [f32; 8] = [-LEAST, -0.5, ABOVE_1, 2.0, MAX, INF, -INF, NAN];
 
 /// One fault, or two of which the later question goes unasked.
-pub fn given(prng: &mut Prng) -> Given {
+pub fn given(prng: &mut Prng, legacy: bool) -> Given {
     let mut faulty = Faulty {
-        shot: Scene::random(prng).shot(prng, Look::Clear),
+        shot: Scene::random(prng, legacy).shot(prng, Look::Clear),
         is_list_short: false,
         is_broken: false,
     };
@@ -138,10 +138,10 @@ impl Faulty {
     }
 }
 
-/// A spare bit, a byte less, a byte more.
+/// A spare bit or the mark, a byte less, a byte more.
 fn broken(prng: &mut Prng, record: &mut Vec<u8>) {
     match prng.below(3) {
-        0 => record[0] |= prng.pick(&settings::SPARE),
+        0 => record[0] |= prng.pick(&settings::WITHOUT_FIELD),
         1 => {
             record.pop();
         }

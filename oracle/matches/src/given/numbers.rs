@@ -17,8 +17,8 @@ const MARGINS: [f32; 17] = [
     ABOVE_1, 2.5, MAX,
 ];
 
-fn any_shot(prng: &mut Prng) -> Shot {
-    Scene::random(prng).any_shot(prng)
+fn any_shot(prng: &mut Prng, legacy: bool) -> Shot {
+    Scene::random(prng, legacy).any_shot(prng)
 }
 
 fn set_margin(prng: &mut Prng, shot: &mut Shot) {
@@ -35,8 +35,8 @@ fn set_border_threshold(prng: &mut Prng, shot: &mut Shot) {
 }
 
 /// Fractions that make weights 0, subnormal, 1 and between; and all weights 0 now and then.
-pub fn weights(prng: &mut Prng) -> Shot {
-    let mut shot = any_shot(prng);
+pub fn weights(prng: &mut Prng, legacy: bool) -> Shot {
+    let mut shot = any_shot(prng, legacy);
     let few = [0.0f32, -0.0, LEAST];
     let fractions = prng.pick(&[&FRACTIONS[..], &FRACTIONS[..], &few[..], &few[..2]]);
     for cell in &mut shot.cells {
@@ -57,8 +57,8 @@ pub fn weights(prng: &mut Prng) -> Shot {
 }
 
 /// Each setting by itself or with the others.
-pub fn any_settings(prng: &mut Prng) -> Shot {
-    let mut shot = any_shot(prng);
+pub fn any_settings(prng: &mut Prng, legacy: bool) -> Shot {
+    let mut shot = any_shot(prng, legacy);
     if !prng.one_in(3) {
         set_margin(prng, &mut shot);
     }
@@ -77,8 +77,8 @@ pub fn any_settings(prng: &mut Prng) -> Shot {
 }
 
 /// A minimum that is just the margin of the shot, or the next number to it.
-pub fn minimum_at_the_margin(prng: &mut Prng) -> Shot {
-    let mut shot = any_shot(prng);
+pub fn minimum_at_the_margin(prng: &mut Prng, legacy: bool) -> Shot {
+    let mut shot = any_shot(prng, legacy);
     shot.set_minimum_margin(MAX);
     let refused = match_shot(&shot, usize::MAX).expect_err("no margin is so large");
     let margin = f32::from_bits(refused.words.first().copied().unwrap_or(0));
@@ -88,8 +88,8 @@ pub fn minimum_at_the_margin(prng: &mut Prng) -> Shot {
 }
 
 /// Sizes and fractions that are as small or as large as they may be, of any sign that passes.
-pub fn odd_floats(prng: &mut Prng) -> Shot {
-    let mut shot = any_settings(prng);
+pub fn odd_floats(prng: &mut Prng, legacy: bool) -> Shot {
+    let mut shot = any_settings(prng, legacy);
     shot.cell_size = prng.pick(&GOOD_CELL_SIZES).to_bits();
     shot.marker_size_rel = prng.pick(&GOOD_MARKER_SIZES).to_bits();
     for sample in shot.samples_mut() {
@@ -101,16 +101,16 @@ pub fn odd_floats(prng: &mut Prng) -> Shot {
 }
 
 /// The Rust answers for these.
-pub fn table_by_formula(prng: &mut Prng) -> Shot {
-    let mut shot = any_settings(prng);
+pub fn table_by_formula(prng: &mut Prng, legacy: bool) -> Shot {
+    let mut shot = any_settings(prng, legacy);
     shot.map |= settings::TABLE;
     (_, shot.table) = FORMULAS[prng.place(FORMULAS.len())];
     shot
 }
 
 /// Any table that question 10 lets pass. The rules answer for most of these.
-pub fn any_table(prng: &mut Prng) -> Shot {
-    let mut shot = any_settings(prng);
+pub fn any_table(prng: &mut Prng, legacy: bool) -> Shot {
+    let mut shot = any_settings(prng, legacy);
     shot.map |= settings::TABLE;
     shot.table = random_table(prng).map(f32::to_bits);
     shot
@@ -154,8 +154,8 @@ pub fn odd_entries() -> [Vec<f32>; 2] {
 }
 
 /// Cells as they should be, for a look.
-pub fn shown(prng: &mut Prng) -> Shot {
-    let scene = Scene::random(prng);
+pub fn shown(prng: &mut Prng, legacy: bool) -> Shot {
+    let scene = Scene::random(prng, legacy);
     let look = prng.pick(&[Look::Clear, Look::Noisy, Look::Noisy]);
     scene.shot(prng, look)
 }

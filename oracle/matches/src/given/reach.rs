@@ -5,36 +5,36 @@ use cases::corner_lists::{FARTHEST, rectangle};
 use cases::prng::Prng;
 use records::{Cell, Shot};
 
-pub fn shot(prng: &mut Prng) -> Shot {
-    let kinds: [fn(&mut Prng) -> Shot; 5] = [
+pub fn shot(prng: &mut Prng, legacy: bool) -> Shot {
+    let kinds: [fn(&mut Prng, bool) -> Shot; 5] = [
         one_cell,
         along_the_rim,
         just_fitting,
         far_off,
         no_marker_seen,
     ];
-    prng.pick(&kinds)(prng)
+    prng.pick(&kinds)(prng, legacy)
 }
 
-fn any_board(prng: &mut Prng) -> Scene {
+fn any_board(prng: &mut Prng, legacy: bool) -> Scene {
     let most = prng.pick(&[3, 7, 7, 15, 31]);
     let size = prng.two(|prng| 2 + prng.below(most) as u8);
-    Scene::of_board(prng, size)
+    Scene::of_board(prng, size, legacy)
 }
 
 fn any_square(prng: &mut Prng, scene: &Scene) -> [i32; 2] {
     [scene.cols, scene.rows].map(|n| prng.below(u64::from(n)) as i32)
 }
 
-fn one_cell(prng: &mut Prng) -> Shot {
-    let mut scene = any_board(prng);
+fn one_cell(prng: &mut Prng, legacy: bool) -> Shot {
+    let mut scene = any_board(prng, legacy);
     scene.squares = vec![any_square(prng, &scene)];
     scene.any_shot(prng)
 }
 
 /// Some squares of the rim, among them opposite corners half of the time, so that few translations fit.
-fn along_the_rim(prng: &mut Prng) -> Shot {
-    let mut scene = any_board(prng);
+fn along_the_rim(prng: &mut Prng, legacy: bool) -> Shot {
+    let mut scene = any_board(prng, legacy);
     let last = [scene.cols, scene.rows].map(|n| i32::from(n) - 1);
     if prng.one_in(2) {
         scene.squares = vec![[0, 0], last];
@@ -50,8 +50,8 @@ fn along_the_rim(prng: &mut Prng) -> Shot {
 }
 
 /// As wide or as high as the board, or by one more; a board that is not square may take them in two turns only.
-fn just_fitting(prng: &mut Prng) -> Shot {
-    let mut scene = any_board(prng);
+fn just_fitting(prng: &mut Prng, legacy: bool) -> Shot {
+    let mut scene = any_board(prng, legacy);
     let [cols, rows] = [scene.cols, scene.rows].map(i32::from);
     let mut size = [cols, rows].map(|n| n - 1 + prng.pick(&[0, 0, 0, 1]));
     if prng.one_in(4) {
@@ -72,8 +72,8 @@ fn just_fitting(prng: &mut Prng) -> Shot {
 }
 
 /// With cells at the ends of the range.
-fn far_off(prng: &mut Prng) -> Shot {
-    let mut scene = any_board(prng).with_part_seen(prng);
+fn far_off(prng: &mut Prng, legacy: bool) -> Shot {
+    let mut scene = any_board(prng, legacy).with_part_seen(prng);
     scene.translation = [0; 2];
     let points: Vec<[i16; 2]> = scene.squares.iter().map(|&s| scene.point(s)).collect();
     let axis = |k: usize| points.iter().map(move |point| i32::from(point[k]));
@@ -91,22 +91,25 @@ fn far_off(prng: &mut Prng) -> Shot {
 }
 
 /// Every cell lies on a square without a marker, as the true placement has it.
-fn no_marker_seen(prng: &mut Prng) -> Shot {
-    let mut scene = any_board(prng);
+fn no_marker_seen(prng: &mut Prng, legacy: bool) -> Shot {
+    let mut scene = any_board(prng, legacy);
     let seen = (0..1 + prng.below(5)).map(|_| any_square(prng, &scene));
-    let plain = seen.map(|[i, j]| if (i + j) % 2 == 0 { [i, j] } else { [i, 0] });
+    let plain = seen.map(|[i, j]| match scene.code([i, j]) {
+        None => [i, j],
+        Some(_) => [i, 0],
+    });
     scene.squares = plain.collect();
     scene.shot(prng, Look::Noisy)
 }
 
 /// 250 to 257 cells, on boards where they have few places or many.
-pub fn many_cells(prng: &mut Prng) -> Shot {
+pub fn many_cells(prng: &mut Prng, legacy: bool) -> Shot {
     let [rows, cols] = prng.pick(&[[16, 17], [17, 17], [16, 32], [32, 32], [22, 12], [32, 9]]);
-    let mut scene = Scene::of_board(prng, [rows, cols]);
+    let mut scene = Scene::of_board(prng, [rows, cols], legacy);
     scene.border = 1;
     let all = rectangle([0, 0], [cols.into(), rows.into()]);
     scene.squares = match prng.below(3) {
-        0 => all.filter(|[i, j]| (i + j) % 2 == 1).collect(),
+        0 => all.filter(|&square| scene.code(square).is_some()).collect(),
         1 => all.filter(|&[i, j]| i < 16 && j < 16).collect(),
         _ => all.collect(),
     };

@@ -7,12 +7,13 @@ use cases::corner_lists::rectangle;
 use cases::floats::random_fraction;
 use cases::layout::marker_squares;
 use cases::prng::Prng;
-use records::{Cell, Sample, Shot};
+use records::{Cell, Sample, Shot, settings};
 
 #[derive(Clone, Debug)]
 pub struct Scene {
     pub rows: u8,
     pub cols: u8,
+    pub legacy: bool,
     pub bits: u8,
     pub border: u8,
     pub turn: u8,
@@ -39,20 +40,21 @@ pub fn markers_of(rows: u8, cols: u8) -> usize {
 
 impl Scene {
     /// A board of 2 to 8 rows and columns, now and then up to 32, with random codes and a part of it seen.
-    pub fn random(prng: &mut Prng) -> Self {
+    pub fn random(prng: &mut Prng, legacy: bool) -> Self {
         let most = prng.pick(&[3, 5, 7, 7, 7, 7, 7, 7, 31]);
         let size = prng.two(|prng| 2 + prng.below(most) as u8);
-        Self::of_board(prng, size).with_part_seen(prng)
+        Self::of_board(prng, size, legacy).with_part_seen(prng)
     }
 
     /// Nothing of it is seen yet. Most codes are of 2 to 5 bits a side.
-    pub fn of_board(prng: &mut Prng, [rows, cols]: [u8; 2]) -> Self {
+    pub fn of_board(prng: &mut Prng, [rows, cols]: [u8; 2], legacy: bool) -> Self {
         let bits = prng.pick(&[1, 2, 2, 3, 3, 4, 4, 4, 5, 6, 7, 8]);
         let markers = markers_of(rows, cols) + prng.pick(&[0, 0, 0, 1, 3]);
         let far = prng.pick(&[1, 3, 40, 4000]);
         Self {
             rows,
             cols,
+            legacy,
             bits,
             border: prng.pick(&[1, 1, 1, 2, 3, 4]),
             turn: prng.below(4) as u8,
@@ -88,8 +90,8 @@ impl Scene {
     }
 
     /// The code of the marker in a square.
-    fn code(&self, square: [i32; 2]) -> Option<u64> {
-        let mut squares = marker_squares(self.rows.into(), self.cols.into());
+    pub fn code(&self, square: [i32; 2]) -> Option<u64> {
+        let mut squares = marker_squares(self.rows.into(), self.cols.into(), self.legacy);
         let id = squares.position(|marker| marker.map(u32::cast_signed) == square);
         id.map(|id| self.codes[id])
     }
@@ -106,6 +108,7 @@ impl Scene {
             Cell { u, v, sample }
         });
         Shot {
+            map: if self.legacy { settings::LEGACY } else { 0 },
             cells: cells.collect(),
             rows: self.rows,
             cols: self.cols,

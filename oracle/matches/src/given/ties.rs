@@ -23,8 +23,8 @@ const CHANGES: [Change; 10] = [
 ];
 
 /// One change or two, half of the time with a minimum margin that lets a tie pass.
-pub fn shot(prng: &mut Prng) -> Shot {
-    let mut shot = Scene::random(prng).any_shot(prng);
+pub fn shot(prng: &mut Prng, legacy: bool) -> Shot {
+    let mut shot = Scene::random(prng, legacy).any_shot(prng);
     for _ in 0..1 + prng.below(2) {
         prng.pick(&CHANGES)(prng, &mut shot);
     }
@@ -96,9 +96,9 @@ fn repeated_cells(prng: &mut Prng, shot: &mut Shot) {
 }
 
 /// Boards of 2 by 2, 2 by 3, 3 by 2 and 3 by 3 squares, on which most placements are alike.
-pub fn tiny_board(prng: &mut Prng) -> Shot {
+pub fn tiny_board(prng: &mut Prng, legacy: bool) -> Shot {
     let size = prng.pick(&[[2, 2], [2, 3], [3, 2], [3, 3]]);
-    let scene = Scene::of_board(prng, size).with_part_seen(prng);
+    let scene = Scene::of_board(prng, size, legacy).with_part_seen(prng);
     let look = prng.pick(&[Look::Clear, Look::Noisy, Look::Random]);
     let mut shot = scene.shot(prng, look);
     if prng.one_in(2) {

@@ -2,7 +2,7 @@
 //! A child of `board_match` may call what is private there; `mod.rs` hands on the names that it expects of this file.
 
 use super::emit::emit_markers;
-use super::hypothesis::rotation_index_for;
+use super::hypothesis::{enumerate_hypotheses, rotation_index_for};
 use super::score_matrix::{build_score_matrix, ScoreMatrix};
 use super::{match_board_core, BoardMatchConfig, DiagHypothesis, MatchSink};
 use crate::board::CharucoBoard;
@@ -49,6 +49,18 @@ impl BoardMatchDiagnostics {
 
     pub fn evidence(&self, cell: usize, marker: u32, turn: u8) -> f32 {
         self.matrix.evidence(cell, marker, turn)
+    }
+
+    /// Takes away the scores of the other turns: their placements are minus infinity and so above none of this turn.
+    pub fn keep_turn(&mut self, turn: u8) {
+        let scores = self.matrix.scores.iter_mut().enumerate();
+        let others = scores.filter(|(place, _)| place % 4 != usize::from(turn));
+        others.for_each(|(_, score)| *score = f32::NEG_INFINITY);
+    }
+
+    /// The best of `enumerate_hypotheses`; none where no translation puts all cells on the board.
+    pub fn best(&self, board: &CharucoBoard, cells: &[MarkerCell]) -> Option<DiagHypothesis> {
+        enumerate_hypotheses(board, cells, &self.matrix).map(|selection| selection.best)
     }
 
     /// `emit_markers`. Each of them has the code that `read_code` gives for its samples, and the grid point that

@@ -25,10 +25,10 @@ module _ (c : tie.After-shared-slice-known) where
 short : (c : tie.Else1) → leb (length (bytes (c .before))) 65535 ≡ true
 short c = le-leb (length (bytes (c .before))) 65535 (c .if1 .left)
 
-known : (c : tie.Else2) → ltb (mapByte (bytes (c .before .before .before))) 16 ≡ true
+known : (c : tie.Else2) → ltb (mapByte (bytes (c .before .before .before))) 32 ≡ true
 known c =
     let x = c .before .before .before in
-    lt-ltb (mapByte (bytes x)) 16 (omega (arith, f x .map, c .if2 .left))
+    lt-ltb (mapByte (bytes x)) 32 (omega (arith, f x .map, c .if2 .left))
 
 clear : (c : tie.Else3) → ltb (cellMap (bytes (c .before .before .before .before .before)))
     (2 ^ cellCount (bytes (c .before .before .before .before .before))) ≡ true
@@ -42,7 +42,7 @@ returns-2 : tie.Need-returns-2
 unfolding wholeRecord
 returns-2 c =
     let x = c .before .before .before in
-    rw (short (c .before .before), le-ltb (mapByte (bytes x)) 16 (omega (arith, f x .map, c .if2 .taken)))
+    rw (short (c .before .before), le-ltb (mapByte (bytes x)) 32 (omega (arith, f x .map, c .if2 .taken)))
 
 returns-3 : tie.Need-returns-3
 unfolding wholeRecord

@@ -5,10 +5,10 @@ use Rattle.stored_rows.proofs.layout.after_corners.Statement.{statement
 use Rattle.stored_rows.proofs.layout.after_corners.Tie as tie
 
 abbrev Inv-loop : tie.InvT-loop
-Inv-loop before rows cols id h₀ k₀ h k = Unit {0}
+Inv-loop before rows cols legacy id h₀ k₀ h k = Unit {0}
 
 abbrev μ-loop : tie.MeasureT-loop
-μ-loop before rows cols id h₀ k₀ h k = 4 - k
+μ-loop before rows cols legacy id h₀ k₀ h k = 4 - k
 
 pub after-corners-spec : {M : Type 1} → statement M
 after-corners-spec =

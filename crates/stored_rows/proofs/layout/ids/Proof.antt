@@ -5,10 +5,10 @@ use Rattle.stored_rows.proofs.layout.ids.Statement.{statement}
 use Rattle.stored_rows.proofs.layout.ids.Tie as tie
 
 abbrev Inv-loop : tie.InvT-loop
-Inv-loop rows cols cell-size h₀ id₀ h id = Unit {0}
+Inv-loop rows cols legacy cell-size h₀ id₀ h id = Unit {0}
 
 abbrev μ-loop : tie.MeasureT-loop
-μ-loop rows cols cell-size h₀ id₀ h id = 1025 - id
+μ-loop rows cols legacy cell-size h₀ id₀ h id = 1025 - id
 
 pub ids-spec : {M : Type 1} → statement M
 ids-spec =

@@ -5,10 +5,10 @@ use Rattle.stored_rows.proofs.layout.place_row.Statement.{statement}
 use Rattle.stored_rows.proofs.layout.place_row.Tie as tie
 
 abbrev Inv-loop : tie.InvT-loop
-Inv-loop rows cols j before width h₀ i₀ h i = Unit {0}
+Inv-loop rows cols legacy j before width h₀ i₀ h i = Unit {0}
 
 abbrev μ-loop : tie.MeasureT-loop
-μ-loop rows cols j before width h₀ i₀ h i = width - i
+μ-loop rows cols legacy j before width h₀ i₀ h i = width - i
 
 pub place-row-spec : {M : Type 1} → statement M
 place-row-spec =

@@ -5,10 +5,10 @@ use Rattle.stored_rows.proofs.layout.places.Statement.{statement}
 use Rattle.stored_rows.proofs.layout.places.Tie as tie
 
 abbrev Inv-loop : tie.InvT-loop
-Inv-loop rows cols height h₀ j₀ h j = Unit {0}
+Inv-loop rows cols legacy height h₀ j₀ h j = Unit {0}
 
 abbrev μ-loop : tie.MeasureT-loop
-μ-loop rows cols height h₀ j₀ h j = height - j
+μ-loop rows cols legacy height h₀ j₀ h j = height - j
 
 pub places-spec : {M : Type 1} → statement M
 places-spec =

@@ -2,7 +2,7 @@
 
 use super::Shown;
 use crate::subject::Subject;
-use matches::given::{Given, KINDS};
+use matches::given::{Given, KINDS, Kind, LEGACY_KINDS};
 use matches::{MOST_PLACES, match_record, text};
 use std::env;
 use std::ffi::OsString;
@@ -17,9 +17,17 @@ const OF_EACH_KIND: usize = 160;
 
 /// The program has places enough for every record that is not refused before.
 pub fn compare() -> Vec<Subject> {
+    let kinds = [
+        ("program place", &KINDS),
+        ("program place, legacy boards", &LEGACY_KINDS),
+    ];
+    kinds.map(|(name, kinds)| compare_kinds(name, kinds)).into()
+}
+
+fn compare_kinds(name: &str, kinds: &[Kind]) -> Subject {
     let program = env::var_os(VARIABLE).unwrap_or_else(|| DEFAULT.into());
-    let mut subject = Subject::new("program place");
-    for kind in &KINDS {
+    let mut subject = Subject::new(name);
+    for kind in kinds {
         for (place, given) in kind.first(OF_EACH_KIND).enumerate() {
             let matched = match_record(&given.record, MOST_PLACES);
             let ours = printed(&program, &given);
@@ -28,7 +36,7 @@ pub fn compare() -> Vec<Subject> {
             subject.check(ours, Ok((true, text(&matched))), format_args!("{shown}"));
         }
     }
-    vec![subject]
+    subject
 }
 
 /// Whether it ended well, and what it printed; or why it could not be run.

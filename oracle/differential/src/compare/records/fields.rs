@@ -17,19 +17,20 @@ pub enum Extent {
     All,
 }
 
-pub fn compare(subjects: &mut Subjects, record: &[u8], extent: Extent) {
+/// The names of the subjects begin with `of`.
+pub fn compare(subjects: &mut Subjects, of: &str, record: &[u8], extent: Extent) {
     let read = records::read(record);
     let read = read.as_ref();
     let (name, number) = match read {
-        Some(_) => ("record that is read", 0),
-        None => ("record that is refused", REFUSED),
+        Some(_) => ("that is read", 0),
+        None => ("that is refused", REFUSED),
     };
     let shown = Bytes(record);
     let ours = words::read_header(record, &mut []);
-    let numbers = subjects.of(name);
+    let numbers = subjects.of(&format!("{of} {name}"));
     numbers.check(ours, number, format_args!("number of {shown}"));
     check(
-        subjects.of("record, header"),
+        subjects.of(&format!("{of}, header")),
         format_args!("{shown}"),
         |values| words::read_header(record, values),
         &told::header(read),
@@ -50,7 +51,7 @@ pub fn compare(subjects: &mut Subjects, record: &[u8], extent: Extent) {
         ("grid of a cell", &cells, words::grid, told::grid),
     ];
     for (name, places, ours, theirs) in readers {
-        let subject = subjects.of(&format!("record, {name}"));
+        let subject = subjects.of(&format!("{of}, {name}"));
         for &k in places {
             let asked = format_args!("place {k} of {shown}");
             check(
@@ -61,7 +62,7 @@ pub fn compare(subjects: &mut Subjects, record: &[u8], extent: Extent) {
             );
         }
     }
-    let all_greys = subjects.of("record, greys of a cell");
+    let all_greys = subjects.of(&format!("{of}, greys of a cell"));
     for &k in &cells {
         let ours = charuco::grid(record, k).unwrap_or_default();
         all_greys.check(

@@ -1,12 +1,13 @@
-//! The accuracy rule: no reported evidence of a placed shot is farther than N × (N + 67) / 65,536 from the exact one. Works out
-//! both for every placement of many shots, then looks for bad shots. Ends with 1 if one breaks the rule.
+//! The accuracy rule: no reported evidence of a placed shot is farther than N × (N + 67) / 65,536 from the exact one, on boards
+//! with the mark of a legacy board and without it. Works out both for every placement of many shots, then looks for bad shots.
+//! Ends with 1 if one breaks the rule.
 
 mod search;
 
 use matches::exact::{self, Worst};
-use matches::given::KINDS;
+use matches::given::{KINDS, Kind, LEGACY_KINDS};
 use matches::match_record;
-use records::built_in_table;
+use records::{Shot, built_in_table};
 use search::Search;
 use std::process::ExitCode;
 
@@ -38,16 +39,21 @@ impl Class {
 }
 
 fn main() -> ExitCode {
-    let broken = of_many_shots() + of_bad_shots();
+    let broken = of_many_shots("random shots", &KINDS)
+        + of_many_shots("random shots of legacy boards", &LEGACY_KINDS)
+        + of_bad_shots("search", |shot| shot)
+        + of_bad_shots("search, on a legacy board", Shot::marked);
     println!("shots that break the rule: {broken}");
     ExitCode::from(u8::from(broken != 0))
 }
 
-fn of_many_shots() -> usize {
+fn of_many_shots(name: &str, kinds: &[Kind]) -> usize {
     let mut classes = [Class::default(); CLASSES.len()];
     let mut large = 0;
-    let kinds = KINDS.iter();
-    for given in kinds.flat_map(|kind| kind.first(OF_EACH_KIND.min(kind.count))) {
+    for given in kinds
+        .iter()
+        .flat_map(|kind| kind.first(OF_EACH_KIND.min(kind.count)))
+    {
         let matched = match_record(&given.record, given.places);
         let (Ok(_), Some(read)) = (matched, records::read(&given.record)) else {
             continue;
@@ -64,31 +70,32 @@ fn of_many_shots() -> usize {
     }
     for (class, last) in classes.iter().zip(CLASSES) {
         println!(
-            "random shots of up to {last:3} cells: {:5} placed, {:7} placements, farthest {:.6} of what is allowed",
+            "{name} of up to {last:3} cells: {:5} placed, {:7} placements, farthest {:.6} of what is allowed",
             class.shots, class.placements, class.ratio
         );
     }
     classes.iter().map(|class| class.broken).sum()
 }
 
-/// The search starts anew for each number of cells, for errors up and down, and for both kinds of tables.
-fn of_bad_shots() -> usize {
+/// The search starts anew for each number of cells, for errors up and down, and for both kinds of tables. The shot that it ends
+/// with is changed before it is judged.
+fn of_bad_shots(name: &str, change: fn(Shot) -> Shot) -> usize {
     let mut broken = 0;
     for cells in SEARCHED {
-        for (name, table) in [
+        for (of_table, table) in [
             ("any table", search::near_the_floor()),
             ("built-in", built_in_table()),
         ] {
             let mut ratio = 0.0f64;
             for is_up in [true, false] {
-                let shot = Search::new(table, cells, is_up).run();
+                let shot = change(Search::new(table, cells, is_up).run());
                 let matched = matches::match_shot(&shot, usize::MAX);
                 matched.expect("a search ends with a shot that is placed");
                 let worst = exact::worst(&shot);
                 ratio = ratio.max(worst.ratio.unwrap_or(0.0));
                 broken += usize::from(worst.breaks_the_rule);
             }
-            println!("search, {cells:3} cells, {name}: farthest {ratio:.6} of what is allowed");
+            println!("{name}, {cells:3} cells, {of_table}: farthest {ratio:.6} of what is allowed");
         }
     }
     broken

@@ -1,0 +1,76 @@
+//! What document 02 says of single requests, asked through the wrapper.
+
+use charuco::{BoardSpec, LinkCheckMode, read_header, validate_marker_corner_links};
+
+const BOARD: BoardSpec = BoardSpec {
+    rows: 4,
+    cols: 5,
+    bits: 4,
+    border_bits: 1,
+    legacy_pattern: true,
+    cell_size: 0.5,
+    marker_size_rel: 0.75,
+};
+
+const CODES: [u64; 10] = [1, 2, 3, 4, 5, 6, 7, 8, 9, 10];
+
+/// The four corners that are expected of a marker, by a link to a corner that no board has.
+fn expected(spec: &BoardSpec, marker: u32) -> Option<[u32; 4]> {
+    let links = [[marker, 1000]];
+    let mode = LinkCheckMode::SubsetOk;
+    let found = validate_marker_corner_links(spec, &CODES, &links, mode).expect("a good board");
+    match found[..] {
+        [charuco::Violation::CornerNotInNeighborhood { expected, .. }] => Some(expected),
+        _ => None,
+    }
+}
+
+/// 2.1: with an even row count the markers are on the squares with i + j even, numbered row by row. Marker 3 is on (1, 1).
+#[test]
+fn legacy_board_has_other_squares() {
+    assert_eq!(expected(&BOARD, 3), Some([0, 1, 5, 4]));
+    assert_eq!(expected(&BOARD, 1), None);
+    let current = BoardSpec {
+        legacy_pattern: false,
+        ..BOARD
+    };
+    assert_eq!(expected(&current, 3), Some([1, 2, 6, 5]));
+}
+
+/// With an odd row count nothing differs.
+#[test]
+fn odd_rows_are_as_before() {
+    let board = BoardSpec { rows: 3, ..BOARD };
+    let current = BoardSpec {
+        legacy_pattern: false,
+        ..board
+    };
+    for marker in 0..8 {
+        assert_eq!(expected(&board, marker), expected(&current, marker));
+    }
+}
+
+/// Bit 4 of the map byte is the mark, and adds no field; bits 5 to 7 are spare.
+#[test]
+fn map_byte_marks_the_board() {
+    let sheet = std::fs::read("../../samples/legacy.shot").expect("a sample");
+    let marked = read_header(&sheet).expect("a whole record");
+    assert!(marked.spec.legacy_pattern && marked.map & 16 != 0);
+    let mut cleared = sheet.clone();
+    cleared[0] &= !16;
+    let header = read_header(&cleared).expect("a whole record");
+    let spec = BoardSpec {
+        legacy_pattern: true,
+        ..header.spec
+    };
+    assert!(!header.spec.legacy_pattern && spec == marked.spec);
+    for bit in 5..8 {
+        cleared[0] = sheet[0] | 1 << bit;
+        assert_eq!(
+            read_header(&cleared)
+                .map_err(|refusal| refusal.number())
+                .err(),
+            Some(21)
+        );
+    }
+}

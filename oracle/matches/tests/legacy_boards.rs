@@ -1,0 +1,122 @@
+//! Legacy boards: small matches by hand, beside the examples of document 01, and the quarter turn by which the Rust is asked
+//! about them.
+
+use matches::{
+    Alignment, MARKER_WORDS, TurnedShot, by_rust_and_model, by_turned_rust_and_model, match_shot,
+    text,
+};
+use records::Shot;
+
+/// The record of document 01 with the mark: its markers are on the squares (0, 0) and (1, 1).
+#[test]
+fn what_the_program_prints() {
+    let shot = Shot::of_document_01().marked();
+    assert_eq!(
+        text(&match_shot(&shot, MARKER_WORDS)),
+        "placed\n\
+         best 0 0 0 40317218\n\
+         next 1 0 0 3F45C860\n\
+         margin 3F38AA3B\n\
+         placements 16\n\
+         corners 0 0 0\n\
+         marker 0 0 0 0 0 0 0000000000000001 00000000\n"
+    );
+}
+
+/// With an odd row count the mark changes nothing, and the Rust answers.
+#[test]
+fn an_odd_row_count() {
+    let mut shot = Shot::of_document_01();
+    [shot.rows, shot.cols] = [3, 3];
+    shot.codes = vec![15, 15, 15, 1];
+    shot.table = records::built_in_table();
+    let marked = shot.clone().marked();
+    let texts = [&shot, &marked].map(|shot| text(&match_shot(shot, MARKER_WORDS)));
+    assert!(texts[0].starts_with("placed\nbest 0 1 2 "), "{}", texts[0]);
+    assert_eq!(texts[0], texts[1]);
+    assert!(by_rust_and_model(&marked).is_some());
+    assert!(by_turned_rust_and_model(&marked).is_none());
+}
+
+/// 2 rows and 3 columns, of which one cell is seen; marker k has one bit set, bit k. The board as it is and turned clockwise,
+/// each marker as `a` to `c`:
+///
+/// ```text
+/// a . b        . a
+/// . c .        c .
+///              . b
+/// ```
+fn two_by_three() -> Shot {
+    let mut shot = Shot::of_document_01().marked();
+    shot.cols = 3;
+    shot.codes = vec![1, 2, 4, 9];
+    shot.table = records::built_in_table();
+    shot
+}
+
+/// The bits of a code are numbered row by row: 0 and 1 above, 2 and 3 below. Turned clockwise, 0 comes to 1, 1 to 3, 2 to 0. The
+/// fourth code is of no marker.
+#[test]
+fn the_turned_shot() {
+    let turned = TurnedShot::new(&two_by_three()).shot;
+    assert!(!turned.is_legacy());
+    assert_eq!([turned.rows, turned.cols], [3, 2]);
+    assert_eq!(turned.codes, [2, 1, 8, 9]);
+    assert_eq!(turned.cells, two_by_three().cells);
+}
+
+/// The cell (0, 0) on `c`, on square (1, 1), in turn 0: on the turned board `c` is on (0, 1), and the cell is seen in the turn by
+/// which (1, 0), right of it on the board as it is, comes below it: (u, v) to (-v, u), turn 3.
+#[test]
+fn a_placement_carried() {
+    let turned = TurnedShot::new(&two_by_three());
+    let at = |turn, tx, ty| Alignment { turn, tx, ty };
+    for (before, after) in [
+        (at(0, 1, 1), at(3, 0, 1)),
+        (at(0, 0, 0), at(3, 1, 0)),
+        (at(0, 2, 0), at(3, 1, 2)),
+        // The cells (5, 7) and (6, 7) on the squares (1, 1) and (1, 0), then on (0, 1) and (1, 1).
+        (at(1, -6, 6), at(0, -5, -6)),
+        (at(2, 0, 0), at(1, 1, 0)),
+        (at(3, 2, 1), at(2, 0, 2)),
+    ] {
+        assert_eq!(turned.carried(before), after);
+        assert_eq!(turned.back(after), before);
+    }
+}
+
+/// Each of the markers is, in one of the turns, what the cell shows, so that three placements tie for the best.
+#[test]
+fn the_rust_turned_and_the_rules() {
+    let [rust, rules] = by_turned_rust_and_model(&two_by_three()).expect("the Rust can be asked");
+    assert_eq!(rust, rules);
+    assert_eq!(rust.placements.len(), 24);
+    let numbers = rust.placements.iter().filter(|(_, bits)| bits.is_some());
+    assert_eq!(numbers.count(), 12);
+}
+
+/// A shot whose best is alone: both choose it, and all that is told of it agrees. Codes that stay as they are, where they
+/// should turn with the board, would show.
+#[test]
+fn an_answer_carried_back() {
+    let mut shot = two_by_three();
+    shot.codes = vec![6, 9, 1];
+    let [rust, rules] = by_turned_rust_and_model(&shot).expect("the Rust can be asked");
+    assert_eq!(rust, rules);
+    let answer = rust.answer.expect("both choose the same best");
+    assert_eq!(answer.number, 0);
+    // Turn 0 on the square (1, 1), and of the marker its cell, id, point and turn.
+    assert_eq!(answer.words[..3], [0, 1, 1]);
+    assert_eq!(answer.list[..5], [0, 2, 0, 0, 0]);
+    let mut wrong = TurnedShot::new(&shot).shot;
+    wrong.codes = vec![6, 1, 9];
+    let placed = match_shot(&wrong, MARKER_WORDS).expect("it is placed");
+    assert_ne!(
+        placed.best.alignment,
+        TurnedShot::new(&shot).carried(Alignment {
+            turn: 0,
+            tx: 1,
+            ty: 1
+        })
+    );
+}

@@ -1,0 +1,92 @@
+"""The boards of the sample sheets as OpenCV draws them, and what surrounds them in a picture.
+
+Boards, markers and codes are OpenCV's. A drawing that does not have the layout of documents 01 and 02 stops the script.
+"""
+
+import sys
+
+try:
+    import cv2
+    import numpy as np
+except ImportError as error:
+    sys.exit(f"{error}: this needs Debian's python3 with python3-opencv")
+
+if not hasattr(getattr(cv2, "aruco", None), "CharucoBoard_create"):
+    sys.exit(f"OpenCV {cv2.__version__} has no aruco.CharucoBoard_create (Debian's 4.6.0 has)")
+
+SQUARE_PX = 96      # of a square in the drawing: 12 pixels a module of a 4 x 4 marker, 9 of a 6 x 6 one
+MARKER_REL = 0.75
+BORDER = 1
+INK, PAPER, ROOM = 28.0, 205.0, 110.0
+
+
+class Board:
+    def __init__(self, cols, rows, dictionary, codes, legacy=False):
+        self.cols, self.rows, self.legacy = cols, rows, legacy
+        # markers are on the squares with i + j odd; document 02: even on a legacy board with an even row count
+        self.parity = 0 if legacy and rows % 2 == 0 else 1
+        self.dictionary = cv2.aruco.Dictionary_get(dictionary)
+        self.bits = self.dictionary.markerSize
+        self.side = self.bits + 2 * BORDER
+        self.codes = [self.code(id) for id in range(codes)]
+
+    def marker(self, id):
+        """The marker as OpenCV draws it, one pixel a module: 0 is black."""
+        return cv2.aruco.drawMarker(self.dictionary, id, self.side, borderBits=BORDER)
+
+    def code(self, id):
+        inner = self.marker(id)[BORDER:-BORDER, BORDER:-BORDER]
+        return sum(1 << k for k, grey in enumerate(inner.flatten()) if grey == 0)
+
+    def drawn(self):
+        """OpenCV's picture of the board.
+
+        OpenCV 4.6.0 begins every board with a black square. A board that begins with a white one is its board of one row
+        more without the top row, whose markers get the last ids, so that the others count from 0.
+        """
+        cut = 1 - self.parity
+        board = cv2.aruco.CharucoBoard_create(self.cols, self.rows + cut, 1.0, MARKER_REL, self.dictionary)
+        in_cut = sum(points[:, 1].max() < cut for points in board.objPoints)
+        board.setIds(np.roll(board.ids, in_cut))
+        picture = board.draw((self.cols * SQUARE_PX, (self.rows + cut) * SQUARE_PX), marginSize=0, borderBits=BORDER)
+        return picture[cut * SQUARE_PX:]
+
+    def drawing(self):
+        """The picture, held against the layout of documents 01 and 02 module by module."""
+        picture = self.drawn()
+        rim = round(SQUARE_PX * (1 - MARKER_REL) / 2)
+        module = (SQUARE_PX - 2 * rim) // self.side
+        next_id = 0
+        for j in range(self.rows):
+            for i in range(self.cols):
+                square = picture[j * SQUARE_PX:(j + 1) * SQUARE_PX, i * SQUARE_PX:(i + 1) * SQUARE_PX]
+                if (i + j) % 2 != self.parity:
+                    assert (square == 0).all(), f"square ({i}, {j}) should be plain"
+                    continue
+                seen = square[rim:-rim, rim:-rim][module // 2::module, module // 2::module]
+                assert (square[0] == 255).all(), f"square ({i}, {j}) should have a white rim"
+                assert (seen == self.marker(next_id)).all(), f"square ({i}, {j}) should hold marker {next_id}"
+                next_id += 1
+        return picture
+
+
+LANE = Board(5, 7, cv2.aruco.DICT_4X4_50, 50)
+OTHER = Board(5, 7, cv2.aruco.DICT_5X5_50, 50)
+WALL = Board(12, 9, cv2.aruco.DICT_6X6_100, 100)
+OLD = Board(7, 6, cv2.aruco.DICT_4X4_50, 50, legacy=True)
+
+
+def printed(board):
+    """The board on its sheet of paper, with one square of room around."""
+    greys = np.where(board.drawing() == 0, INK, PAPER)
+    sheet = cv2.copyMakeBorder(greys, *[SQUARE_PX // 2] * 4, cv2.BORDER_CONSTANT, value=PAPER)
+    return cv2.copyMakeBorder(sheet, *[SQUARE_PX // 2] * 4, cv2.BORDER_CONSTANT, value=ROOM)
+
+
+def tiles(board):
+    """A wall of white tiles in place of the board."""
+    wall = np.full(((board.rows + 2) * SQUARE_PX, (board.cols + 2) * SQUARE_PX), PAPER)
+    for k in range(0, max(wall.shape), SQUARE_PX):
+        wall[max(k - 2, 0):k + 2, :] = 150.0
+        wall[:, max(k - 2, 0):k + 2] = 150.0
+    return wall
