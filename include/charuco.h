@@ -29,7 +29,8 @@
  *   left, with an odd one it is as any other. Bit 4 of a record's map byte marks it, and so does a legacy_pattern that is not 0.
  *   Board corner (i, j) is the top left corner of square (i, j). It is an inner corner if 1 <= i < cols and 1 <= j < rows; then its id is
  *   (j - 1) * (cols - 1) + i - 1, on every board, and its target, the point on the printed board, is (i * cell_size, j * cell_size).
- *   A code of side `bits` has its bit y * bits + x in column x and row y. A set bit is black.
+ *   A code of side `bits` has its bit y * bits + x in column x and row y. A set bit is black. No two markers of a board may look alike, one as the
+ *   other after some number of quarter turns (22); codes past those of the markers may, and a code may look the same when turned.
  *
  * Grid points and cells
  *   Detected corners are labelled with grid points (u, v), whole numbers, u rightward and v downward, counted from any corner. The board may lie
@@ -145,7 +146,8 @@ enum {
                                                  finite, turn 0 to 3, tx and ty from -8,192 to 8,192? */
     CHARUCO_TOO_MANY_LINKS = 19,              /* at most 4,096 links? */
     CHARUCO_TOO_MANY_CELLS = 20,              /* at most 256 whole cells? */
-    CHARUCO_INVALID_RECORD = 21               /* at most 65,535 bytes, no field cut short, spare bits 0, and nothing after the last field? */
+    CHARUCO_INVALID_RECORD = 21,              /* at most 65,535 bytes, no field cut short, spare bits 0, and nothing after the last field? */
+    CHARUCO_CODES_ALIKE = 22                  /* are no two codes of markers equal after some number of quarter turns? asked after 8, before 9 */
 };
 
 /* Words in `values`. */
@@ -192,10 +194,10 @@ enum {
 #define CHARUCO_STACK_CODE 184
 #define CHARUCO_STACK_CELL 216
 #define CHARUCO_STACK_GRID 504
-#define CHARUCO_STACK_BUILD_MARKER_CELLS 30808
-#define CHARUCO_STACK_MATCH_BOARD 16184
-#define CHARUCO_STACK_MAP_CHARUCO_CORNERS 2232
-#define CHARUCO_STACK_VALIDATE_MARKER_CORNER_LINKS 32920
+#define CHARUCO_STACK_BUILD_MARKER_CELLS 22616
+#define CHARUCO_STACK_MATCH_BOARD 20520
+#define CHARUCO_STACK_MAP_CHARUCO_CORNERS 6728
+#define CHARUCO_STACK_VALIDATE_MARKER_CORNER_LINKS 37416
 
 /*
  * Reading a shot record. Each function asks question 21 alone. An entry, code or cell k past the last one is absent, and that is no refusal.
@@ -273,7 +275,7 @@ uint32_t charuco_build_marker_cells(const float *scores, size_t scores_len,
                                     uint32_t *values, size_t values_len);
 
 /*
- * Match: where the board lies under the cells of a shot record. Asks 21, 1 to 17.
+ * Match: where the board lies under the cells of a shot record. Asks 21, 1 to 8, 22, 9 to 17.
  * Every turn and translation that puts all cells on the board is a placement. Their order is by turn, then tx, then ty, rising.
  * A cell counts in a placement if it then lies on a square with a marker and its weight is above 0; an unsampled cell has weight 0. Its score
  * sums what the likelihood table gives for each bit of the marker's turned code, and its evidence is score + bits^2 * ln 2, in natural
@@ -331,7 +333,7 @@ enum charuco_marker_word {
 
 /*
  * The corner entry: which inner corner of the board each corner is, per id the one with the greatest score, the earlier on a tie. Corners
- * without a grid point and those that are no inner corner are passed over. Asks 1 to 8, 18, 14.
+ * without a grid point and those that are no inner corner are passed over. Asks 1 to 8, 22, 18, 14.
  * legacy_pattern: 0 is no mark, every other number marks a legacy board (see "The board"); corner ids are the same for both.
  * codes: the dictionary, code k of marker k. scores, grid: as in the cells entry. turn, tx, ty: the alignment of the corners, words 13 to 15 of
  * a match, not the best placement's, which is that of cells.
@@ -359,7 +361,7 @@ enum charuco_corner_word {
 
 /*
  * The link entry: do reported links of markers and corners agree with the board? A marker off the rim has the four corners of its square; one
- * on the rim has no four. Asks 1 to 8, 19, 14.
+ * on the rim has no four. Asks 1 to 8, 22, 19, 14.
  * links: two words for each, ids of marker and corner; an odd last word is no link. mode: 0 a marker may have fewer links than corners; any
  * other number: a marker with four corners that some link names must be linked with all four.
  * violations, lent: 12 words for each, 0 marker; 1 kind, of enum charuco_violation; 2 the reported corner, or 0; 3 to 6 the four corners that

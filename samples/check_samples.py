@@ -103,7 +103,7 @@ class Match:
         self.scores = {}
 
     def questions(self):
-        """1 to 13. The program's list has a place for each of 256 cells, so 14 is always yes."""
+        """1 to 13 and 22. The program's list has a place for each of 256 cells, so 14 is always yes."""
         s = self.shot
         ask(1, s.rows >= 2 and s.cols >= 2)
         ask(2, np.isfinite(s.cell_size) and s.cell_size > 0)
@@ -113,6 +113,9 @@ class Match:
         ask(6, s.rows <= 32 and s.cols <= 32 and s.border <= 4 and 1 <= s.bits <= 8 and len(s.codes) <= 1024)
         ask(7, len(s.codes) >= len(self.squares))
         ask(8, all(code < 1 << s.bits ** 2 for code in s.codes))
+        # document 02: after 8, before 9
+        used = [min(self.turned(code, turn) for turn in range(4)) for code in s.codes[:len(self.squares)]]
+        ask(22, len(set(used)) == len(used))
         ask(9, np.isfinite([s.minimum, s.border_threshold, s.px_per_square]).all())
         ask(10, all(-8 <= entry <= 0 for entry in s.table))
         ask(11, len(s.cells) > 0)

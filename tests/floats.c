@@ -116,11 +116,31 @@ static void put_cells(uint32_t rows, uint32_t cols, uint32_t bits, uint32_t bord
     }
 }
 
+static uint64_t turned(uint64_t code, uint32_t n)
+{
+    uint64_t out = 0;
+    for (uint32_t y = 0; y < n; y++)
+        for (uint32_t x = 0; x < n; x++)
+            out |= (code >> ((n - 1 - x) * n + y) & 1) << (y * n + x);
+    return out;
+}
+
+/* A code of side n that is alike to none of the codes before it. */
+static uint64_t new_code(const uint64_t *codes, uint32_t count, uint32_t n)
+{
+    uint64_t code = random64() >> (64 - n * n);
+    for (uint32_t k = 0; k < count; k++)
+        for (int turn = 0; turn < 4; turn++, code = turned(code, n))
+            if (code == codes[k])
+                return new_code(codes, count, n);
+    return code;
+}
+
 /* A board, its codes, and cells that show a part of it, more or less clearly. */
 static void make_record(void)
 {
     static uint64_t codes[CHARUCO_MAX_CODES];
-    uint32_t given = below(16) | 1, rows = 2 + below(6), cols = 2 + below(6), bits = 1 + below(5), border = 1 + below(2);
+    uint32_t given = below(16) | 1, rows = 2 + below(6), cols = 2 + below(6), bits = 3 + below(3), border = 1 + below(2);
     uint32_t n_codes = rows * cols / 2 + below(3);
     record_length = 0;
     put(given, 1);
@@ -139,7 +159,7 @@ static void make_record(void)
     put(fraction_bits(), 4);
     put(n_codes, 2);
     for (uint32_t k = 0; k < n_codes; k++) {
-        codes[k] = random64() >> (64 - bits * bits);
+        codes[k] = new_code(codes, k, bits);
         put(codes[k], 8);
     }
     put_cells(rows, cols, bits, border, codes);

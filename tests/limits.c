@@ -1,7 +1,7 @@
 /*
  * What the header says of sizes, tried at both sides of each limit: the most codes and cells that a whole record holds, and the most corners
  * that a board has. What it says of lists of corners: which words question 18 looks at, and which corner an id gets. And what it says of the
- * mark of a legacy board and of two cells with the same (u, v).
+ * mark of a legacy board, of codes that are alike and of two cells with the same (u, v).
  */
 #include <stdio.h>
 #include <stdlib.h>
@@ -21,6 +21,13 @@ static void check(int holds, const char *what)
         printf("limits: %s\n", what);
         exit(1);
     }
+}
+
+/* Codes of side 8 that look random, so that no two of them are alike. */
+static void make_codes(void)
+{
+    for (uint64_t k = 0; k < CHARUCO_MAX_CODES; k++)
+        codes[k] = (k + 1) * 0x9E3779B97F4A7C15u;
 }
 
 static void put_u16(size_t at, size_t x)
@@ -94,6 +101,24 @@ static uint32_t violations_with(uint32_t legacy_pattern)
     return count;
 }
 
+/* Markers 0 and 1 of a board of 2 by 2 with these codes, and one code more. */
+static uint32_t board_with(uint64_t first, uint64_t second, uint64_t past)
+{
+    const uint64_t of_board[3] = {first, second, past};
+    uint32_t count;
+    return charuco_map_charuco_corners(2, 2, 8, 1, 0, 1.0f, 0.5f, of_board, 3, scores, 0, grid, 0, 0, 0, 0, corners, CHARUCO_CORNER_WORDS, &count, 1);
+}
+
+/* Bits 0, 7, 63 and 56 are the corners of a code, in the order of its turns. */
+static void check_codes_alike(void)
+{
+    const uint64_t corner[4] = {1, 1ull << 7, 1ull << 63, 1ull << 56};
+    for (int turn = 0; turn < 4; turn++)
+        check(board_with(1, corner[turn], 0) == CHARUCO_CODES_ALIKE, "a turned code passes");
+    check(board_with(1, 2, 1) == CHARUCO_OK && board_with(1, 2, 2) == CHARUCO_OK, "a code past those of the markers is judged");
+    check(board_with(0, UINT64_MAX, 0) == CHARUCO_OK, "a code that looks the same when turned is refused");
+}
+
 static void check_mark(void)
 {
     check(violations_with(0) == 1, "a legacy pattern of 0 marks the board");
@@ -120,6 +145,7 @@ static void check_same_cells(void)
 int main(void)
 {
     uint32_t words[CHARUCO_HEADER_WORDS], count = 0;
+    make_codes();
     check(read_counts(CHARUCO_MAX_RECORD_CODES, 0, words) == 0 && words[CHARUCO_HEADER_CODES] == CHARUCO_MAX_RECORD_CODES, "the most codes are not read");
     check(read_counts(CHARUCO_MAX_RECORD_CODES + 1, 0, words) == CHARUCO_INVALID_RECORD, "a record holds more codes");
     check(read_counts(0, CHARUCO_MAX_RECORD_CELLS, words) == 0 && words[CHARUCO_HEADER_CELLS] == CHARUCO_MAX_RECORD_CELLS, "the most cells are not read");
@@ -127,6 +153,7 @@ int main(void)
     check(map_corners(CHARUCO_MAX_BOARD_CORNERS * CHARUCO_CORNER_WORDS - 1, &count) == CHARUCO_LIST_TOO_SHORT, "fewer words are enough");
     check(map_corners(CHARUCO_MAX_BOARD_CORNERS * CHARUCO_CORNER_WORDS, &count) == 0 && count == CHARUCO_MAX_BOARD_CORNERS, "a corner is missing");
     check_corner_lists();
+    check_codes_alike();
     check_mark();
     check_same_cells();
     printf("limits: %d codes, %d cells, %d corners\n", CHARUCO_MAX_RECORD_CODES, CHARUCO_MAX_RECORD_CELLS, CHARUCO_MAX_BOARD_CORNERS);

@@ -34,6 +34,7 @@ pub enum Refusal {
     TooManyLinks,
     TooManyCells,
     InvalidRecord,
+    CodesAlike,
     /// A number that this crate has no name for: the library is a later one.
     Unknown(u32),
 }
@@ -70,6 +71,7 @@ impl Refusal {
             19 => Self::TooManyLinks,
             20 => Self::TooManyCells,
             21 => Self::InvalidRecord,
+            22 => Self::CodesAlike,
             _ => Self::Unknown(number),
         }
     }
@@ -97,13 +99,14 @@ impl Refusal {
             Self::TooManyLinks => 19,
             Self::TooManyCells => 20,
             Self::InvalidRecord => 21,
+            Self::CodesAlike => 22,
             Self::Unknown(number) => *number,
         }
     }
 }
 
 /// What was answered with no: the sentence of refusal n stands at place n - 1. They are those of bin/refusals.tsv.
-const SENTENCES: [&str; 21] = [
+const SENTENCES: [&str; 22] = [
     "the board has fewer than 2 rows or fewer than 2 columns",
     "cell_size is not finite or is not above 0",
     "marker_size_rel is not finite, is not above 0, or is above 1",
@@ -125,6 +128,7 @@ const SENTENCES: [&str; 21] = [
     "there are more than 4,096 links",
     "there are more than 256 whole cells",
     "the record is above 65,535 bytes, a field is cut short, a spare bit is set, or bytes follow the last field",
+    "two codes that markers use are equal after some number of quarter turns",
 ];
 
 impl Display for Refusal {
@@ -158,7 +162,7 @@ mod tests {
 
     #[test]
     fn numbers_are_those_of_the_names() {
-        for number in 1..=21 {
+        for number in 1..=22 {
             let refusal = Refusal::new(number, [5, 3]);
             assert_eq!(refusal.number(), number);
             assert!(!matches!(refusal, Refusal::Unknown(_)));
@@ -167,7 +171,7 @@ mod tests {
 
     #[test]
     fn other_numbers_are_told() {
-        for number in [0, 22, u32::MAX] {
+        for number in [0, 23, u32::MAX] {
             assert_eq!(Refusal::new(number, [0; 2]), Refusal::Unknown(number));
             assert!(
                 Refusal::Unknown(number)
@@ -207,6 +211,6 @@ mod tests {
             assert_eq!(refusal.to_string(), format!("refused {number}: {sentence}"));
             next += 1;
         }
-        assert_eq!(next, 22);
+        assert_eq!(next, 23);
     }
 }

@@ -34,7 +34,7 @@ const BOARD: BoardSpec = BoardSpec {
     marker_size_rel: 0.75,
 };
 
-const CODES: [u64; 10] = [1, 2, 3, 4, 5, 6, 7, 8, 9, 10];
+const CODES: [u64; 10] = [1, 2, 3, 4, 5, 6, 7, 9, 10, 11];
 
 #[test]
 fn example_is_placed() {

@@ -12,7 +12,8 @@ const BOARD: BoardSpec = BoardSpec {
     marker_size_rel: 0.75,
 };
 
-const CODES: [u64; 10] = [1, 2, 3, 4, 5, 6, 7, 8, 9, 10];
+/// No two are alike: 8 would be 1 turned.
+const CODES: [u64; 10] = [1, 2, 3, 4, 5, 6, 7, 9, 10, 11];
 
 /// The four corners that are expected of a marker, by a link to a corner that no board has.
 fn expected(spec: &BoardSpec, marker: u32) -> Option<[u32; 4]> {
@@ -48,6 +49,28 @@ fn odd_rows_are_as_before() {
     for marker in 0..8 {
         assert_eq!(expected(&board, marker), expected(&current, marker));
     }
+}
+
+/// 2.2: two codes that markers use are equal after some number of quarter turns. Codes past the last marker may repeat, and a
+/// code may look the same when turned.
+#[test]
+fn markers_look_alike() {
+    let board = BoardSpec {
+        rows: 2,
+        cols: 2,
+        bits: 2,
+        ..BOARD
+    };
+    let check = |codes: &[u64]| {
+        validate_marker_corner_links(&board, codes, &[], LinkCheckMode::SubsetOk)
+            .map(|found| found.len())
+    };
+    for alike in [1, 2, 4, 8] {
+        assert_eq!(check(&[1, alike, 15]), Err(charuco::Refusal::CodesAlike));
+    }
+    assert_eq!(check(&[1, 3, 1, 3, 12]), Ok(0));
+    assert_eq!(check(&[0, 15]), Ok(0));
+    assert_eq!(check(&[16, 16]), Err(charuco::Refusal::CodeOutOfRange));
 }
 
 /// Bit 4 of the map byte is the mark, and adds no field; bits 5 to 7 are spare.

@@ -65,11 +65,17 @@ type Answers = (Vec<u32>, Vec<u32>);
 
 impl Question {
     fn new(record: Vec<u8>) -> Self {
+        let header = charuco::read_header(&record).expect("a whole record");
+        let mut codes = [0; 1024];
+        for (k, code) in codes.iter_mut().enumerate().take(header.codes) {
+            *code = charuco::code(&record, k)
+                .expect("a whole record")
+                .expect("a code");
+        }
         Self {
-            spec: charuco::read_header(&record).expect("a whole record").spec,
+            spec: header.spec,
             record,
-            // Every code that a board asks for is there; which they are makes no difference to corners.
-            codes: [0; 1024],
+            codes,
             markers: [0; 256 * 18],
             corners: [0; 961 * 6],
             numbers: [0; 2],

@@ -1,16 +1,20 @@
 -- What the board's questions tell of a specification and its codes, and how an entry's own questions follow them. Assumes nothing.
-use mathlib.Core.Path.{_≡_, refl, sym, ap, _∙_}
+use mathlib.Core.Path.{_≡_, refl, sym, ap, ap₂, _∙_}
 use mathlib.Core.Bool.{Bool, true, false, cond, _&&_}
 use mathlib.Core.List.{List, [], _∷_}
 use mathlib.Core.Option.{Option, none, some}
 use Prim.Native.Nat.{ℕ, zero, suc, _+_, _*_, _^_, _≤_, _<_}
-use native.Mathlib.Nat.{le-of-suc-le-suc}
+use native.Mathlib.Nat.{le-of-suc-le-suc, mul-le-mul}
 use native.Mathlib.Numerals.{add-one}
 use native.Mathlib.Omega.{arith}
 use lib.Dec.{leb, ltb, ltb→lt}
 use lib.ListN.{length, getD, drop}
 use lib.Seq.{drop-cons}
-use borrow.Author.Tests.{leb-true}
+use borrow.Author.Tests.{leb-true, le-leb, not-true}
+use Rattle.alike.specs.Alike.{twoAlike}
+use Rattle.alike.specs.Quarters.{lesser}
+use Rattle.alike.proofs.Laws.{names-one}
+use Rattle.matcher.specs.Codes.{turned}
 use Rattle.refusal.specs.declared.Refusal.{Refusal}
 use Rattle.refusal.specs.declared.Refusal.the-variants as refusal
 use Rattle.refusal.specs.Questions.{ask}
@@ -19,8 +23,9 @@ use Rattle.board.specs.declared.CharucoBoardSpec.{CharucoBoardSpec}
 use Rattle.board.specs.declared.Board.{Board}
 use Rattle.board.specs.declared.NewBoard.the-variants as new
 use Rattle.board.specs.Layout.{markerTotal}
-use Rattle.board.specs.Questions.{sizeAnswer, cellSizeAnswer, markerSizeAnswer, rangeAnswer, codeInRange, codesAnswer}
-use Rattle.board.specs.Questions.{boardOf, askedOfSize, askedOfBoard, madeUnless, sizedBoard, newBoard}
+use Rattle.board.specs.Questions.{sizeAnswer, cellSizeAnswer, markerSizeAnswer, rangeAnswer, codeInRange, codesAnswer, apartAnswer}
+use Rattle.board.proofs.Laws.{same-count}
+use Rattle.board.specs.Questions.{boardOf, askedOfSize, askedOfBoard, madeUnless, sizedBoard, judgedBy, newBoard}
 
 -- ---- the list of questions
 size-goes-on : (s : CharucoBoardSpec) (count : ℕ) → GoesOn (askedOfSize s count)
@@ -37,7 +42,8 @@ size-goes-on s count =
 pub board-goes-on : (s : CharucoBoardSpec) (codes : List ℕ) → GoesOn (askedOfBoard s codes)
 unfolding askedOfBoard
 board-goes-on s codes =
-    followed-by (askedOfSize s (length codes)) _ (size-goes-on s (length codes)) (ask-last (codesAnswer (s .bits) codes) refusal.CodeOutOfRange)
+    followed-by (askedOfSize s (length codes)) _ (size-goes-on s (length codes))
+    (ask-first (codesAnswer (s .bits) codes) _ _ (ask-last (apartAnswer (boardOf s) codes) refusal.CodesAlike))
 
 -- a board was made or refused
 pub made-if : (o : Option Refusal) (s : CharucoBoardSpec) (b : Board) → madeUnless o s ≡ new.Made b → (o ≡ none) × (b ≡ boardOf s)
@@ -120,7 +126,17 @@ sized-bits s count b e =
     let r = sized s count none (m .0) .0 .in-range in
     rw (m .1) (r .some-bits, r .bits)
 
--- ---- question 8
+-- and its markers: question 22 takes 512 at most
+pub sized-few : (s : CharucoBoardSpec) (count : ℕ) (b : Board) → sizedBoard s count ≡ new.Made b → markerTotal b ≤ 512
+sized-few s count b e =
+    let m = made-if (askedOfSize s count none) s b e in
+    let r = sized s count none (m .0) .0 .in-range in
+    rw (m .1) (omega (arith, same-count (boardOf s), mul-le-mul {n₂ = 32} {m₂ = 32} (r .rows) (r .cols)))
+
+pub sized-count : (s : CharucoBoardSpec) (count : ℕ) (b : Board) → sizedBoard s count ≡ new.Made b → lesser (markerTotal b) 512 ≡ markerTotal b
+sized-count s count b e = ap (λ (t : Bool). cond t (markerTotal b) 512) (le-leb (markerTotal b) 512 (sized-few s count b e))
+
+-- ---- questions 8 and 22
 pub codes-step : (bits : ℕ) (codes : List ℕ) (k : ℕ) (c : Bool) → k < length codes → codeInRange bits (getD codes k 0) ≡ c
     → codesAnswer bits (drop k codes) ≡ (c && codesAnswer bits (drop (k + 1) codes))
 codes-step bits codes k c l e = rw (drop-cons codes k 0 l, add-one, e)
@@ -132,20 +148,21 @@ codes-below bits (c ∷ cs) e (suc k) h = codes-below bits cs (both (codeInRange
 
 -- asked of a board that passed 1 to 7, or not any more
 module _ (s : CharucoBoardSpec) (codes : List ℕ) where
-  pub then-codes : (b : Board) (answer told : Bool) → new.Made b ≡ sizedBoard s (length codes) → answer ≡ told → answer ≡ codesAnswer (b .bits) codes
-      → cond told (new.Made b) (new.Refused refusal.CodeOutOfRange) ≡ newBoard s codes
+  pub then-codes : (b : Board) (below apart : Bool) → new.Made b ≡ sizedBoard s (length codes) → below ≡ codesAnswer (b .bits) codes
+      → apart ≡ apartAnswer b codes → judgedBy below apart b ≡ newBoard s codes
   unfolding askedOfBoard
-  then-codes b answer told e t a =
+  then-codes b below apart e p q =
       let m = made-if (askedOfSize s (length codes) none) s b (sym e) in
-      go told
+      go below apart
       (rest-asked (askedOfSize s (length codes)) (size-goes-on s (length codes)) _ (m .0)
-      ∙ ap (λ (q : Bool). ask q refusal.CodeOutOfRange none) (sym (sym t ∙ a ∙ ap (λ (x : Board). codesAnswer (x .bits) codes) (m .1))))
+      ∙ ap₂ (λ (x y : Bool). ask x refusal.CodeOutOfRange (ask y refusal.CodesAlike none))
+      (sym (p ∙ ap (λ (x : Board). codesAnswer (x .bits) codes) (m .1))) (sym (q ∙ ap (λ (x : Board). apartAnswer x codes) (m .1))))
       (m .1)
     where
-      go : (q : Bool) → askedOfBoard s codes none ≡ ask q refusal.CodeOutOfRange none → b ≡ boardOf s
-          → cond q (new.Made b) (new.Refused refusal.CodeOutOfRange) ≡ newBoard s codes
-      go true f is = ap new.Made is ∙ sym (ap (λ (o : Option Refusal). madeUnless o s) f)
-      go false f is = sym (ap (λ (o : Option Refusal). madeUnless o s) f)
+      go : (x y : Bool) → askedOfBoard s codes none ≡ ask x refusal.CodeOutOfRange (ask y refusal.CodesAlike none) → b ≡ boardOf s → judgedBy x y b ≡ newBoard s codes
+      go true true f is = ap new.Made is ∙ sym (ap (λ (o : Option Refusal). madeUnless o s) f)
+      go true false f is = sym (ap (λ (o : Option Refusal). madeUnless o s) f)
+      go false y f is = sym (ap (λ (o : Option Refusal). madeUnless o s) f)
 
   pub sized-refused : (r : Refusal) → new.Refused r ≡ sizedBoard s (length codes) → new.Refused r ≡ newBoard s codes
   unfolding askedOfBoard
@@ -154,18 +171,27 @@ module _ (s : CharucoBoardSpec) (codes : List ℕ) where
       (ap (λ (o : Option Refusal). madeUnless o s)
       (refusal-stands (askedOfSize s (length codes)) (size-goes-on s (length codes)) _ r (refused-if (askedOfSize s (length codes) none) s r (sym e))))
 
--- ---- all eight
+-- ---- all of them
 pub record Asked (s : CharucoBoardSpec) (codes : List ℕ) : Type 0 where
   pub sized : Sized s (length codes)
   pub below : (k : ℕ) → k < length codes → getD codes k 0 < 2 ^ (s .bits * s .bits)
+  pub apart : twoAlike (s .bits) codes (markerTotal (boardOf s)) ≡ false
 
 pub asked : (s : CharucoBoardSpec) (codes : List ℕ) (rest : Option Refusal) → askedOfBoard s codes rest ≡ none → Asked s codes × (rest ≡ none)
 unfolding askedOfBoard
 asked s codes rest e =
     let q7 = sized s (length codes) _ e in
     let q8 = answered _ _ _ (q7 .1) in
-    (record { sized = q7 .0; below = codes-below (s .bits) codes (q8 .0) }, q8 .1)
+    let q22 = answered (apartAnswer (boardOf s) codes) _ _ (q8 .1) in
+    (record { sized = q7 .0; below = codes-below (s .bits) codes (q8 .0); apart = not-true _ (q22 .0) }, q22 .1)
 
 -- of a board that was made
 pub made : (s : CharucoBoardSpec) (codes : List ℕ) (b : Board) → newBoard s codes ≡ new.Made b → Asked s codes × (b ≡ boardOf s)
 made s codes b e = let m = made-if (askedOfBoard s codes none) s b e in (asked s codes none (m .0) .0, m .1)
+
+-- why a user wants question 22: on a board that was made, a code that is read exactly names at most one marker, whatever the turn
+pub reads-one : (s : CharucoBoardSpec) (codes : List ℕ) (b : Board) → newBoard s codes ≡ new.Made b → (read m n r t : ℕ) → m < markerTotal b → n < markerTotal b
+    → turned (b .bits) r (getD codes m 0) ≡ read → turned (b .bits) t (getD codes n 0) ≡ read → m ≡ n
+reads-one s codes b e read m n r t hm hn x y =
+    let p = made s codes b e in
+    names-one (b .bits) codes (markerTotal b) (ap (λ (q : Board). twoAlike (q .bits) codes (markerTotal q)) (p .1) ∙ p .0 .apart) read m n r t hm hn x y

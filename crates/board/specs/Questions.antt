@@ -1,6 +1,6 @@
--- Document 01, "The questions asked": the board's questions, 1 to 8 in order. The first no ends them with its refusal.
+-- Document 01, "The questions asked": the board's questions, 1 to 8 in order, and 22 of document 02 behind them. The first no ends them with its refusal.
 use Prim.Native.Nat.{ℕ, _*_, _^_}
-use mathlib.Core.Bool.{Bool, true, false, _&&_}
+use mathlib.Core.Bool.{Bool, true, false, not, _&&_}
 use mathlib.Core.List.{List, [], _∷_}
 use mathlib.Core.Option.{Option, none, some}
 use lib.Dec.{leb, ltb}
@@ -10,6 +10,7 @@ use lib.Ieee.Scale.{finite}
 use Rattle.refusal.specs.declared.Refusal.{Refusal}
 use Rattle.refusal.specs.declared.Refusal.the-variants as refusal
 use Rattle.refusal.specs.Questions.{ask}
+use Rattle.alike.specs.Alike.{twoAlike}
 use Rattle.board.specs.declared.CharucoBoardSpec.{CharucoBoardSpec}
 use Rattle.board.specs.declared.Board.{Board}
 use Rattle.board.specs.declared.NewBoard.{NewBoard}
@@ -54,6 +55,11 @@ boardOf s =
       «marker_size_rel» = s .«marker_size_rel»;
     }
 
+-- 22 (document 02, 2.2): "among the codes its markers use, two of different ids are equal after some number of quarter turns"? Markers use the codes
+-- of the ids below their count.
+abbrev pub apartAnswer : Board → List ℕ → Bool
+apartAnswer b codes = not (twoAlike (b .bits) codes (markerTotal b))
+
 -- questions 1 to 7, which ask of the codes only how many there are, then the rest
 unfoldable pub askedOfSize : CharucoBoardSpec → ℕ → Option Refusal → Option Refusal
 askedOfSize s count rest =
@@ -66,12 +72,13 @@ askedOfSize s count rest =
     (ask (leb (markerTotal (boardOf s)) count) (refusal.NotEnoughDictionaryCodes (markerTotal (boardOf s)) count)
     rest))))))
 
--- questions 1 to 8, then the rest: an entry's own questions
+-- questions 1 to 8 and 22, then the rest: an entry's own questions
 unfoldable pub askedOfBoard : CharucoBoardSpec → List ℕ → Option Refusal → Option Refusal
 askedOfBoard s codes rest =
     askedOfSize s (length codes)
     (ask (codesAnswer (s .bits) codes) refusal.CodeOutOfRange
-    rest)
+    (ask (apartAnswer (boardOf s) codes) refusal.CodesAlike
+    rest))
 
 -- the board, unless a question refuses it
 abbrev pub madeUnless : Option Refusal → CharucoBoardSpec → NewBoard
@@ -80,6 +87,12 @@ madeUnless (some refused) s = new.Refused refused
 
 abbrev pub sizedBoard : CharucoBoardSpec → ℕ → NewBoard
 sizedBoard s count = madeUnless (askedOfSize s count none) s
+
+-- a board that passed 1 to 7, by the answers to 8 and 22
+abbrev pub judgedBy : Bool → Bool → Board → NewBoard
+judgedBy false apart b = new.Refused refusal.CodeOutOfRange
+judgedBy true false b = new.Refused refusal.CodesAlike
+judgedBy true true b = new.Made b
 
 abbrev pub newBoard : CharucoBoardSpec → List ℕ → NewBoard
 newBoard s codes = madeUnless (askedOfBoard s codes none) s

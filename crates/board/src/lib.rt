@@ -1,5 +1,5 @@
-// The ChArUco board (board.rs): the questions 1 to 8, and the layout as formulas on a board value.
-// Uses `refusal` and `floats`.
+// The ChArUco board (board.rs): the questions 1 to 8 and 22, and the layout as formulas on a board value.
+// Uses `refusal`, `floats` and `alike`, and for its definitions `matcher`.
 ghost use mathlib.Core.Path.{_≡_};
 ghost use Rattle.board.specs.Layout.{parityOf, holdsMarker, markerTotal, markerOn, markerSquare, surroundingCorners};
 ghost use Rattle.board.specs.Layout.{cornerCount, cornerAt, cornerPlace, objectPoint};
@@ -105,10 +105,7 @@ impl Board {
         let sized = Board::sized(spec, codes.len());
         match sized {
             NewBoard::Made(board) => {
-                if !questions::codes(board.bits, codes) {
-                    return NewBoard::Refused(Refusal::CodeOutOfRange);
-                }
-                NewBoard::Made(board)
+                questions::judged(board, questions::codes(board.bits, codes), codes)
             }
             NewBoard::Refused(refusal) => NewBoard::Refused(refusal),
         }

@@ -1,9 +1,15 @@
-// The answers to the questions 1 to 8 of document 01 that are more than one comparison, and the board that passed them.
+// The answers to the questions 1 to 8 of document 01 and 22 of document 02 that are more than one comparison, and the board that passed them.
 ghost use mathlib.Core.Path.{_≡_};
 ghost use Prim.Native.Nat.{_≤_};
-ghost use Rattle.board.specs.Questions.{sizeAnswer, cellSizeAnswer, markerSizeAnswer, rangeAnswer, codeInRange, codesAnswer, boardOf};
+ghost use Rattle.board.specs.Questions.{sizeAnswer, cellSizeAnswer, markerSizeAnswer, rangeAnswer, codeInRange, codesAnswer, boardOf, judgedBy};
+ghost use mathlib.Core.Bool.{not};
+ghost use Rattle.alike.specs.Alike.{twoAlike};
+ghost use Rattle.alike.specs.Quarters.{lesser};
+ghost use Rattle.board.specs.Layout.{markerTotal};
 use super::Board;
 use super::CharucoBoardSpec;
+use super::NewBoard;
+use refusal::Refusal;
 
 pub fn size(rows: u32, cols: u32) -> bool
     ensures { λ r. ⌜ r ≡ sizeAnswer rows cols ⌝ }
@@ -66,6 +72,21 @@ pub fn codes(bits: u8, codes: &[u64]) -> bool
         k += 1;
     }
     true
+}
+
+// The questions 8 and 22 of a board that passed those before: the answer to 8 is given, and 22 is asked of the codes, of which those that markers use
+// stand first.
+pub fn judged(board: Board, in_range: bool, codes: &[u64]) -> NewBoard
+    requires { ⌜ (1 ≤ board .bits) × (board .bits ≤ 8) ⌝ }
+    ensures { λ r. ⌜ r ≡ judgedBy «in_range» (not (twoAlike (board .bits) (now (codes .entry)) (lesser (markerTotal board) 512))) board ⌝ }
+{
+    if !in_range {
+        return NewBoard::Refused(Refusal::CodeOutOfRange);
+    }
+    if !alike::none_alike(board.bits, codes, board.marker_count() as usize) {
+        return NewBoard::Refused(Refusal::CodesAlike);
+    }
+    NewBoard::Made(board)
 }
 
 pub fn board_of(spec: CharucoBoardSpec) -> Board

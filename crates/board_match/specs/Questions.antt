@@ -1,4 +1,4 @@
--- Document 01, "The questions asked": what Match asks of a shot before it searches, 1 to 14 in order.
+-- Document 01, "The questions asked": what Match asks of a shot before it searches, 1 to 14 in order, with document 02's 22 behind 8.
 use Prim.Native.Nat.{ℕ, zero, suc, _*_}
 use mathlib.Core.Bool.{Bool, true, _&&_}
 use mathlib.Core.List.{List, map}
@@ -74,7 +74,7 @@ askedFrom9 s words rest =
     (ask (roomAnswer s words) refusal.ListTooShort
     rest)))))
 
--- questions 1 to 14, then the rest: the board's come first
+-- questions 1 to 14 and 22, then the rest: the board's come first
 abbrev pub askedOfShot : Shot → ℕ → Option Refusal → Option Refusal
 askedOfShot s words rest = askedOfBoard (specOf s) (s .codes) (askedFrom9 s words rest)
 

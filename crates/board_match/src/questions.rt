@@ -1,4 +1,4 @@
-// What Match asks of a record that question 21 let pass (document 01): the questions 1 to 14, before it searches, and 16.
+// What Match asks of a record that question 21 let pass (document 01): the questions 1 to 14 and 22, before it searches, and 16.
 ghost use mathlib.Core.Path.{_≡_};
 ghost use mathlib.Core.Bool.{_&&_};
 ghost use mathlib.Core.List.{map};
@@ -16,6 +16,7 @@ ghost use Rattle.board_match.specs.Entries.{placedIn, borderAnswer, samp
 ghost use Rattle.board_match.specs.Match.{marginPasses};
 use board::Board;
 use board::NewBoard;
+use board::questions as board_questions;
 use refusal::Refusal;
 use score_matrix::BoardMatchConfig;
 use score_matrix::BorderSample;
@@ -30,7 +31,7 @@ pub enum Answer {
     Refused(Refusal),
 }
 
-// The questions 1 to 8: the board that the record asks for, by its first 512 codes, which the markers use.
+// The questions 1 to 8 and 22: the board that the record asks for, by its first 512 codes, of which the markers use some.
 pub fn board(bytes: &[u8], f: Fields, codes: &[u64; 512]) -> NewBoard
     requires { ⌜ (f ≡ fieldsOf (now bytes)) × (now codes ≡ firstCodes (shot (now bytes))) ⌝ }
     ensures { λ r. ⌜ r ≡ newBoard (specOf (shot (now (bytes .entry)))) (shot (now (bytes .entry)) .codes) ⌝ }
@@ -38,10 +39,8 @@ pub fn board(bytes: &[u8], f: Fields, codes: &[u64; 512]) -> NewBoard
     let sized = Board::sized(fields::spec(bytes, f), f.code_count);
     match sized {
         NewBoard::Made(board) => {
-            if !bulk::codes_below(bytes, f, codes, board.bits) {
-                return NewBoard::Refused(Refusal::CodeOutOfRange);
-            }
-            NewBoard::Made(board)
+            let in_range = bulk::codes_below(bytes, f, codes, board.bits);
+            board_questions::judged(board, in_range, codes)
         }
         NewBoard::Refused(refusal) => NewBoard::Refused(refusal),
     }

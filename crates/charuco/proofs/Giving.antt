@@ -33,6 +33,7 @@ values-are refusal.CornersOutOfRange = refl
 values-are refusal.TooManyLinks = refl
 values-are refusal.TooManyCells = refl
 values-are refusal.InvalidRecord = refl
+values-are refusal.CodesAlike = refl
 
 -- at most two
 pub few : (n : ℕ) → valueCount n ≤ 2

@@ -2,7 +2,7 @@ pub mod Tests
 pub mod Placing
 pub mod Keyed
 pub mod Holders
-pub mod Ordered
+pub mod InlierWords
 pub mod Searched
 pub mod Passing
 pub mod Answered

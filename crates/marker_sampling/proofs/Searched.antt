@@ -8,8 +8,9 @@ use native.Mathlib.Omega.{arith}
 use lib.ListN.{length, getD}
 use borrow.Author.Tests.{eq-eqb, ne-eqb}
 use Rattle.marker_sampling.specs.Cells.{Corners, holder, stands}
-use Rattle.marker_sampling.specs.Keys.{keySide, rangePoint, Rising, MapOf, LowerBound, FirstBelow, Bounded, Searchable, Next}
+use Rattle.marker_sampling.specs.Keys.{keySide, rangePoint, MapOf, LowerBound, FirstBelow, Bounded, Searchable, Next}
 use Rattle.integers.proofs.Distances.{lt-or-le}
+use Rattle.sorting.specs.Order.{Rising}
 use Rattle.marker_sampling.proofs.Holders.{nobody, last-holds}
 
 -- ---- where a search can start

@@ -9,6 +9,7 @@ use lib.ListN.{length, getD}
 use lib.IntN.{ℤ, pos, negsuc, _-ℤ_}
 use lib.Signed.{leZ}
 use Rattle.lent_list.specs.Front.{inFront, upTo, Put}
+use Rattle.sorting.specs.Order.{Rising}
 use Rattle.grid_alignment.specs.declared.Coord.{Coord}
 use Rattle.grid_alignment.specs.Alignment.{point, corner}
 use Rattle.marker_sampling.specs.Cells.{Corners, stands, holder, wholeAt, wordsOfCells}
@@ -34,9 +35,6 @@ pub record HasWord (m : ℕ) (c : Corners) (inliers : List ℕ) (i word : ℕ) :
   pub key : HasKey m c (getD inliers i 0) (word / 1024)
   pub place : word % 1024 ≡ i
 
-abbrev pub Rising : List ℕ → ℕ → Type 0
-Rising map n = (p q : ℕ) → p ≤ q → q < n → getD map p 0 ≤ getD map q 0
-
 -- the map of the first n inliers: their words, in rising order
 pub record MapOf (m : ℕ) (c : Corners) (inliers : List ℕ) (n : ℕ) (map : List ℕ) : Type 0 where
   pub rising : Rising map n
@@ -53,29 +51,6 @@ pub record LowerBound (map : List ℕ) (n x r : ℕ) : Type 0 where
 pub record FirstBelow (map : List ℕ) (n x p : ℕ) : Type 0 where
   pub inside : p ≤ n
   pub below : (k : ℕ) → k < p → getD map k 0 < x
-
--- the first n words before and after are the same ones
-pub record SameWords (n : ℕ) (before after : List ℕ) : Type 0 where
-  pub has : (i : ℕ) → i < n → (j : ℕ) × (j < n) × (getD after j 0 ≡ getD before i 0)
-  pub from : (j : ℕ) → j < n → (i : ℕ) × (i < n) × (getD after j 0 ≡ getD before i 0)
-
--- the word at i was moved down by gaps
-pub record Sifted (i gap : ℕ) (before after : List ℕ) : Type 0 where
-  pub long : length after ≡ length before
-  pub same : (n : ℕ) → i < n → SameWords n before after
-  pub rising : gap ≡ 1 → Rising before i → Rising after (i + 1)
-
--- each of the first n words was moved down by gaps
-pub record Swept (n gap : ℕ) (before after : List ℕ) : Type 0 where
-  pub long : length after ≡ length before
-  pub same : SameWords n before after
-  pub rising : gap ≡ 1 → Rising after n
-
--- the first n words were put in rising order
-pub record Sorted (n : ℕ) (before after : List ℕ) : Type 0 where
-  pub long : length after ≡ length before
-  pub same : SameWords n before after
-  pub rising : Rising after n
 
 -- the first n words are those of the first n inliers, in the order of the list
 abbrev pub Filled : ℕ → Corners → List ℕ → ℕ → List ℕ → Type 0

@@ -9,10 +9,10 @@ ghost use lib.IntN.{pos, _-ℤ_};
 ghost use Rattle.marker_sampling.specs.Cells.{Corners, holder, cornersOf};
 ghost use Rattle.integers.specs.Distance.{isWithin};
 ghost use Rattle.marker_sampling.specs.Entry.{allPlaced};
-ghost use Rattle.marker_sampling.specs.Keys.{HasKey, MapOf, Rising, Bounded, LowerBound, FirstBelow, Filled, Searchable, Next, rangePoint};
+ghost use Rattle.marker_sampling.specs.Keys.{HasKey, MapOf, Bounded, LowerBound, FirstBelow, Filled, Searchable, Next, rangePoint};
 ghost use Rattle.marker_sampling.specs.Keys.{indexOrMinusOne};
+ghost use Rattle.sorting.specs.Order.{Rising};
 use super::questions;
-use super::sort;
 
 // Past every grid point: 8,193 × 8,193.
 pub const PAST: u64 = 67_125_249;
@@ -65,7 +65,7 @@ pub fn build_corner_map(count: usize, grid: &[i32], inliers: &[usize]) -> [u64; 
     ensures { λ r. ⌜ MapOf 4096 (cornersOf count (now (grid .entry))) (now (inliers .entry)) (length (now (inliers .entry))) r ⌝ }
 {
     let mut map = words(count, grid, inliers);
-    sort::sort(&mut map, inliers.len());
+    sorting::sort(&mut map, inliers.len());
     map
 }
 

@@ -1,11 +1,10 @@
 // The cells entry (marker_sampling.rs, corner_map.rs): which cells are whole, from labelled corners. Uses `refusal`, `floats`,
-// `grid_alignment`, `lent_list` and, for the laws of whole numbers, `integers`.
+// `grid_alignment`, `lent_list`, `sorting` and, for the laws of whole numbers, `integers`.
 ghost use mathlib.Core.Path.{_≡_};
 ghost use Rattle.marker_sampling.specs.Entry.{cornersAnswer, markerCells, markerCellsList};
 
 mod corner_map;
 pub mod questions;
-mod sort;
 mod walk;
 
 use refusal::Refusal;

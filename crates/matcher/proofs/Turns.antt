@@ -68,7 +68,7 @@ step n r p h =
     ∙ each-turn (λ m. source n (suc m) p ≡ source n 1 (source n m p)) refl refl (same refl (omega (arith, h .column))) (same refl (omega (arith, h .row))) r
     ∙ ap (source n 1) (source-mod n r p)
 
-sources : (n r s : ℕ) (p : Place) → Inside n p → source n r (source n s p) ≡ source n (r + s) p
+pub sources : (n r s : ℕ) (p : Place) → Inside n p → source n r (source n s p) ≡ source n (r + s) p
 unfolding source
 sources n zero s p h = ap (λ (m : ℕ). source n m p) (sym (zero-add s))
 sources n (suc r) s p h =

@@ -147,6 +147,7 @@ number-small refusal.CornersOutOfRange = lit< tt
 number-small refusal.TooManyLinks = lit< tt
 number-small refusal.TooManyCells = lit< tt
 number-small refusal.InvalidRecord = lit< tt
+number-small refusal.CodesAlike = lit< tt
 
 refusal-room : (r : Refusal) → length (refusalLine r) ≤ 32768
 unfolding refusalLine

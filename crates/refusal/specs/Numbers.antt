@@ -1,4 +1,4 @@
--- Document 01, "The questions asked": the number of each refusal, and the values it gives.
+-- Document 01, "The questions asked", and document 02: the number of each refusal, and the values it gives.
 use Prim.Native.Nat.{ℕ}
 use mathlib.Core.List.{List, [], _∷_}
 use lib.Ieee.{binary32, toBits}
@@ -7,7 +7,7 @@ use Rattle.refusal.specs.declared.Refusal.the-variants.{InvalidSize, Inv
 use Rattle.refusal.specs.declared.Refusal.the-variants.{BoardOutOfRange, NotEnoughDictionaryCodes, CodeOutOfRange}
 use Rattle.refusal.specs.declared.Refusal.the-variants.{SettingsNotFinite, InvalidTable, NoCells, CellsOutOfRange, InvalidSample, ListTooShort}
 use Rattle.refusal.specs.declared.Refusal.the-variants.{TranslationWindow, Margin, NoMarkers}
-use Rattle.refusal.specs.declared.Refusal.the-variants.{CornersOutOfRange, TooManyLinks, TooManyCells, InvalidRecord}
+use Rattle.refusal.specs.declared.Refusal.the-variants.{CornersOutOfRange, TooManyLinks, TooManyCells, InvalidRecord, CodesAlike}
 
 -- the question that was answered with no
 abbrev pub numberOf : Refusal → ℕ
@@ -53,6 +53,8 @@ numberOf TooManyLinks = 19
 numberOf TooManyCells = 20
 -- Is the record whole?
 numberOf InvalidRecord = 21
+-- Are no two used codes alike?
+numberOf CodesAlike = 22
 
 -- the values that a refusal gives: 7 needed and available, 16 the margin, as its bits
 abbrev pub valuesOf : Refusal → List ℕ
@@ -77,3 +79,4 @@ valuesOf CornersOutOfRange = []
 valuesOf TooManyLinks = []
 valuesOf TooManyCells = []
 valuesOf InvalidRecord = []
+valuesOf CodesAlike = []

@@ -1,4 +1,4 @@
-// Every entry's refusals in one enum: the questions of document 01 that can be answered with no.
+// Every entry's refusals in one enum: the questions of documents 01 and 02 that can be answered with no.
 // A variant has the Rust's error name where the Rust has one (board.rs, board_match/mod.rs).
 // `specs/Numbers.antt` gives each its number and values. Uses `floats`.
 ghost use mathlib.Core.Path.{_≡_};
@@ -30,10 +30,12 @@ pub enum Refusal {
     TooManyLinks,
     TooManyCells,
     InvalidRecord,
+    // The board, by document 02.
+    CodesAlike,
 }
 
 impl Refusal {
-    // Document 01's number of the question that was answered with no.
+    // The papers' number of the question that was answered with no.
     pub fn number(self) -> u32
         ensures { λ r. ⌜ r ≡ numberOf self ⌝ }
     {
@@ -62,6 +64,7 @@ impl Refusal {
             Refusal::TooManyLinks => 19,
             Refusal::TooManyCells => 20,
             Refusal::InvalidRecord => 21,
+            Refusal::CodesAlike => 22,
         }
     }
 

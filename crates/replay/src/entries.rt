@@ -93,10 +93,10 @@ pub fn marker_cells(words: &[u64], row: [u64; 32]) -> Answer {
 // Kinds D and 10D: what a board is made of, the alignment of the corners, words of the grid points.
 fn corners(words: &[u64], row: [u64; 32], list: &mut [u32], told: &mut [u32]) -> u32 {
     let bits = numbers::lows(row);
-    let codes = lists::codes(row[8], row[9]);
+    let code_count = numbers::least(row[7], 1025);
+    let codes = lists::codes(row[3], code_count, row[8], row[9]);
     let scores = lists::scores(words);
     let grid = lists::grid(words);
-    let code_count = numbers::least(row[7], 1025);
     let corner_count = numbers::least((words.len() / 4) as u64, 1100);
     let grid_words = numbers::least(row[13], 3300);
     charuco::charuco_map_charuco_corners(
@@ -121,9 +121,9 @@ fn corners(words: &[u64], row: [u64; 32], list: &mut [u32], told: &mut [u32]) ->
 // Kinds E and 10E: what a board is made of, the mode.
 fn links(words: &[u64], row: [u64; 32], list: &mut [u32], told: &mut [u32]) -> u32 {
     let bits = numbers::lows(row);
-    let codes = lists::codes(row[8], row[9]);
-    let links = lists::short_words(words, 0);
     let code_count = numbers::least(row[7], 1025);
+    let codes = lists::codes(row[3], code_count, row[8], row[9]);
+    let links = lists::short_words(words, 0);
     let link_words = numbers::least(words.len() as u64, 8200);
     charuco::charuco_validate_marker_corner_links(
         bits[1],

@@ -170,14 +170,39 @@ pub fn short_words(words: &[u64], first: u8) -> [u32; 8200]
     list
 }
 
-// Codes of 0, but for `value` if there is such a place. The caller lends as many of them as a row says.
-pub fn codes(place: u64, value: u64) -> [u64; 1025]
+// Is a number the least of its four turns?
+fn is_least_turn(number: u64, side: u8) -> bool {
+    number <= oracle_exports::oracle_rotate_code_u64(number, side, 1)
+        && number <= oracle_exports::oracle_rotate_code_u64(number, side, 2)
+        && number <= oracle_exports::oracle_rotate_code_u64(number, side, 3)
+}
+
+// How many there are after a number: it is put behind them if it is the least of its turns.
+fn put_code(codes: &mut [u64], found: usize, number: u64, side: u8) -> usize {
+    if found < codes.len() && is_least_turn(number, side) {
+        codes[found] = number;
+        return found + 1;
+    }
+    found
+}
+
+fn put_codes(codes: &mut [u64], side: u8, count: usize) {
+    let mut found = 0;
+    let mut number: u64 = 0;
+    while number < 2048 && found < count {
+        found = put_code(codes, found, number, side);
+        number += 1;
+    }
+}
+
+// The numbers below 2,048, in rising order, that are the least of their turns, 0 past the last of them, but for `value` if there is such a place. No
+// more than `count` are looked for: the caller lends so many.
+pub fn codes(side: u64, count: usize, place: u64, value: u64) -> [u64; 1025]
     ensures { λ r. ⌜ 1025 ≡ length r ⌝ }
 {
-    let mut codes = [0; 1025];
-    if place < 1025 {
-        codes[place as usize] = value;
-    }
+    let mut codes: [u64; 1025] = [0; 1025];
+    put_codes(&mut codes, numbers::least(side, 8) as u8, count);
+    put_word(&mut codes, place as usize, value);
     codes
 }
 

@@ -9,9 +9,10 @@ use lib.Ieee.{ofBits, le, lt, eq}
 use borrow.Author.Tests.{le-leb}
 use Rattle.refusal.specs.declared.Refusal.the-variants as refusal
 use Rattle.refusal.proofs.Questions.{rest-asked}
-use Rattle.matcher.specs.Codes.{fromBits}
+use Rattle.matcher.specs.Codes.{fromBits, source}
 use Rattle.grid_alignment.specs.Alignment.{sends}
 use Rattle.board.specs.Numbering.{countPassing}
+use Rattle.alike.specs.Alike.{anyBelow}
 use Rattle.board.specs.Layout.{parityOf}
 use Rattle.board.specs.Questions.{askedOfSize, askedOfBoard}
 use Rattle.score_matrix.specs.Table.{patterns}
@@ -36,7 +37,7 @@ unfolding bytesOf writing.littleEndian fromBits number thresholdAt pxAt tableAt 
 parses = refl
 
 passes : (words : ℕ) → 36 ≤ words → askedBefore15 tooWide words ≡ none
-unfolding askedOfBoard askedOfSize parityOf countPassing askedFrom9 every patterns ofBits le lt eq
+unfolding askedOfBoard askedOfSize anyBelow fromBits source parityOf countPassing askedFrom9 every patterns ofBits le lt eq
 passes words room = rw (le-leb 36 words room) refl
 
 pub record-refused : (lent : List ℕ) → 36 ≤ length lent → matchAnswer (bytesOf 0 tooWide) lent ≡ matched.Refused refusal.TranslationWindow

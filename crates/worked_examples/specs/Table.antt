@@ -100,7 +100,7 @@ showing s u first second =
       cells = twoCells u first second;
     }
 
--- such a shot with the cells (0, 0) and (5, 0): default settings, side 4, border 1, sizes 1.0 and 0.5, codes 0 to 9, no cell sampled
+-- such a shot with the cells (0, 0) and (5, 0): default settings, side 4, border 1, sizes 1.0 and 0.5, codes 0 to 7, 9 and 10 (8 is 1 turned), no cell sampled
 abbrev pub tooWide : Shot
 tooWide =
     record {
@@ -115,7 +115,7 @@ tooWide =
       legacyPattern = false;
       cellSize = 0x3F800000;
       markerSizeRel = 0x3F000000;
-      codes = 0 ∷ 1 ∷ 2 ∷ 3 ∷ 4 ∷ 5 ∷ 6 ∷ 7 ∷ 8 ∷ 9 ∷ [];
+      codes = 0 ∷ 1 ∷ 2 ∷ 3 ∷ 4 ∷ 5 ∷ 6 ∷ 7 ∷ 9 ∷ 10 ∷ [];
       cells = twoCells 5 none none;
     }
 

@@ -1,12 +1,18 @@
 //! Arguments for the constructor of a board: good ones, and these with one, two or many of them changed, to good values
 //! and to bad ones. Two bad ones at a time show in which order the questions are asked.
 
+mod look_alikes;
+
+use crate::codes::listed_codes;
 use crate::floats::{BAD_CELL_SIZES, BAD_MARKER_SIZES, GOOD_CELL_SIZES, GOOD_MARKER_SIZES};
 use crate::prng::Prng;
 use std::collections::HashMap;
 use std::sync::{LazyLock, Mutex};
 
-/// The codes are `code_count` zeros, but for `value` at `place` where there is such a place.
+pub use look_alikes::{Pair, random_pair, with_look_alikes};
+
+/// The codes are the first `code_count` that are listed for the side, of which no two are alike as far as the side has so many,
+/// but for `value` at `place` where there is such a place.
 #[derive(Clone, Copy, Debug)]
 pub struct BoardArguments {
     pub rows: u32,
@@ -30,14 +36,23 @@ impl BoardArguments {
         }
     }
 
+    /// A side above 8 counts as 8: question 6 refuses it, whatever its codes are.
+    pub fn side(&self) -> u8 {
+        self.bits.min(8) as u8
+    }
+
+    pub const fn marker_count(&self) -> usize {
+        self.rows as usize * self.cols as usize / 2
+    }
+
     /// They live as long as the program, which the dictionary of the Rust asks for. Each list is made once.
     pub fn codes(&self) -> &'static [u64] {
-        type Made = HashMap<(usize, usize, u64), &'static [u64]>;
+        type Made = HashMap<(u8, usize, usize, u64), &'static [u64]>;
         static MADE: LazyLock<Mutex<Made>> = LazyLock::new(Mutex::default);
         let mut made = MADE.lock().expect("no other holder has panicked");
-        let key = (self.code_count, self.place, self.value);
+        let key = (self.side(), self.code_count, self.place, self.value);
         made.entry(key).or_insert_with(|| {
-            let mut codes = vec![0; self.code_count];
+            let mut codes = listed_codes(self.side(), self.code_count);
             if let Some(code) = codes.get_mut(self.place) {
                 *code = self.value;
             }
@@ -76,7 +91,7 @@ pub struct Draft {
     board: BoardArguments,
     /// From how many codes the board needs, how many there are.
     count: fn(usize) -> usize,
-    /// The one code that need not be 0: its place, from how many there are, and its value, from the side.
+    /// The one code that need not be the listed one: its place, from how many there are, and its value, from the side.
     place: fn(usize) -> usize,
     value: fn(u32) -> u64,
 }
@@ -86,8 +101,8 @@ const MOST_CODES: usize = 1025;
 
 impl Draft {
     fn finish(self) -> BoardArguments {
-        let needed = self.board.rows as usize * self.board.cols as usize / 2;
-        let code_count = (self.count)(needed.min(MOST_CODES)).min(MOST_CODES);
+        let needed = self.board.marker_count().min(MOST_CODES);
+        let code_count = (self.count)(needed).min(MOST_CODES);
         BoardArguments {
             code_count,
             place: (self.place)(code_count),

@@ -79,20 +79,25 @@ impl Cell {
     /// Shows a code, black where a bit is set, in greys on both sides of the threshold; one bit in eight is in doubt.
     pub fn showing(prng: &mut Prng, [bits, border]: [u8; 2], code: u64) -> Self {
         let threshold = 60 + prng.below(140) as u8;
-        let inner = usize::from(border)..usize::from(border) + usize::from(bits);
         Self::painted([bits, border], threshold, |column, row| {
             if prng.one_in(8) {
                 return near(prng, threshold, column, row);
             }
-            let is_bit = inner.contains(&column) && inner.contains(&row);
-            let is_black = !is_bit || {
-                let bit = (row - inner.start) * usize::from(bits) + column - inner.start;
-                code >> bit & 1 == 1
-            };
-            if is_black {
+            if is_black([bits, border], code, column, row) {
                 prng.below(u64::from(threshold)) as u8
             } else {
                 255 - prng.below(256 - u64::from(threshold)) as u8
+            }
+        })
+    }
+
+    /// The same in black and white, without doubt.
+    pub fn of_code(size: [u8; 2], threshold: u8, code: u64) -> Self {
+        Self::painted(size, threshold, |column, row| {
+            if is_black(size, code, column, row) {
+                0
+            } else {
+                255
             }
         })
     }
@@ -101,6 +106,16 @@ impl Cell {
         let side = Self::side(size);
         let grid = (0..side * side).map(|place| grey(place % side, place / side));
         Self::new(size, threshold, grid.collect())
+    }
+}
+
+/// The border is black, and so is each bit that is set.
+fn is_black([bits, border]: [u8; 2], code: u64, column: usize, row: usize) -> bool {
+    let inner = usize::from(border)..usize::from(border) + usize::from(bits);
+    let is_bit = inner.contains(&column) && inner.contains(&row);
+    !is_bit || {
+        let bit = (row - inner.start) * usize::from(bits) + column - inner.start;
+        code >> bit & 1 == 1
     }
 }
 

@@ -7,7 +7,9 @@ use crate::boards::BoardArguments;
 use crate::corner_lists::CornerLists;
 use std::fmt::{self, Display, Formatter};
 
-pub use limits::{alignments, on_changed_boards, pairs_of_refusals, single_changes};
+pub use limits::{
+    alignments, on_changed_boards, on_look_alikes, pairs_of_refusals, single_changes,
+};
 pub use random::{full_board, largest_board, most_corners, random_input};
 
 /// Id, index in the input, board corner i and j, the bits of the target's x and y.

@@ -4,7 +4,7 @@ use crate::boards::BoardArguments;
 use std::ops::RangeInclusive;
 
 /// New numbers for one argument of `board`, by which each of the questions 1 to 8 is answered with no.
-const BOARD_REFUSALS: [fn(&mut BoardArguments); 12] = [
+pub const BOARD_REFUSALS: [fn(&mut BoardArguments); 12] = [
     |board| board.rows = 1,
     |board| board.cols = 0,
     |board| board.cell_size = f32::INFINITY,

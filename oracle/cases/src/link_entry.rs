@@ -8,7 +8,7 @@ use crate::boards::BoardArguments;
 use crate::layout;
 use std::fmt::{self, Display, Formatter};
 
-pub use limits::{on_changed_boards, pairs_of_refusals, single_changes};
+pub use limits::{on_changed_boards, on_look_alikes, pairs_of_refusals, single_changes};
 pub use many::{ALL_MARKERS, ANY_CORNER, EQUAL_KEYS, EQUAL_KEYS_OF_ONE_MARKER, ONE_MARKER, Spread};
 pub use many::{many_links, most_of_one_link, of_most_links};
 pub use random::{example, random_input, whole_board};

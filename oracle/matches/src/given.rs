@@ -1,6 +1,7 @@
 //! Records to ask about, by kinds. All are random, each kind from a seed of its own.
 
 mod faults;
+mod look_alikes;
 mod numbers;
 mod reach;
 mod scene;
@@ -27,7 +28,7 @@ pub struct Kind {
     make: Make,
 }
 
-pub const KINDS: [Kind; 14] = [
+pub const KINDS: [Kind; 15] = [
     shots("true placements", 18_000, numbers::shown),
     shots("ties", 15_000, ties::shot),
     shots("tiny boards", 12_000, ties::tiny_board),
@@ -44,6 +45,11 @@ pub const KINDS: [Kind; 14] = [
     ),
     shots("odd floats", 6_000, numbers::odd_floats),
     kind("one fault or two", 12_000, Make::Given(faults::given)),
+    kind(
+        "markers that look alike",
+        14_000,
+        Make::Given(look_alikes::given),
+    ),
     kind("lent lists", 4_000, Make::Given(with_any_places)),
     kind("damaged records", 8_000, Make::Given(damaged)),
 ];

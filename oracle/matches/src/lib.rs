@@ -15,7 +15,9 @@ pub use answer::{
     ANSWER_WORDS, Alignment, Hypothesis, MARKER_WORDS, MOST_PLACES, Marker, Matched, Placed,
     Selected, told,
 };
-pub use questions::{by_rust_and_model, by_turned_rust_and_model, match_record, match_shot};
+pub use questions::{
+    by_rust_and_model, by_rust_without_22, by_turned_rust_and_model, match_record, match_shot,
+};
 pub use rust::{Matching, Samples};
 pub use text::text;
 pub use turned::{Compared, TurnedShot};

@@ -5,6 +5,7 @@
 use crate::answer::{Alignment, Hypothesis, Marker, Matched, Placed, Selected, below_minimum};
 use cases::answer::Answer;
 use cases::cells::Cell as Grid;
+use cases::codes::turned_code;
 use cases::layout::marker_squares;
 use records::{Cell, Shot, TABLE_LENGTH};
 
@@ -14,7 +15,7 @@ const LN_2: f32 = f32::from_bits(0x3F31_7218);
 /// 2⁻²³.
 const LEAST_CAPACITY: f32 = 1.0 / 8_388_608.0;
 
-/// A shot that the questions 1 to 10 and 12 to 14 have let pass.
+/// A shot that the questions 1 to 8, 22, 9, 10 and 12 to 14 have let pass.
 pub fn match_shot(shot: &Shot) -> Matched {
     if shot.cells.is_empty() {
         return Err(Answer::refused(11));
@@ -50,23 +51,6 @@ pub fn turned_point(turn: u8, [u, v]: [i32; 2]) -> [i32; 2] {
         2 => [-u, -v],
         _ => [-v, u],
     }
-}
-
-/// Bit y × n + x of the turned code is bit sy × n + sx of the code.
-pub fn turned_code(code: u64, n: u32, turn: u8) -> u64 {
-    let mut turned = 0;
-    for y in 0..n {
-        for x in 0..n {
-            let [sx, sy] = match turn {
-                0 => [x, y],
-                1 => [y, n - 1 - x],
-                2 => [n - 1 - x, n - 1 - y],
-                _ => [n - 1 - y, x],
-            };
-            turned |= (code >> (sy * n + sx) & 1) << (y * n + x);
-        }
-    }
-    turned
 }
 
 /// For each turn the corner of a cell that becomes top left stands elsewhere in the cell.
@@ -186,7 +170,7 @@ impl<'a> Model<'a> {
     }
 
     fn turned_code(&self, id: usize, turn: u8) -> u64 {
-        turned_code(self.shot.codes[id], self.shot.bits.into(), turn)
+        turned_code(self.shot.codes[id], self.shot.bits, turn)
     }
 
     /// The table entries that the score of a sampled cell adds, in their order.

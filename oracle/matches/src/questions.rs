@@ -1,8 +1,9 @@
 //! The questions of the match in their order. Those that the Rust asks it answers itself: 1 to 5 and 7 when a board is
-//! made, 11 and 15 to 17 in the matcher. The rule for the added ones stands here and in `theirs`.
+//! made, 11 and 15 to 17 in the matcher. The rule for the added ones stands here and in `theirs`. Shots of boards with markers
+//! that are alike are refused by 22, so that nothing else of them is compared with the Rust, which places them.
 
 use crate::answer::{MARKER_WORDS, Matched};
-use crate::turned::{self, Compared};
+use crate::turned::{self, Compared, TurnedShot};
 use crate::{model, rust};
 use calib_targets_charuco::CharucoBoard;
 use cases::answer::Answer;
@@ -12,7 +13,7 @@ use cases::tables::SLOPES_AND_FLOORS;
 use records::{REFUSED, Shot, TABLE_LENGTH};
 use std::collections::HashSet;
 use std::sync::{LazyLock, Mutex};
-use theirs::{accepted_board, is_table, likelihood_table};
+use theirs::{accepted_board, board_up_to_8, is_table, likelihood_table};
 
 const MOST_CELLS: usize = 256;
 
@@ -49,15 +50,34 @@ pub fn by_turned_rust_and_model(shot: &Shot) -> Option<[Compared; 2]> {
     (!shot.cells.is_empty()).then(|| turned::by_rust_and_model(shot, slope_and_floor))
 }
 
+/// What is said of a shot if 22 is not asked: a refusal by a question from 1 to 8, else what the Rust says, where no question from 9
+/// to 14 that it does not ask refuses the shot and the table is by the formula. A legacy board that it does not know is turned
+/// by a quarter.
+pub fn by_rust_without_22(shot: &Shot) -> Option<Matched> {
+    if let Err(refused) = board(shot) {
+        return Some(Err(refused));
+    }
+    asked_after_board(shot, usize::MAX).ok()?;
+    let slope_and_floor = slope_and_floor(&shot.table)?;
+    let turned = is_unknown_to_rust(shot).then(|| TurnedShot::new(shot).shot);
+    let shot = turned.as_ref().unwrap_or(shot);
+    Some(rust::Matching::new(shot, slope_and_floor).matched())
+}
+
 /// The Rust knows no mark. With an odd row count it answers as if there were none.
 const fn is_unknown_to_rust(shot: &Shot) -> bool {
     shot.is_legacy() && shot.rows % 2 == 0
 }
 
-/// The questions 1 to 10 and 12 to 14. Where there is no cell, 12 to 14 have nothing to refuse, so that the Rust may
+/// The questions 1 to 8, 22, 9, 10 and 12 to 14. Where there is no cell, 12 to 14 have nothing to refuse, so that the Rust may
 /// answer 11 after them.
 fn asked_first(shot: &Shot, places: usize) -> Result<(), Answer> {
-    board(shot)?;
+    accepted(shot)?;
+    asked_after_board(shot, places)
+}
+
+/// From 9 on.
+fn asked_after_board(shot: &Shot, places: usize) -> Result<(), Answer> {
     let settings = [
         shot.minimum_margin,
         shot.border_threshold,
@@ -75,8 +95,17 @@ fn asked_first(shot: &Shot, places: usize) -> Result<(), Answer> {
 }
 
 /// The board of a shot, or the refusal of one of its questions.
+fn accepted(shot: &Shot) -> Result<CharucoBoard, Answer> {
+    accepted_board(&arguments(shot), kept_codes(&shot.codes))
+}
+
+/// The same, though two markers are alike.
 pub fn board(shot: &Shot) -> Result<CharucoBoard, Answer> {
-    let arguments = BoardArguments {
+    board_up_to_8(&arguments(shot), kept_codes(&shot.codes))
+}
+
+fn arguments(shot: &Shot) -> BoardArguments {
+    BoardArguments {
         rows: shot.rows.into(),
         cols: shot.cols.into(),
         bits: shot.bits.into(),
@@ -87,8 +116,7 @@ pub fn board(shot: &Shot) -> Result<CharucoBoard, Answer> {
         code_count: shot.codes.len(),
         place: 0,
         value: 0,
-    };
-    accepted_board(&arguments, kept_codes(&shot.codes))
+    }
 }
 
 /// Question 12.

@@ -13,7 +13,7 @@ use cases::answer::Answer;
 use records::Shot;
 use theirs::cell_samples;
 
-/// A shot that the questions up to 10 have let pass.
+/// A shot that the questions 1 to 10 have let pass. That two markers are alike is nothing to the Rust.
 pub struct Matching {
     board: CharucoBoard,
     cells: Vec<MarkerCell>,

@@ -1,7 +1,8 @@
 //! The examples of document 01 for the match: the record of the program `place`, P9 and P11.
 
+use cases::codes::{all_ones, listed_codes};
 use matches::{MARKER_WORDS, match_record, match_shot, text, told};
-use records::{Cell, Shot, write};
+use records::{Cell, Sample, Shot, write};
 use theirs::null_score;
 
 fn unsampled([u, v]: [i16; 2]) -> Cell {
@@ -46,7 +47,7 @@ fn p9_no_evidence_no_margin() {
 fn p9_a_runner_up_that_is_none() {
     let mut shot = Shot::of_document_01();
     shot.cols = 3;
-    shot.codes = vec![15, 15, 8];
+    shot.codes = vec![15, 7, 8];
     shot.cells.push(unsampled([2, 1]));
     let placed = match_shot(&shot, 2 * MARKER_WORDS).expect("it is placed");
     assert_eq!(placed.placements, 2);
@@ -81,16 +82,20 @@ fn p9_a_margin_above_1() {
     assert!(placed.margin > 11.0);
 }
 
+/// Ten markers of which no two are alike have 3 by 3 bits or more. The cell shows the last one, all of whose bits are set.
 #[test]
 fn p11_placements() {
     let placements = |far: i16| {
         let mut shot = Shot {
             rows: 4,
             cols: 5,
-            codes: (0..10).collect(),
+            bits: 3,
+            codes: listed_codes(3, 10),
             border_threshold: 0,
             ..Shot::of_document_01()
         };
+        shot.codes[9] = all_ones(3);
+        shot.cells[0].sample = Some(Sample::new(1.0, 128, vec![0; shot.greys()]));
         shot.set_minimum_margin(f32::MIN);
         shot.cells.push(unsampled([far, 0]));
         match_shot(&shot, 2 * MARKER_WORDS)

@@ -28,7 +28,7 @@ fn what_the_program_prints() {
 fn an_odd_row_count() {
     let mut shot = Shot::of_document_01();
     [shot.rows, shot.cols] = [3, 3];
-    shot.codes = vec![15, 15, 15, 1];
+    shot.codes = vec![15, 7, 6, 1];
     shot.table = records::built_in_table();
     let marked = shot.clone().marked();
     let texts = [&shot, &marked].map(|shot| text(&match_shot(shot, MARKER_WORDS)));
@@ -38,8 +38,8 @@ fn an_odd_row_count() {
     assert!(by_turned_rust_and_model(&marked).is_none());
 }
 
-/// 2 rows and 3 columns, of which one cell is seen; marker k has one bit set, bit k. The board as it is and turned clockwise,
-/// each marker as `a` to `c`:
+/// 2 rows and 3 columns, of which one cell is seen; markers have one, two and three bits set. The board as it is and turned
+/// clockwise, each marker as `a` to `c`:
 ///
 /// ```text
 /// a . b        . a
@@ -49,19 +49,19 @@ fn an_odd_row_count() {
 fn two_by_three() -> Shot {
     let mut shot = Shot::of_document_01().marked();
     shot.cols = 3;
-    shot.codes = vec![1, 2, 4, 9];
+    shot.codes = vec![1, 3, 7, 9];
     shot.table = records::built_in_table();
     shot
 }
 
-/// The bits of a code are numbered row by row: 0 and 1 above, 2 and 3 below. Turned clockwise, 0 comes to 1, 1 to 3, 2 to 0. The
-/// fourth code is of no marker.
+/// The bits of a code are numbered row by row: 0 and 1 above, 2 and 3 below. Turned clockwise, 0 comes to 1, 1 to 3, 2 to 0: bit 0
+/// becomes 1, bits 0 and 1 become 1 and 3, bits 0 to 2 become 1, 3 and 0. The fourth code is of no marker.
 #[test]
 fn the_turned_shot() {
     let turned = TurnedShot::new(&two_by_three()).shot;
     assert!(!turned.is_legacy());
     assert_eq!([turned.rows, turned.cols], [3, 2]);
-    assert_eq!(turned.codes, [2, 1, 8, 9]);
+    assert_eq!(turned.codes, [2, 11, 10, 9]);
     assert_eq!(turned.cells, two_by_three().cells);
 }
 
@@ -85,11 +85,21 @@ fn a_placement_carried() {
     }
 }
 
-/// Each of the markers is, in one of the turns, what the cell shows, so that three placements tie for the best.
+/// The cell shows every bit set, so that each marker has the same evidence in all four turns, which tie.
 #[test]
 fn the_rust_turned_and_the_rules() {
-    let [rust, rules] = by_turned_rust_and_model(&two_by_three()).expect("the Rust can be asked");
+    let mut shot = two_by_three();
+    let sample = shot.cells[0].sample.as_mut().expect("sampled");
+    sample.grid.fill(0);
+    let [rust, rules] = by_turned_rust_and_model(&shot).expect("the Rust can be asked");
     assert_eq!(rust, rules);
+    let best = rust
+        .placements
+        .iter()
+        .filter_map(|&(_, bits)| bits)
+        .max_by(|&a, &b| f32::from_bits(a).total_cmp(&f32::from_bits(b)));
+    let tied = rust.placements.iter().filter(|&&(_, bits)| bits == best);
+    assert_eq!(tied.count(), 4);
     assert_eq!(rust.placements.len(), 24);
     let numbers = rust.placements.iter().filter(|(_, bits)| bits.is_some());
     assert_eq!(numbers.count(), 12);
@@ -100,7 +110,7 @@ fn the_rust_turned_and_the_rules() {
 #[test]
 fn an_answer_carried_back() {
     let mut shot = two_by_three();
-    shot.codes = vec![6, 9, 1];
+    shot.codes = vec![6, 15, 1];
     let [rust, rules] = by_turned_rust_and_model(&shot).expect("the Rust can be asked");
     assert_eq!(rust, rules);
     let answer = rust.answer.expect("both choose the same best");
@@ -109,7 +119,7 @@ fn an_answer_carried_back() {
     assert_eq!(answer.words[..3], [0, 1, 1]);
     assert_eq!(answer.list[..5], [0, 2, 0, 0, 0]);
     let mut wrong = TurnedShot::new(&shot).shot;
-    wrong.codes = vec![6, 1, 9];
+    wrong.codes = vec![6, 1, 15];
     let placed = match_shot(&wrong, MARKER_WORDS).expect("it is placed");
     assert_ne!(
         placed.best.alignment,

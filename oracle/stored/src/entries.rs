@@ -59,6 +59,10 @@ const OF_EACH_NUMBER: usize = 4;
 /// Boards with two changes are drawn until each of the numbers 0 to 8 has come up so often.
 const BOARDS_OF_EACH_NUMBER: usize = 36;
 
+/// Boards with codes that are alike are drawn until each number has come up so often, or so many were drawn.
+const LOOK_ALIKES_OF_EACH_NUMBER: usize = 6;
+const LOOK_ALIKES: usize = 400;
+
 /// The arguments that are those of a board.
 fn board_arguments(board: &BoardArguments) -> [u64; 9] {
     [
@@ -74,6 +78,15 @@ fn board_arguments(board: &BoardArguments) -> [u64; 9] {
     ]
 }
 
+/// By which inputs are chosen: the number of the answer. One that 22 alone refuses counts as accepted, as before that question
+/// (document 02, 2.2), so that the choice stays.
+const fn chosen_by(answer: &Answer) -> u32 {
+    match answer.number {
+        22 => 0,
+        number => number,
+    }
+}
+
 /// Good boards with one change, then with two.
 pub fn ask_boards(script: &mut Script) {
     for board in boards::single_changes(BASES[0]) {
@@ -85,7 +98,7 @@ pub fn ask_boards(script: &mut Script) {
     let mut left = 9 * BOARDS_OF_EACH_NUMBER;
     while left > 0 {
         let input = CornerInput::without_corners(prng.pick(&boards));
-        if is_new(map_charuco_corners(&input).number) {
+        if is_new(chosen_by(&map_charuco_corners(&input))) {
             ask_corner_input(script, &input);
             left -= 1;
         }
@@ -111,7 +124,7 @@ pub fn ask_corners(script: &mut Script, legacy: bool) {
     ] {
         prng.shuffle(&mut all);
         let mut is_new = few(most);
-        all.retain(|input| short(input) && is_new(map_charuco_corners(input).number));
+        all.retain(|input| short(input) && is_new(chosen_by(&map_charuco_corners(input))));
         inputs.append(&mut all);
     }
     let random = prng.many(900, corner_entry::random_input).into_iter();
@@ -160,7 +173,7 @@ pub fn ask_links(script: &mut Script, legacy: bool) {
     ];
     for mut all in refused {
         let mut is_new = few(OF_EACH_NUMBER);
-        all.retain(|input| short(input) && is_new(links_answer(input).number));
+        all.retain(|input| short(input) && is_new(chosen_by(&links_answer(input))));
         inputs.append(&mut all);
     }
     inputs.extend(prng.many(110, |prng| link_entry::random_input(prng, legacy)));
@@ -178,6 +191,25 @@ pub fn ask_links(script: &mut Script, legacy: bool) {
     for mut input in inputs {
         input.board.legacy_pattern = legacy;
         ask_link_input(script, &input);
+    }
+}
+
+/// Corners and links on boards with codes that are alike.
+pub fn ask_look_alikes(script: &mut Script, legacy: bool) {
+    let mut prng = Prng::new(if legacy { 47 } else { 46 });
+    let mut is_new = few(LOOK_ALIKES_OF_EACH_NUMBER);
+    for mut input in prng.many(LOOK_ALIKES, corner_entry::on_look_alikes) {
+        input.board.legacy_pattern = legacy;
+        if input.lists.count() <= 16 && is_new(map_charuco_corners(&input).number) {
+            ask_corner_input(script, &input);
+        }
+    }
+    let mut is_new = few(LOOK_ALIKES_OF_EACH_NUMBER);
+    for mut input in prng.many(LOOK_ALIKES, link_entry::on_look_alikes) {
+        input.board.legacy_pattern = legacy;
+        if input.links().len() <= 30 && is_new(links_answer(&input).number) {
+            ask_link_input(script, &input);
+        }
     }
 }
 

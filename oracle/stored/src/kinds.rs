@@ -58,7 +58,7 @@ kinds! {
     MATCH = Kind {
         of_result: 18,
         numbers: &[
-            0, 1, 2, 3, 4, 5, 6, 7, 8, 9, 10, 11, 12, 13, 14, 15, 16, 17, 21,
+            0, 1, 2, 3, 4, 5, 6, 7, 8, 9, 10, 11, 12, 13, 14, 15, 16, 17, 21, 22,
         ],
         ..part(0xA, "charuco_match_board", 1, 17)
     };
@@ -70,12 +70,12 @@ kinds! {
     };
     CORNERS = Kind {
         of_result: 6,
-        numbers: &[0, 1, 2, 3, 4, 5, 6, 7, 8, 14, 18],
+        numbers: &[0, 1, 2, 3, 4, 5, 6, 7, 8, 14, 18, 22],
         ..part(0xD, "charuco_map_charuco_corners", 14, 2)
     };
     LINKS = Kind {
         of_result: 12,
-        numbers: &[0, 1, 2, 3, 4, 5, 6, 7, 8, 14, 19],
+        numbers: &[0, 1, 2, 3, 4, 5, 6, 7, 8, 14, 19, 22],
         ..part(0xE, "charuco_validate_marker_corner_links", 11, 2)
     };
     ANSWER_TEXT = part(0xF, "text of an answer", 0, 1);

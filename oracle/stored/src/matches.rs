@@ -5,10 +5,12 @@ use crate::kinds::{ANSWER_TEXT, Kind, MATCH, TEXT};
 use crate::records::{ask_header, ask_place};
 use crate::script::{Script, few, is_marked};
 use cases::answer::Answer;
+use cases::cells::Cell as Grid;
+use cases::codes::listed_codes;
 use matches::given::{Given, KINDS, Kind as GivenKind, LEGACY_KINDS};
 use matches::{MARKER_WORDS, MOST_PLACES, Placed, by_turned_rust_and_model, match_record, text};
 use records::telling::Place;
-use records::{REFUSED, Shot, read, write};
+use records::{Cell, REFUSED, Sample, Shot, read, write};
 
 /// Most records are no longer than this. A table alone has 2,044 bytes, so few records have one.
 const SHORT: usize = 200;
@@ -50,7 +52,7 @@ pub fn ask(script: &mut Script) {
 
 /// Of legacy boards.
 pub fn ask_marked(script: &mut Script) {
-    let mut chosen = small_legacy_boards().map(with_one_place).to_vec();
+    let mut chosen = small_legacy_boards().map(with_places).to_vec();
     chosen.extend(with_every_refusal(&LEGACY_KINDS));
     for kind in &LEGACY_KINDS {
         let (longest, most) = lengths(kind);
@@ -141,12 +143,13 @@ fn chosen_by(kind: &GivenKind, given: &Given) -> u32 {
 }
 
 fn chosen() -> Vec<Given> {
-    let mut chosen = vec![with_one_place(Shot::of_document_01())];
+    let mut chosen = vec![with_places(Shot::of_document_01())];
     chosen.extend(with_every_refusal(&KINDS));
     for kind in &KINDS {
         let (longest, most) = lengths(kind);
         chosen.extend(of_kind(kind, longest, most));
     }
+    chosen.push(with_places(no_evidence_of_the_next()));
     chosen
 }
 
@@ -184,28 +187,41 @@ fn with_every_refusal(kinds: &[GivenKind]) -> Vec<Given> {
     fitting.collect()
 }
 
-/// A shot of one cell.
-fn with_one_place(shot: Shot) -> Given {
+/// A list with a place for each cell.
+fn with_places(shot: Shot) -> Given {
     Given {
         record: write(&shot).bytes,
-        places: MARKER_WORDS,
+        places: MARKER_WORDS * shot.cells.len(),
     }
 }
 
+/// P9 of document 01, a runner-up whose evidence is none: on 2 rows and 3 columns the cells (0, 0) and (2, 1) fit once in turn 0,
+/// which has no marker below the one that is sampled, and once in turn 2, which has marker 2.
+fn no_evidence_of_the_next() -> Shot {
+    let mut shot = Shot::of_document_01();
+    shot.cols = 3;
+    shot.codes = vec![15, 7, 8];
+    let [u, v] = [2, 1];
+    shot.cells.push(Cell { u, v, sample: None });
+    shot
+}
+
 /// The record of document 01 with the mark, and its cell on legacy boards of 4 rows and 5 columns and of 3 by 3: they stand
-/// beside P1 to P12.
+/// beside P1 to P12. Ten markers of which no two are alike have 3 by 3 bits or more.
 fn small_legacy_boards() -> [Shot; 3] {
-    // Marker 3 shows what the cell does.
-    let of_size = |[rows, cols]: [u8; 2]| {
+    let of_size = |[rows, cols]: [u8; 2], bits: u8| {
         let mut shot = Shot::of_document_01().marked();
-        [shot.rows, shot.cols] = [rows, cols];
-        shot.codes = vec![15; usize::from(rows) * usize::from(cols) / 2];
-        shot.codes[3] = 1;
+        [shot.rows, shot.cols, shot.bits] = [rows, cols, bits];
+        shot.codes = listed_codes(bits, usize::from(rows) * usize::from(cols) / 2);
+        // Marker 3 is what the cell shows.
+        shot.codes.swap(1, 3);
+        let grid = Grid::of_code([bits, shot.border], 128, shot.codes[3]);
+        shot.cells[0].sample = Some(Sample::new(1.0, grid.threshold, grid.grid));
         shot
     };
     [
         Shot::of_document_01().marked(),
-        of_size([4, 5]),
-        of_size([3, 3]),
+        of_size([4, 5], 3),
+        of_size([3, 3], 2),
     ]
 }

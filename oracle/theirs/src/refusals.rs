@@ -1,10 +1,11 @@
-//! Which question a board is refused with. Six of the eight are asked by the Rust; 6 and 8 are added, and the rule
-//! for them stands here.
+//! Which question a board is refused with. Of the questions 1 to 8 the Rust asks six; 6 and 8 are added, and so is 22, the last
+//! one of a board (document 02, 2.2). The rule for these stands here.
 
-use calib_targets_aruco::Dictionary;
+use calib_targets_aruco::{Dictionary, rotate_code_u64};
 use calib_targets_charuco::{CharucoBoard, CharucoBoardError, CharucoBoardSpec};
 use cases::answer::Answer;
 use cases::boards::BoardArguments;
+use std::collections::HashSet;
 
 /// The Rust allocates a word for each square, so no larger board is shown to it. This changes no answer: a size
 /// above it is at least 2, as question 1 asks, and question 6 refuses it before the markers are counted.
@@ -13,6 +14,18 @@ const LARGEST_SHOWN: u32 = 300;
 /// A board that passes all questions, or the answer to the first that it does not. The codes may be others than those of
 /// the arguments.
 pub fn accepted_board(
+    asked: &BoardArguments,
+    codes: &'static [u64],
+) -> Result<CharucoBoard, Answer> {
+    let board = board_up_to_8(asked, codes)?;
+    if two_alike(&codes[..board.marker_count()], asked.bits as usize) {
+        return Err(Answer::refused(22));
+    }
+    Ok(board)
+}
+
+/// A board that passes the questions 1 to 8. The Rust places boards with markers that are alike, too.
+pub fn board_up_to_8(
     asked: &BoardArguments,
     codes: &'static [u64],
 ) -> Result<CharucoBoard, Answer> {
@@ -62,4 +75,18 @@ fn within_added_limits(asked: &BoardArguments, code_count: usize) -> bool {
 /// Question 8, of a side from 1 to 8: a code of 8 by 8 bits cannot be too large.
 fn is_too_large(code: u64, bits: u32) -> bool {
     bits < 8 && code >> (bits * bits) != 0
+}
+
+/// Question 22: are two codes of different ids equal after some number of quarter turns? Two are if the least of their turns
+/// is the same. `two_alike_by_pairs` says the same more slowly.
+pub fn two_alike(codes: &[u64], bits: usize) -> bool {
+    let mut seen = HashSet::new();
+    let least = |code: u64| (0..4).map(|turn| rotate_code_u64(code, bits, turn)).min();
+    !codes.iter().all(|&code| seen.insert(least(code)))
+}
+
+/// The same by the sentence of document 02.
+pub fn two_alike_by_pairs(codes: &[u64], bits: usize) -> bool {
+    let mut pairs = (0..codes.len()).flat_map(|b| (0..b).map(move |a| [codes[a], codes[b]]));
+    pairs.any(|[a, b]| (0..4).any(|turn| rotate_code_u64(a, bits, turn) == b))
 }

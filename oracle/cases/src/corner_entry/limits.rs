@@ -1,7 +1,7 @@
 //! Inputs at the limits of the corner entry's questions and past them, one limit at a time and two at once.
 
 use super::{CornerInput, FARTHEST_TRANSLATION, words_needed};
-use crate::boards::{board, changed_boards};
+use crate::boards::{BoardArguments, board, changed_boards, with_look_alikes};
 use crate::corner_lists::limits::{COORDINATES, HIGHEST, LOWEST, SCORES};
 use crate::corner_lists::{FARTHEST, NO_POINT};
 use crate::entries::{self, changed, lengths_around};
@@ -98,14 +98,24 @@ fn changed_lengths(good: &CornerInput) -> Vec<CornerInput> {
 /// The small input on boards that may be refused.
 pub fn on_changed_boards(prng: &mut Prng, count: usize) -> Vec<CornerInput> {
     let boards = changed_boards(prng, count).into_iter();
-    let on_board = |board| {
-        changed(&small(), |input| {
-            input.board = board;
-            // Boards that are too large must not ask for a list.
-            input.lists.places = words_needed(&board).min(6000);
-        })
-    };
     boards.map(on_board).collect()
+}
+
+/// The small input on boards with codes that are alike, and now and then past a limit of the entry's own questions.
+pub fn on_look_alikes(prng: &mut Prng) -> CornerInput {
+    let mut input = on_board(with_look_alikes(prng));
+    if prng.one_in(4) {
+        prng.pick(&REFUSALS)(&mut input);
+    }
+    input
+}
+
+fn on_board(board: BoardArguments) -> CornerInput {
+    changed(&small(), |input| {
+        input.board = board;
+        // Boards that are too large must not ask for a list.
+        input.lists.places = words_needed(&board).min(6000);
+    })
 }
 
 /// Seven corners on a board of 4 rows and 5 columns: two on one board corner, one beside the board, one without a grid

@@ -2,7 +2,7 @@
 
 use super::random::TWINS;
 use super::{LinkInput, MOST_LINKS, WORDS_FOR_A_LINK, example};
-use crate::boards::changed_boards;
+use crate::boards::{changed_boards, with_look_alikes};
 use crate::entries::{self, changed, lengths_around};
 use crate::prng::Prng;
 
@@ -73,6 +73,18 @@ pub fn on_changed_boards(prng: &mut Prng, count: usize) -> Vec<LinkInput> {
         ..example(prng.one_in(2))
     });
     inputs.collect()
+}
+
+/// P8 on boards with codes that are alike, and now and then past a limit of the entry's own questions.
+pub fn on_look_alikes(prng: &mut Prng) -> LinkInput {
+    let mut input = LinkInput {
+        board: with_look_alikes(prng),
+        ..example(prng.one_in(2))
+    };
+    if prng.one_in(4) {
+        prng.pick(&REFUSALS)(&mut input);
+    }
+    input
 }
 
 fn grow(input: &mut LinkInput, count: usize) {

@@ -3,7 +3,7 @@
 use super::{Case, Runs, runs};
 use crate::entries::Input;
 use cases::answer::after;
-use cases::codes::random_code;
+use cases::codes::random_different_codes;
 use cases::prng::Prng;
 use matches::given::{Given, Look, Scene};
 use matches::{ANSWER_WORDS, MARKER_WORDS, Matching, Samples};
@@ -23,7 +23,7 @@ pub struct WholeMatch {
 /// Rows and columns of a board, and bits.
 pub type Board = ([u8; 2], u8);
 
-/// A board of random codes of which these squares are seen, a quarter turn off.
+/// A board of random codes, no two of them alike, of which these squares are seen, a quarter turn off.
 pub fn seen(([rows, cols], bits): Board, squares: Vec<[i32; 2]>) -> Shot {
     let mut prng = Prng::new(9);
     let markers = usize::from(rows) * usize::from(cols) / 2;
@@ -35,7 +35,7 @@ pub fn seen(([rows, cols], bits): Board, squares: Vec<[i32; 2]>) -> Shot {
         border: 1,
         turn: 1,
         translation: [3, -2],
-        codes: prng.many(markers, |prng| random_code(prng, bits)),
+        codes: random_different_codes(&mut prng, bits, markers),
         squares,
     };
     scene.shot(&mut prng, Look::Clear)

@@ -17,7 +17,8 @@ fn main() -> ExitCode {
 type Size = [i32; 2];
 
 /// The last two are against us. A block as wide as the board has one column or one row of placements in each turn, so that
-/// few scores stand side by side. With 2 by 2 bits what is done once for each score weighs most.
+/// few scores stand side by side. With 3 by 3 bits what is done once for each score weighs most; there are 140 such codes of which no
+/// two are alike, and 136 markers on 16 rows and 17 columns.
 const CASES: [(Board, Size); 10] = [
     (([5, 7], 4), [5, 4]),
     (([12, 9], 4), [5, 10]),
@@ -28,7 +29,7 @@ const CASES: [(Board, Size); 10] = [
     (([32, 32], 4), [1, 1]),
     (([32, 32], 6), [1, 1]),
     (([32, 32], 4), [32, 8]),
-    (([32, 32], 2), [16, 16]),
+    (([16, 17], 3), [8, 8]),
 ];
 
 fn name(([rows, cols], bits): Board, [width, height]: Size) -> String {

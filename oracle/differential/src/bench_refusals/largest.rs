@@ -3,10 +3,11 @@
 //! Nothing bounds the number of cells before question 12. So all records up to there but that for 11 have the most bytes that
 //! question 21 allows. They are filled up with cells that are not sampled: these have the fewest bytes, and question 21 goes
 //! over all of them. Settings and a table are given, and codes as far as they are read, since each takes longer than the
-//! cells that have as many bytes.
+//! cells that have as many bytes. The codes are random ones of 8 by 8 bits, of which no two are alike: question 22 turns 512 of
+//! them, which takes longest for the largest side, and puts the least turns in order.
 
 use cases::cells::Cell as Grid;
-use cases::codes::random_code;
+use cases::codes::{random_different_codes, turned_code};
 use cases::prng::Prng;
 use matches::MOST_PLACES;
 use matches::given::Given;
@@ -53,10 +54,12 @@ pub fn asked() -> Vec<Asked> {
 /// The map byte of a record that gives every setting and the table.
 const ALL: u8 = 15;
 
+const BITS: u8 = 8;
+
 /// The most codes that question 6 lets pass. Question 8 goes over all of them.
 const MOST_CODES: usize = 1024;
 
-/// The most codes that markers have. No question before 8 reads more.
+/// The most codes that markers have. No question before 8 reads more, nor does 22.
 const MARKER_CODES: usize = 512;
 
 const MOST_CELLS: usize = 256;
@@ -69,9 +72,14 @@ fn without_cells(codes: usize) -> Shot {
         map: ALL,
         rows: 32,
         cols: 32,
-        codes: vec![1; codes],
+        bits: BITS,
+        codes: random_codes(codes),
         ..Shot::default()
     }
+}
+
+fn random_codes(count: usize) -> Vec<u64> {
+    random_different_codes(&mut Prng::new(17), BITS, count)
 }
 
 /// A cell at the origin that is sampled.
@@ -110,7 +118,7 @@ fn a_byte_more() -> Asked {
 type Fault = (u32, &'static str, usize, fn(&mut Shot));
 
 /// Where a question goes over many values, the last one is wrong.
-const FAULTS: [Fault; 10] = [
+const FAULTS: [Fault; 11] = [
     (1, "one column", MARKER_CODES, |shot| shot.cols = 1),
     (2, "cell_size NaN", MARKER_CODES, |shot| {
         shot.cell_size = f32::NAN.to_bits();
@@ -122,8 +130,19 @@ const FAULTS: [Fault; 10] = [
     (5, "no code", 0, |_| ()),
     (6, "33 columns", MARKER_CODES, |shot| shot.cols = 33),
     (7, "a code too few", MARKER_CODES - 1, |_| ()),
+    // No code of 8 by 8 bits is too large.
     (8, "the last code too large", MOST_CODES, |shot| {
-        shot.codes[MOST_CODES - 1] = 1 << (shot.bits * shot.bits);
+        shot.bits = 7;
+        for code in &mut shot.codes {
+            *code >>= 15;
+        }
+        shot.codes[MOST_CODES - 1] = 1 << 49;
+    }),
+    (22, "the last two markers alike", MOST_CODES, |shot| {
+        let [.., before, last] = &mut shot.codes[..MARKER_CODES] else {
+            unreachable!("there are two")
+        };
+        *last = turned_code(*before, BITS, 1);
     }),
     (9, "px_per_square NaN", MOST_CODES, |shot| {
         shot.px_per_square = f32::NAN.to_bits();
@@ -149,14 +168,14 @@ fn too_many_cells() -> Asked {
 /// room for, and they are the last.
 fn most_cells() -> Shot {
     let mut shot = without_cells(0);
-    [shot.bits, shot.border] = [8, 4];
+    shot.border = 4;
     shot.cells = vec![UNSAMPLED; MOST_CELLS];
     let room = LONGEST - write(&shot).bytes.len();
     let bytes = SAMPLE + shot.greys();
     let mut counts = (MARKER_CODES..=MOST_CODES).rev();
     let codes = counts.find(|codes| (room - 8 * codes).is_multiple_of(bytes));
     let codes = codes.expect("some number of codes leaves whole cells");
-    shot.codes = vec![1; codes];
+    shot.codes = random_codes(codes);
     let cell = sampled(&shot);
     shot.cells[MOST_CELLS - (room - 8 * codes) / bytes..].fill(cell);
     shot
@@ -184,11 +203,10 @@ fn from_13() -> [Asked; 3] {
 /// 16, 17 and a match: 256 cells of 8 by 8 bits at one point, which have 4,096 placements. No larger record has as much to
 /// search: with a border of 4 the grids alone would have 65,536 bytes.
 fn largest_searches() -> [Asked; 3] {
-    let mut prng = Prng::new(17);
-    let size = [8, 3];
-    let mut placed = without_cells(0);
-    [placed.bits, placed.border] = size;
-    placed.codes = prng.many(MOST_CODES, |prng| random_code(prng, 8));
+    let mut prng = Prng::new(18);
+    let size = [BITS, 3];
+    let mut placed = without_cells(MOST_CODES);
+    placed.border = size[1];
     let code = placed.codes[0];
     placed.cells = prng.many(MOST_CELLS, |prng| {
         let Grid {

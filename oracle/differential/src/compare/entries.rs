@@ -9,6 +9,11 @@ use cases::corner_lists::{
 };
 use cases::prng::Prng;
 
+/// The numbers of the corner entry's answers, in the order of its questions.
+const CORNERS: [u32; 12] = [0, 1, 2, 3, 4, 5, 6, 7, 8, 22, 18, 14];
+
+const LOOK_ALIKES: usize = 12_000;
+
 pub fn cells() -> Vec<Subject> {
     let mut prng = Prng::new(5);
     let groups = [
@@ -28,9 +33,13 @@ pub fn cells() -> Vec<Subject> {
 }
 
 pub fn corners() -> Vec<Subject> {
-    let unmarked = corners_of("corners", 7, false);
-    let marked = corners_of("corners, legacy boards", 37, true);
-    [unmarked, marked].concat()
+    [
+        corners_of("corners", 7, false),
+        corners_of("corners, legacy boards", 37, true),
+        look_alikes("corners, look-alikes", 42, false),
+        look_alikes("corners, look-alikes, legacy boards", 43, true),
+    ]
+    .concat()
 }
 
 fn corners_of(name: &'static str, seed: u64, legacy: bool) -> Vec<Subject> {
@@ -48,7 +57,18 @@ fn corners_of(name: &'static str, seed: u64, legacy: bool) -> Vec<Subject> {
         input.board.legacy_pattern = legacy;
         input
     });
-    compare_all(name, &[0, 1, 2, 3, 4, 5, 6, 7, 8, 18, 14], inputs)
+    compare_all(name, &CORNERS, inputs)
+}
+
+/// Boards with codes that are alike (document 02, 2.2).
+fn look_alikes(name: &'static str, seed: u64, legacy: bool) -> Vec<Subject> {
+    let mut prng = Prng::new(seed);
+    let inputs = prng.many(LOOK_ALIKES, corner_entry::on_look_alikes);
+    let inputs = inputs.into_iter().map(|mut input| {
+        input.board.legacy_pattern = legacy;
+        input
+    });
+    compare_all(name, &CORNERS, inputs)
 }
 
 /// Which boards are refused, and with which number: the corner entry with no corners, so that no question of the entry itself
@@ -66,5 +86,5 @@ pub fn refusals() -> Vec<Subject> {
 
 fn refusals_of(name: &'static str, boards: Vec<BoardArguments>) -> Vec<Subject> {
     let inputs = boards.into_iter().map(CornerInput::without_corners);
-    compare_all(name, &[0, 1, 2, 3, 4, 5, 6, 7, 8], inputs)
+    compare_all(name, &[0, 1, 2, 3, 4, 5, 6, 7, 8, 22], inputs)
 }

@@ -5,22 +5,29 @@ use crate::entry::Entry;
 use crate::subject::Subject;
 use cases::answer::Answer;
 use cases::link_entry::{
-    WORDS_OF_A_VIOLATION, most_of_one_link, of_most_links, on_changed_boards, pairs_of_refusals,
-    random_input, single_changes, whole_board,
+    self, LinkInput, WORDS_OF_A_VIOLATION, most_of_one_link, of_most_links, on_changed_boards,
+    pairs_of_refusals, random_input, single_changes, whole_board,
 };
 use cases::prng::Prng;
 use theirs::unordered;
 
+const LOOK_ALIKES: usize = 12_000;
+
 pub fn compare() -> Vec<Subject> {
-    let unmarked = compare_all("links", 8, false);
-    let marked = compare_all("links, legacy boards", 38, true);
-    [unmarked, marked].concat()
+    let look_alikes = |seed: u64| Prng::new(seed).many(LOOK_ALIKES, link_entry::on_look_alikes);
+    [
+        compare_all("links", false, inputs(8, false)),
+        compare_all("links, legacy boards", true, inputs(38, true)),
+        // Boards with codes that are alike (document 02, 2.2).
+        compare_all("links, look-alikes", false, look_alikes(44)),
+        compare_all("links, look-alikes, legacy boards", true, look_alikes(45)),
+    ]
+    .concat()
 }
 
-/// A kind of violation that never comes up is a failure of the inputs.
-fn compare_all(name: &'static str, seed: u64, legacy: bool) -> Vec<Subject> {
+fn inputs(seed: u64, legacy: bool) -> Vec<LinkInput> {
     let mut prng = Prng::new(seed);
-    let mut groups = [
+    let groups = [
         single_changes(),
         most_of_one_link(),
         pairs_of_refusals(),
@@ -29,14 +36,19 @@ fn compare_all(name: &'static str, seed: u64, legacy: bool) -> Vec<Subject> {
         prng.many(2_000, |prng| whole_board(prng, legacy)),
         of_most_links(&mut prng, legacy),
     ];
-    let mut entry = Entry::new(name, &[0, 1, 2, 3, 4, 5, 6, 7, 8, 19, 14]);
+    groups.concat()
+}
+
+/// A kind of violation that never comes up is a failure of the inputs.
+fn compare_all(name: &'static str, legacy: bool, inputs: Vec<LinkInput>) -> Vec<Subject> {
+    let mut entry = Entry::new(name, &[0, 1, 2, 3, 4, 5, 6, 7, 8, 22, 19, 14]);
     let mut against_rust = Subject::new(format!("{name}, without order against the Rust"));
     let rules_name = format!("{name}, the rules without order against the Rust");
     let mut against_rules = Subject::new(rules_name);
     let mut of_kinds = [0; 5];
-    for input in groups.iter_mut().flatten() {
+    for mut input in inputs {
         input.board.legacy_pattern = legacy;
-        let input = &*input;
+        let input = &input;
         let both = entry.compare(input, input);
         let rust = theirs::links_by_rust(input);
         for violation in rust.iter().flatten() {

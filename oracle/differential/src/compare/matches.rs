@@ -1,9 +1,11 @@
 //! The match: its answer, every word of the lent list, and what the program `place` prints.
 
+mod look_alikes;
 mod program;
 
 use crate::entry::{Both, Entry};
 use crate::subject::{Bytes, Subject};
+use look_alikes::LookAlikes;
 use matches::given::{Given, KINDS, Kind, LEGACY_KINDS};
 use matches::{Compared, by_rust_and_model, by_turned_rust_and_model, told};
 use records::REFUSED;
@@ -13,8 +15,8 @@ pub use program::compare as compare_program;
 
 /// The numbers of the answers, in the order of the questions; 0 is a match.
 #[rustfmt::skip]
-const NUMBERS: [u32; 19] = [
-    0, REFUSED, 1, 2, 3, 4, 5, 6, 7, 8, 9, 10, 11, 12, 13, 14, 15, 16, 17,
+const NUMBERS: [u32; 20] = [
+    0, REFUSED, 1, 2, 3, 4, 5, 6, 7, 8, 22, 9, 10, 11, 12, 13, 14, 15, 16, 17,
 ];
 
 pub fn compare() -> Vec<Subject> {
@@ -29,6 +31,7 @@ pub fn compare() -> Vec<Subject> {
 fn compare_kinds(name: &'static str, kinds: &[Kind], turned: &mut Turned) -> Vec<Subject> {
     let mut entry = Entry::new(name, &NUMBERS);
     let mut rules = Subject::new(format!("{name}, the rules against the Rust"));
+    let mut look_alikes = LookAlikes::new(name);
     let mut subjects = Vec::new();
     for kind in kinds {
         let mut of_kind = Subject::new(format!("{name}, {}", kind.name));
@@ -52,11 +55,15 @@ fn compare_kinds(name: &'static str, kinds: &[Kind], turned: &mut Turned) -> Vec
             if let Some(both) = by_turned_rust_and_model(&read.shot) {
                 turned.check(both, &asked);
             }
+            if ours.number == 22 {
+                look_alikes.check(&read.shot, &asked);
+            }
         }
         subjects.push(of_kind);
     }
     subjects.extend(entry.subjects());
     subjects.push(rules);
+    subjects.extend(look_alikes.subjects());
     subjects
 }
 

@@ -4,6 +4,7 @@ use super::Given;
 use super::numbers::odd_entries;
 use super::scene::{Look, Scene, markers_of};
 use crate::answer::MARKER_WORDS;
+use cases::boards::Pair;
 use cases::floats::{ABOVE_1, BAD_CELL_SIZES, BAD_MARKER_SIZES, INF, LEAST, MAX, NAN, NOT_FINITE};
 use cases::prng::Prng;
 use cases::tables::PLACES;
@@ -18,7 +19,7 @@ struct Faulty {
 type Fault = fn(&mut Prng, &mut Faulty);
 
 /// By the number of the question, in the order in which they are asked.
-const FAULTS: [Fault; 18] = [
+const FAULTS: [Fault; 19] = [
     |_, faulty| faulty.is_broken = true,
     |prng, Faulty { shot, .. }| {
         let size = prng.below(2) as u8;
@@ -50,6 +51,15 @@ const FAULTS: [Fault; 18] = [
         if let Some(code) = shot.codes.get_mut(place) {
             *code |= 1u64.checked_shl(bit).unwrap_or(0);
         }
+    },
+    |prng, Faulty { shot, .. }| {
+        // The first two markers, or the first and the last.
+        let last = markers_of(shot.rows, shot.cols).saturating_sub(1);
+        let pair = Pair {
+            places: prng.pick(&[[0, 1], [0, last], [last, 0]]),
+            turn: prng.below(4) as u8,
+        };
+        pair.plant(&mut shot.codes, shot.bits.min(8));
     },
     |prng, Faulty { shot, .. }| {
         let odd = prng.pick(&NOT_FINITE).to_bits();
@@ -109,12 +119,18 @@ const BAD_FRACTIONS: [f32; 8] = [-LEAST, -0.5, ABOVE_1, 2.0, MAX, INF, -INF, NAN
 
 /// One fault, or two of which the later question goes unasked.
 pub fn given(prng: &mut Prng, legacy: bool) -> Given {
+    let shot = Scene::random(prng, legacy).shot(prng, Look::Clear);
+    with_faults(prng, shot, 2)
+}
+
+/// So many faults of any questions.
+pub fn with_faults(prng: &mut Prng, shot: Shot, count: usize) -> Given {
     let mut faulty = Faulty {
-        shot: Scene::random(prng, legacy).shot(prng, Look::Clear),
+        shot,
         is_list_short: false,
         is_broken: false,
     };
-    for _ in 0..2 {
+    for _ in 0..count {
         prng.pick(&FAULTS)(prng, &mut faulty);
     }
     faulty.given(prng)

@@ -1,8 +1,8 @@
 //! A board of which some squares are seen, under a turn and a translation: the true placement of the shot made from it.
 
-use crate::model::{turned_code, turned_point};
+use crate::model::turned_point;
 use cases::cells::Cell as Grid;
-use cases::codes::random_code;
+use cases::codes::{most_different, random_code, random_different_codes, turned_code};
 use cases::corner_lists::rectangle;
 use cases::floats::random_fraction;
 use cases::layout::marker_squares;
@@ -46,10 +46,16 @@ impl Scene {
         Self::of_board(prng, size, legacy).with_part_seen(prng)
     }
 
-    /// Nothing of it is seen yet. Most codes are of 2 to 5 bits a side.
+    /// Nothing of it is seen yet. Most codes are of 2 to 5 bits a side, as far as the side has so many that no two markers are
+    /// alike; those past the last marker are any.
     pub fn of_board(prng: &mut Prng, [rows, cols]: [u8; 2], legacy: bool) -> Self {
-        let bits = prng.pick(&[1, 2, 2, 3, 3, 4, 4, 4, 5, 6, 7, 8]);
-        let markers = markers_of(rows, cols) + prng.pick(&[0, 0, 0, 1, 3]);
+        let markers = markers_of(rows, cols);
+        let mut sides = vec![1, 2, 2, 3, 3, 4, 4, 4, 5, 6, 7, 8];
+        sides.retain(|&bits| markers <= most_different(bits));
+        let bits = prng.pick(&sides);
+        let mut codes = random_different_codes(prng, bits, markers);
+        let more = prng.pick(&[0, 0, 0, 1, 3]);
+        codes.extend(prng.many(more, |prng| random_code(prng, bits)));
         let far = prng.pick(&[1, 3, 40, 4000]);
         Self {
             rows,
@@ -59,7 +65,7 @@ impl Scene {
             border: prng.pick(&[1, 1, 1, 2, 3, 4]),
             turn: prng.below(4) as u8,
             translation: prng.two(|prng| prng.below(2 * far + 1) as i32 - far as i32),
-            codes: prng.many(markers, |prng| random_code(prng, bits)),
+            codes,
             squares: Vec::new(),
         }
     }
@@ -128,7 +134,7 @@ impl Scene {
             (Look::Noisy, Some(_)) if is_odd_one => Grid::random(prng, size),
             (Look::Random, _) => Grid::random(prng, size),
             (_, Some(code)) => {
-                let code = turned_code(code, self.bits.into(), self.turn);
+                let code = turned_code(code, self.bits, self.turn);
                 Grid::showing(prng, size, code)
             }
             (_, None) => plain(prng, size),

@@ -1,7 +1,9 @@
-//! Shots in which placements tie: codes, grids or cells that are alike.
+//! Shots in which placements tie: grids or cells that are alike, markers that look the same when they are turned. No two markers
+//! are alike; codes past the last marker may be like any.
 
-use super::scene::{Look, Scene};
-use cases::codes::{all_ones, patterns};
+use super::scene::{Look, Scene, markers_of};
+use cases::cells::Cell as Grid;
+use cases::codes::{least_turn, patterns};
 use cases::floats::NORMAL;
 use cases::prng::Prng;
 use records::{Sample, Shot};
@@ -10,9 +12,9 @@ type Change = fn(&mut Prng, &mut Shot);
 
 /// What makes placements alike.
 const CHANGES: [Change; 10] = [
-    equal_codes,
-    codes_that_turns_keep,
-    two_codes,
+    unused_codes,
+    a_code_that_turns_keep,
+    cells_that_turns_keep,
     equal_grids,
     two_grids,
     |_, shot| for_each_grey(shot, |threshold| threshold),
@@ -38,20 +40,34 @@ fn any_margin(prng: &mut Prng, shot: &mut Shot) {
     shot.set_minimum_margin(prng.pick(&[0.0, -0.0, -1.0, NORMAL]));
 }
 
-fn equal_codes(_: &mut Prng, shot: &mut Shot) {
-    let first = shot.codes[0];
-    shot.codes.fill(first);
+/// Codes past the last marker that are like those of markers, and all the same.
+fn unused_codes(prng: &mut Prng, shot: &mut Shot) {
+    let code = prng.pick(&shot.codes);
+    shot.codes.truncate(markers_of(shot.rows, shot.cols));
+    let used = shot.codes.clone();
+    shot.codes.extend(used.iter().take(3));
+    shot.codes.extend([code; 2]);
 }
 
-/// No bit, every bit, or one of the checkers.
-fn codes_that_turns_keep(prng: &mut Prng, shot: &mut Shot) {
-    let patterns = patterns(shot.bits);
-    shot.codes = shot.codes.iter().map(|_| prng.pick(&patterns)).collect();
+/// A marker gets no bit, every bit, or one of the checkers, unless that is like another marker.
+fn a_code_that_turns_keep(prng: &mut Prng, shot: &mut Shot) {
+    let bits = shot.bits;
+    let code = prng.pick(&patterns(bits));
+    let markers = &mut shot.codes[..markers_of(shot.rows, shot.cols)];
+    let is_like = |other: &u64| least_turn(*other, bits) == least_turn(code, bits);
+    if !markers.iter().any(is_like) {
+        markers[prng.place(markers.len())] = code;
+    }
 }
 
-fn two_codes(prng: &mut Prng, shot: &mut Shot) {
-    let two = [shot.codes[0], all_ones(shot.bits) ^ shot.codes[0]];
-    shot.codes = shot.codes.iter().map(|_| prng.pick(&two)).collect();
+/// Every cell shows a checker, no bit or every bit, so that turns of one marker tie.
+fn cells_that_turns_keep(prng: &mut Prng, shot: &mut Shot) {
+    let [bits, border] = [shot.bits, shot.border];
+    let code = prng.pick(&patterns(bits));
+    for sample in shot.samples_mut() {
+        let grid = Grid::of_code([bits, border], sample.threshold, code);
+        sample.grid = grid.grid;
+    }
 }
 
 fn equal_grids(prng: &mut Prng, shot: &mut Shot) {

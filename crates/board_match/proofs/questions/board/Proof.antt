@@ -1,19 +1,25 @@
--- `board_match::questions::board` meets its contract: the questions up to 7, then 8. Assumes nothing.
-use mathlib.Core.Path.{_≡_, sym, ap₂, _∙_}
+-- `board_match::questions::board` meets its contract: the questions up to 7, then 8 and 22. Assumes nothing.
+use mathlib.Core.Path.{_≡_, sym, ap, ap₂, _∙_}
+use mathlib.Core.Bool.{not}
 use mathlib.Core.List.{List}
 use Prim.Native.Nat.{ℕ, _+_, _*_}
-use lib.ListN.{length}
+use native.Mathlib.Omega.{arith}
+use lib.ListN.{length, getD}
 use borrow.Author.Needs.{needs}
-use borrow.Author.Tests.{not-true, not-false}
 use Rattle.board.specs.declared.CharucoBoardSpec.{CharucoBoardSpec}
 use Rattle.board.specs.declared.Board.{Board}
 use Rattle.board.specs.declared.NewBoard.the-variants as new
-use Rattle.board.specs.Questions.{sizedBoard}
-use Rattle.board.proofs.Asked.{sized-bits, then-codes, sized-refused}
+use Rattle.alike.specs.Alike.{twoAlike}
+use Rattle.alike.specs.Quarters.{lesser}
+use Rattle.alike.proofs.Laws.{past-the-last}
+use Rattle.board.specs.Layout.{markerTotal}
+use Rattle.board.specs.Questions.{sizedBoard, apartAnswer}
+use Rattle.board.proofs.Asked.{sized-bits, sized-few, sized-count, then-codes, sized-refused}
 use Rattle.shot_record.specs.Fields.{number, codesAt, codeCount}
 use Rattle.shot_record.specs.Shots.{shot}
 use Rattle.shot_record.specs.Answers.{specOf}
-use Rattle.shot_record.proofs.Lists.{length-list}
+use Rattle.shot_record.proofs.Lists.{length-list, getD-list}
+use Rattle.hypothesis.specs.Inputs.{firstCodes}
 use Rattle.shot_record.proofs.Reading.{found}
 use Rattle.board_match.proofs.questions.board.Statement.{statement}
 use Rattle.board_match.proofs.questions.board.Tie as tie
@@ -50,25 +56,38 @@ codes-below-requires c κs =
     let x = a .before .before .before in
     (x .pre .0, bits .0, bits .1, x .pre .1)
 
-returns : tie.Need-returns
-returns c =
+judged-requires : tie.Need-judged-requires
+judged-requires c κs =
     let m = c .before .before .before in
     let a = m .before .before in
-    then-codes (spec a) (codes a) (board m) _ _ (board-made m) (not-true _ (c .if1 .taken)) (c .before .codes-below .ensures)
+    sized-bits (spec a) (length (codes a)) (board m) (sym (board-made m))
+
+-- the first 512 codes have all that markers use
+apart : (c : tie.After-sized2) (first : List ℕ) → first ≡ firstCodes (shot (bytes (c .before .before)))
+    → not (twoAlike (board c .bits) first (lesser (markerTotal (board c)) 512)) ≡ apartAnswer (board c) (codes (c .before .before))
+apart c first e =
+    let a = c .before .before in
+    let b = board c in
+    let made = sym (board-made c) in
+    ap₂ (λ (l : List ℕ) (n : ℕ). not (twoAlike (b .bits) l n)) e (sized-count (spec a) (length (codes a)) b made)
+    ∙ ap not (past-the-last (b .bits) (firstCodes (shot (bytes a))) (codes a) (markerTotal b)
+    (λ k l. getD-list (λ (j : ℕ). getD (codes a) j 0) 512 k 0 (omega (arith, l, sized-few (spec a) (length (codes a)) b made))))
+
+returns : tie.Need-returns
+returns c =
+    let below = c .before .before in
+    let m = below .before .before in
+    let a = m .before .before in
+    let x = a .before .before .before in
+    c .judged .ensures ∙ then-codes (spec a) (codes a) (board m) _ _ (board-made m) (below .codes-below .ensures) (apart m _ (x .pre .1))
 
 returns-2 : tie.Need-returns-2
 returns-2 c =
-    let m = c .before .before .before in
-    let a = m .before .before in
-    then-codes (spec a) (codes a) (board m) _ _ (board-made m) (not-false _ (c .if1 .left)) (c .before .codes-below .ensures)
-
-returns-3 : tie.Need-returns-3
-returns-3 c =
     let r = c .before in
     let a = r .before .before in
     sized-refused (spec a) (codes a) _ (sym (r .sized3 .given .1) ∙ answer a)
 
 pub board-spec : {M : Type 1} → statement M
 board-spec =
-    tie.close (tie.spec (λ c κs. search needs) (λ c κs. tt) (λ c. search needs) codes-below-requires returns (λ c. search needs) returns-2
-    returns-3)
+    tie.close (tie.spec (λ c κs. search needs) (λ c κs. tt) (λ c. search needs) codes-below-requires judged-requires (λ c. search needs) returns
+    returns-2)

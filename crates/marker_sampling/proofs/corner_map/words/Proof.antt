@@ -7,7 +7,7 @@ use lib.ListN.{length, length-set}
 use borrow.Author.Needs.{needs}
 use Rattle.marker_sampling.specs.Keys.{Filled}
 use Rattle.marker_sampling.specs.Cells.{cornersOf}
-use Rattle.marker_sampling.proofs.Ordered.{word-of, filled-more}
+use Rattle.marker_sampling.proofs.InlierWords.{word-of, filled-more}
 use Rattle.marker_sampling.proofs.corner_map.words.Statement.{statement}
 use Rattle.marker_sampling.proofs.corner_map.words.Tie as tie
 

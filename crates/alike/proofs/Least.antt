@@ -1,0 +1,106 @@
+-- Codes are alike exactly if their least turns are equal. For every side above 0. Assumes nothing.
+use mathlib.Core.Path.{_≡_, refl, sym, ap, subst, _∙_}
+use mathlib.Core.Bool.{Bool, true, false, not, cond}
+use mathlib.Core.Logic.{_⊎_, inl, inr}
+use Prim.Native.Nat.{ℕ, suc, _+_, _*_, _%_, _^_, _≤_, _<_}
+use native.Mathlib.Nat.{le-antisymm, le-trans, zero-add, add-mul-mod-self-right, mul-comm}
+use native.Mathlib.Omega.{arith}
+use lib.Dec.{leb, T, leb→le, nleb→lt}
+use Rattle.matcher.specs.Codes.{turned}
+use Rattle.matcher.proofs.Turns.{each-turn, turned-turned, turns-mod, turned-below}
+use Rattle.alike.specs.Quarters.{quarters, lesser, leastTurn}
+use Rattle.alike.proofs.QuarterTurns.{quarters-determine}
+
+-- b is a after some turns
+pub record Alike (n a b : ℕ) : Type 0 where
+  pub turns : ℕ
+  pub same : turned n turns a ≡ turned n 0 b
+
+-- ---- the lesser of two
+pub record Lesser (a b x : ℕ) : Type 0 where
+  pub one : (x ≡ a) ⊎ (x ≡ b)
+  pub left : x ≤ a
+  pub right : x ≤ b
+
+pub is-lesser : (a b : ℕ) → Lesser a b (lesser a b)
+is-lesser a b = go (leb a b) (leb→le a b) (nleb→lt a b)
+  where
+    go : (t : Bool) → (T t → a ≤ b) → (T (not t) → b < a) → Lesser a b (cond t a b)
+    go true y n = record { one = inl refl; left = omega arith; right = y tt }
+    go false y n = let l = n tt in record { one = inr refl; left = omega arith; right = omega arith }
+
+-- ---- the least of the four turns
+module _ (n c : ℕ) where
+  abbrev after : ℕ → ℕ
+  after r = quarters n (turned n r c)
+
+  after-mod : (r : ℕ) → after (r % 4) ≡ after r
+  after-mod r = ap (quarters n) (turns-mod n r c)
+
+  abbrev first : Lesser (after 0) (after 1) (lesser (after 0) (after 1))
+  first = is-lesser (after 0) (after 1)
+
+  abbrev second : Lesser (after 2) (after 3) (lesser (after 2) (after 3))
+  second = is-lesser (after 2) (after 3)
+
+  abbrev both : Lesser (lesser (after 0) (after 1)) (lesser (after 2) (after 3)) (leastTurn n c)
+  both = is-lesser (lesser (after 0) (after 1)) (lesser (after 2) (after 3))
+
+  -- it is one of them
+  reached : (r : ℕ) × (leastTurn n c ≡ after r)
+  reached = go (both .one)
+    where
+      from : (i j x : ℕ) → (x ≡ after i) ⊎ (x ≡ after j) → leastTurn n c ≡ x → (r : ℕ) × (leastTurn n c ≡ after r)
+      from i j x (inl e) f = (i, f ∙ e)
+      from i j x (inr e) f = (j, f ∙ e)
+
+      go : (leastTurn n c ≡ lesser (after 0) (after 1)) ⊎ (leastTurn n c ≡ lesser (after 2) (after 3)) → (r : ℕ) × (leastTurn n c ≡ after r)
+      go (inl f) = from 0 1 (lesser (after 0) (after 1)) (first .one) f
+      go (inr f) = from 2 3 (lesser (after 2) (after 3)) (second .one) f
+
+  -- and below all others
+  under : (r : ℕ) → leastTurn n c ≤ after r
+  under r =
+      subst (λ (x : ℕ). leastTurn n c ≤ x) (after-mod r)
+      (each-turn (λ (s : ℕ). leastTurn n c ≤ after s) (le-trans (both .left) (first .left)) (le-trans (both .left) (first .right))
+      (le-trans (both .right) (second .left)) (le-trans (both .right) (second .right)) r)
+
+-- turns of b are turns of a
+module _ (n a b : ℕ) (alike : Alike n a b) where
+  abbrev r : ℕ
+  r = alike .turns
+
+  turns-of : (j : ℕ) → turned n j b ≡ turned n (r + j) a
+  turns-of j = ap (λ (k : ℕ). turned n k b) (sym (zero-add j)) ∙ sym (turned-turned n 0 j b) ∙ ap (turned n j) (sym (alike .same)) ∙ turned-turned n r j a
+
+  -- four times r turns are none
+  turns-back : (i : ℕ) → turned n (3 * r + i) b ≡ turned n i a
+  turns-back i =
+      turns-of (3 * r + i)
+      ∙ sym (turns-mod n (r + (3 * r + i)) a)
+      ∙ ap (λ (k : ℕ). turned n k a) (ap (λ (k : ℕ). k % 4) (omega arith) ∙ add-mul-mod-self-right i r 4)
+      ∙ turns-mod n i a
+
+  pub alike-least : leastTurn n a ≡ leastTurn n b
+  alike-least =
+      let x = reached n a in
+      let y = reached n b in
+      le-antisymm
+      (subst (λ (w : ℕ). leastTurn n a ≤ w) (sym (y .1 ∙ ap (quarters n) (turns-of (y .0)))) (under n a (r + y .0)))
+      (subst (λ (w : ℕ). leastTurn n b ≤ w) (sym (x .1 ∙ sym (ap (quarters n) (turns-back (x .0))))) (under n b (3 * r + x .0)))
+
+pub least-alike : (n a b : ℕ) → 0 < n → leastTurn n a ≡ leastTurn n b → Alike n a b
+least-alike n a b some e =
+    let x = reached n a in
+    let y = reached n b in
+    let i = x .0 in
+    let j = y .0 in
+    let met : turned n i a ≡ turned n j b =
+    quarters-determine n some (turned n i a) (turned n j b) (turned-below n i a) (turned-below n j b) (sym (x .1) ∙ e ∙ y .1) in
+    record {
+      turns = i + 3 * j;
+      same =
+          sym (turned-turned n i (3 * j) a) ∙ ap (turned n (3 * j)) met ∙ turned-turned n j (3 * j) b
+          ∙ sym (turns-mod n (j + 3 * j) b)
+          ∙ ap (λ (k : ℕ). turned n k b) (ap (λ (k : ℕ). k % 4) (omega arith) ∙ add-mul-mod-self-right 0 j 4);
+    }

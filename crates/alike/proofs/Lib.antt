@@ -1,0 +1,3 @@
+pub mod QuarterTurns
+pub mod Least
+pub mod Laws

@@ -1,0 +1,22 @@
+-- Document 02, 2.2: "two of different ids are equal after some number of quarter turns".
+use Prim.Native.Nat.{ℕ, zero, suc}
+use mathlib.Core.Bool.{Bool, false, not, _&&_, _||_}
+use mathlib.Core.List.{List}
+use lib.Dec.{eqb}
+use lib.ListN.{getD}
+use Rattle.matcher.specs.Codes.{turned}
+
+-- does one of 0 to n − 1 pass?
+unfoldable pub anyBelow : (ℕ → Bool) → ℕ → Bool
+anyBelow passes zero = false
+anyBelow passes (suc n) = passes n || anyBelow passes n
+
+-- Is code b code a after some number of quarter turns, none included? After no turn a code of side n is itself, without any bits beyond those of the
+-- side (question 8 lets no such code pass).
+abbrev pub alike : ℕ → ℕ → ℕ → Bool
+alike n a b = anyBelow (λ (turns : ℕ). eqb (turned n turns a) (turned n 0 b)) 4
+
+-- Are two of the codes with different ids below a count alike? A code past the last counts as 0.
+abbrev pub twoAlike : ℕ → List ℕ → ℕ → Bool
+twoAlike n codes count =
+    anyBelow (λ (a : ℕ). anyBelow (λ (b : ℕ). not (eqb a b) && alike n (getD codes a 0) (getD codes b 0)) count) count

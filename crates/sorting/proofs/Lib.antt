@@ -1,0 +1,3 @@
+pub mod Rearranging
+pub mod Sifting
+pub mod Comparing
