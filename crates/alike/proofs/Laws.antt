@@ -1,22 +1,22 @@
 -- What a user relies on: which of two codes is named first makes no difference, nor does a code past the last marker; and where no two codes are
 -- alike, a code that is read exactly names at most one marker, whatever the turn. Assumes nothing.
-use mathlib.Core.Path.{_≡_, refl, sym, ap, ap₂, subst, _∙_}
+use mathlib.Core.Path.{_≡_, refl, sym, ap, ap₂, _∙_}
 use mathlib.Core.Bool.{Bool, true, false, not, _&&_, _||_, false≢true}
 use mathlib.Core.List.{List}
 use mathlib.Core.Logic.{_⊎_, inl, inr}
-use Prim.Native.Nat.{ℕ, zero, suc, _+_, _*_, _%_, _^_, _≤_, _<_}
-use native.Mathlib.Nat.{zero-add, mod-lt, add-mul-mod-self-right}
+use Prim.Native.Nat.{ℕ, zero, suc, _*_, _%_, _^_, _≤_, _<_}
+use native.Mathlib.Nat.{mod-lt}
 use native.Mathlib.Omega.{arith}
-use lib.Dec.{eqb, eqb→eq, lit<}
+use lib.Dec.{eqb, lit<}
 use lib.ListN.{getD}
-use borrow.Author.Tests.{eq-eqb, ne-eqb, eqb-true, eqb-false}
+use borrow.Author.Tests.{eq-eqb, ne-eqb, eqb-true, eqb-false, not-true}
 use Rattle.integers.proofs.Distances.{lt-or-le}
 use Rattle.matcher.specs.Codes.{turned}
-use Rattle.matcher.proofs.Turns.{turned-turned, turns-mod, turned-none}
+use Rattle.matcher.proofs.Turns.{turns-mod, turned-none}
 use Rattle.sorting.specs.Order.{AllDifferent, Repeated}
 use Rattle.alike.specs.Alike.{anyBelow, alike, twoAlike}
-use Rattle.alike.specs.Quarters.{leastTurn, HasLeast}
-use Rattle.alike.proofs.Least.{Alike, alike-least, least-alike}
+use Rattle.alike.specs.Quarters.{HasLeast}
+use Rattle.alike.proofs.Least.{Alike, met-alike, alike-least, least-alike}
 
 -- ---- one of 0 to n − 1
 or-true : (a b : Bool) → (a || b) ≡ true → (a ≡ true) ⊎ (b ≡ true)
@@ -61,17 +61,9 @@ is-alike n a b x =
     passes-any (λ (turns : ℕ). eqb (turned n turns a) (turned n 0 b)) 4 (r % 4) (mod-lt r (lit< tt))
     (eq-eqb (turned n (r % 4) a) (turned n 0 b) (turns-mod n r a ∙ x .same))
 
--- turned back: three times as many turns again
+-- turned back
 alike-back : (n a b : ℕ) → Alike n a b → Alike n b a
-alike-back n a b x =
-    let r = x .turns in
-    record {
-      turns = 3 * r;
-      same =
-          ap (λ (k : ℕ). turned n k b) (sym (zero-add (3 * r))) ∙ sym (turned-turned n 0 (3 * r) b) ∙ ap (turned n (3 * r)) (sym (x .same)) ∙ turned-turned n r (3 * r) a
-          ∙ sym (turns-mod n (r + 3 * r) a)
-          ∙ ap (λ (k : ℕ). turned n k a) (ap (λ (k : ℕ). k % 4) (omega arith) ∙ add-mul-mod-self-right 0 r 4);
-    }
+alike-back n a b x = met-alike n b a 0 (x .turns) (sym (x .same))
 
 pub either-way : (n a b : ℕ) → alike n a b ≡ alike n b a
 either-way n a b = go (alike n a b) (alike n b a) refl refl
@@ -107,10 +99,6 @@ module _ (n : ℕ) (codes : List ℕ) (count : ℕ) where
   and-true true false e = absurd (false≢true e)
   and-true false b e = absurd (false≢true e)
 
-  not-is : (a : Bool) → not a ≡ true → a ≡ false
-  not-is true e = absurd (false≢true e)
-  not-is false e = refl
-
   pub two-are : twoAlike n codes count ≡ true → TwoAlike
   two-are e =
       let x = any-passes (λ (a : ℕ). anyBelow (pair a) count) count e in
@@ -121,7 +109,7 @@ module _ (n : ℕ) (codes : List ℕ) (count : ℕ) where
         second = y .0;
         first-used = x .1;
         second-used = y .1;
-        apart = eqb-false (x .0) (y .0) (not-is (eqb (x .0) (y .0)) (both .0));
+        apart = eqb-false (x .0) (y .0) (not-true (eqb (x .0) (y .0)) (both .0));
         alike-codes = alike-is n (code (x .0)) (code (y .0)) (both .1);
       }
 
@@ -137,20 +125,10 @@ module _ (n : ℕ) (codes : List ℕ) (count : ℕ) where
   pub names-one : twoAlike n codes count ≡ false → (read a b r s : ℕ) → a < count → b < count → turned n r (code a) ≡ read → turned n s (code b) ≡ read → a ≡ b
   names-one passed read a b r s ha hb x y = go (eqb a b) refl
     where
-      back : turned n (s + 3 * s) (code b) ≡ turned n 0 (code b)
-      back =
-          sym (turns-mod n (s + 3 * s) (code b)) ∙ ap (λ (k : ℕ). turned n k (code b)) (ap (λ (k : ℕ). k % 4) (omega arith) ∙ add-mul-mod-self-right 0 s 4)
-
-      met : Alike n (code a) (code b)
-      met = record {
-        turns = r + 3 * s;
-        same = sym (turned-turned n r (3 * s) (code a)) ∙ ap (turned n (3 * s)) (x ∙ sym y) ∙ turned-turned n s (3 * s) (code b) ∙ back;
-      }
-
       go : (t : Bool) → eqb a b ≡ t → a ≡ b
       go true e = eqb-true a b e
       go false e =
-          let two = are-two (record { first = a; second = b; first-used = ha; second-used = hb; apart = eqb-false a b e; alike-codes = met }) in
+          let two = are-two (record { first = a; second = b; first-used = ha; second-used = hb; apart = eqb-false a b e; alike-codes = met-alike n (code a) (code b) r s (x ∙ sym y) }) in
           absurd (false≢true (sym passed ∙ two))
 
   -- what is found by least turns

@@ -2,8 +2,8 @@
 use mathlib.Core.Path.{_≡_, refl, sym, ap, subst, _∙_}
 use mathlib.Core.Bool.{Bool, true, false, not, cond}
 use mathlib.Core.Logic.{_⊎_, inl, inr}
-use Prim.Native.Nat.{ℕ, suc, _+_, _*_, _%_, _^_, _≤_, _<_}
-use native.Mathlib.Nat.{le-antisymm, le-trans, zero-add, add-mul-mod-self-right, mul-comm}
+use Prim.Native.Nat.{ℕ, _+_, _*_, _%_, _≤_, _<_}
+use native.Mathlib.Nat.{le-antisymm, le-trans, zero-add, add-mul-mod-self-right}
 use native.Mathlib.Omega.{arith}
 use lib.Dec.{leb, T, leb→le, nleb→lt}
 use Rattle.matcher.specs.Codes.{turned}
@@ -15,6 +15,16 @@ use Rattle.alike.proofs.QuarterTurns.{quarters-determine}
 pub record Alike (n a b : ℕ) : Type 0 where
   pub turns : ℕ
   pub same : turned n turns a ≡ turned n 0 b
+
+-- codes of which some turns are equal are alike: j turns and three times j more are none
+pub met-alike : (n a b i j : ℕ) → turned n i a ≡ turned n j b → Alike n a b
+met-alike n a b i j met = record {
+  turns = i + 3 * j;
+  same =
+      sym (turned-turned n i (3 * j) a) ∙ ap (turned n (3 * j)) met ∙ turned-turned n j (3 * j) b
+      ∙ sym (turns-mod n (j + 3 * j) b)
+      ∙ ap (λ (k : ℕ). turned n k b) (ap (λ (k : ℕ). k % 4) (omega arith) ∙ add-mul-mod-self-right 0 j 4);
+}
 
 -- ---- the lesser of two
 pub record Lesser (a b x : ℕ) : Type 0 where
@@ -95,12 +105,5 @@ least-alike n a b some e =
     let y = reached n b in
     let i = x .0 in
     let j = y .0 in
-    let met : turned n i a ≡ turned n j b =
-    quarters-determine n some (turned n i a) (turned n j b) (turned-below n i a) (turned-below n j b) (sym (x .1) ∙ e ∙ y .1) in
-    record {
-      turns = i + 3 * j;
-      same =
-          sym (turned-turned n i (3 * j) a) ∙ ap (turned n (3 * j)) met ∙ turned-turned n j (3 * j) b
-          ∙ sym (turns-mod n (j + 3 * j) b)
-          ∙ ap (λ (k : ℕ). turned n k b) (ap (λ (k : ℕ). k % 4) (omega arith) ∙ add-mul-mod-self-right 0 j 4);
-    }
+    met-alike n a b i j
+    (quarters-determine n some (turned n i a) (turned n j b) (turned-below n i a) (turned-below n j b) (sym (x .1) ∙ e ∙ y .1))

@@ -1,4 +1,4 @@
--- What a C function answers: a number, 0 if the entry worked and else document 01's, and words in a list that is lent.
+-- What a C function answers: a number, 0 if the entry worked and else the refusal's, and words in a list that is lent.
 use Prim.Native.Nat.{ℕ, _%_, _^_}
 use mathlib.Core.Path.{_≡_}
 use mathlib.Core.Bool.{cond}

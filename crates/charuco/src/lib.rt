@@ -1,5 +1,5 @@
 // The interface: every entry with the types that it takes and gives, for Rattle callers under its own name and for C as `charuco_NAME`. None has a
-// `requires`. A C function answers with a number, 0 or that of document 01's refusal, and with words in a list that is lent;
+// `requires`. A C function answers with a number, 0 or that of the refusal, and with words in a list that is lent;
 // `include/charuco.h` has them word by word. Uses `lent_list`, `refusal`, `integers`, `floats`, `grid_alignment`, `board`, `score_matrix`,
 // `shot_record`, `marker_sampling`, `ranking`, `board_match`, `corner_mapping` and `link_check`.
 mod boards;
