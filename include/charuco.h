@@ -70,7 +70,7 @@
  *     1, if sampled   its threshold: a grey below it is black
  *     side * side,    its grid, grey bytes row by row, 0 black; side = bits + 2 * border, and bit (x, y) of a code is in column border + x and
  *      if sampled     row border + y
- *   Two cells may have the same (u, v).
+ *   A record with two cells of the same (u, v) is whole, and all its fields are read; a match refuses it (23).
  *
  * From a record to numbered corners
  *   1. charuco_match_board finds the placement. If it answers CHARUCO_OK, the record has at most CHARUCO_MAX_CODES codes and
@@ -147,7 +147,9 @@ enum {
     CHARUCO_TOO_MANY_LINKS = 19,              /* at most 4,096 links? */
     CHARUCO_TOO_MANY_CELLS = 20,              /* at most 256 whole cells? */
     CHARUCO_INVALID_RECORD = 21,              /* at most 65,535 bytes, no field cut short, spare bits 0, and nothing after the last field? */
-    CHARUCO_CODES_ALIKE = 22                  /* are no two codes of markers equal after some number of quarter turns? asked after 8, before 9 */
+    CHARUCO_CODES_ALIKE = 22,                 /* are no two codes of markers equal after some number of quarter turns? asked after 8, before 9 */
+    CHARUCO_REPEATED_POINT = 23               /* is no point filed twice: have no two cells, sampled or not, the same (u, v)? asked after 12,
+                                                 before 13 */
 };
 
 /* Words in `values`. */
@@ -195,7 +197,7 @@ enum {
 #define CHARUCO_STACK_CELL 216
 #define CHARUCO_STACK_GRID 504
 #define CHARUCO_STACK_BUILD_MARKER_CELLS 22616
-#define CHARUCO_STACK_MATCH_BOARD 20520
+#define CHARUCO_STACK_MATCH_BOARD 21032
 #define CHARUCO_STACK_MAP_CHARUCO_CORNERS 6728
 #define CHARUCO_STACK_VALIDATE_MARKER_CORNER_LINKS 37416
 
@@ -275,7 +277,7 @@ uint32_t charuco_build_marker_cells(const float *scores, size_t scores_len,
                                     uint32_t *values, size_t values_len);
 
 /*
- * Match: where the board lies under the cells of a shot record. Asks 21, 1 to 8, 22, 9 to 17.
+ * Match: where the board lies under the cells of a shot record. Asks 21, 1 to 8, 22, 9 to 12, 23, 13 to 17.
  * Every turn and translation that puts all cells on the board is a placement. Their order is by turn, then tx, then ty, rising.
  * A cell counts in a placement if it then lies on a square with a marker and its weight is above 0; an unsampled cell has weight 0. Its score
  * sums what the likelihood table gives for each bit of the marker's turned code, and its evidence is score + bits^2 * ln 2, in natural
@@ -287,9 +289,9 @@ uint32_t charuco_build_marker_cells(const float *scores, size_t scores_len,
  * runner-up's is no number, and above 1 where the runner-up's is far enough below 0. So it compares placements with each other, and says
  * nothing about the strength of the best, for which look at its evidence and its markers.
  * A marker is emitted for each cell that counts in the best placement and has an evidence above 0: rounding apart, a quotient above -ln 2.
- * markers, lent: the words of enum charuco_marker_word for each marker, in the order of their cells. Of two cells with the same (u, v) both
- * may be emitted, with the same id. 14 asks for CHARUCO_MARKER_WORDS words for each cell of the record, emitted or not;
- * CHARUCO_MAX_CELLS * CHARUCO_MARKER_WORDS are enough for every record.
+ * markers, lent: the words of enum charuco_marker_word for each marker, in the order of their cells. No two of them have the
+ * same id. 14 asks for CHARUCO_MARKER_WORDS words for each cell of the record, emitted or not; CHARUCO_MAX_CELLS * CHARUCO_MARKER_WORDS are
+ * enough for every record.
  * values: the words of enum charuco_match_word. A translation is signed.
  */
 uint32_t charuco_match_board(const uint8_t *bytes, size_t bytes_len,

@@ -103,7 +103,7 @@ class Match:
         self.scores = {}
 
     def questions(self):
-        """1 to 13 and 22. The program's list has a place for each of 256 cells, so 14 is always yes."""
+        """1 to 13, 22 and 23. The program's list has a place for each of 256 cells, so 14 is always yes."""
         s = self.shot
         ask(1, s.rows >= 2 and s.cols >= 2)
         ask(2, np.isfinite(s.cell_size) and s.cell_size > 0)
@@ -120,6 +120,8 @@ class Match:
         ask(10, all(-8 <= entry <= 0 for entry in s.table))
         ask(11, len(s.cells) > 0)
         ask(12, len(s.cells) <= 256 and all(abs(u) <= 4096 and abs(v) <= 4096 for u, v, _ in s.cells))
+        # document 02: after 12, before 13
+        ask(23, len({(u, v) for u, v, _ in s.cells}) == len(s.cells))
         ask(13, all(samples is None or 0 <= samples[0] <= 1 for _, _, samples in s.cells))
 
     def weight(self, samples):
@@ -225,9 +227,9 @@ class Match:
                 + "".join(markers))
 
 
-def model(data):
+def model(data, changed=lambda shot: shot):
     try:
-        return Match(Shot(data)).text()
+        return Match(changed(Shot(data))).text()
     except Refused as refusal:
         return str(refusal)
 
@@ -249,12 +251,11 @@ marker 0 0 0 0 0 0 0000000000000001 00000000
 
 
 def truth_rows():
-    """Per sheet its name, its true placement or None, and whether it is known to be placed wrongly."""
+    """Per sheet its name, its true placement or None, and the last word: `wrong`, `repeats` or ''."""
     for line in (HERE / "truth.tsv").read_text().splitlines():
         name, *placement = line.split("\t")
-        wrong = placement[3:] == ["wrong"]
-        placement = placement[:3] if wrong else placement
-        yield name, None if placement == ["none"] else tuple(int(number) for number in placement), wrong
+        word = placement.pop() if placement[3:] in (["wrong"], ["repeats"]) else ""
+        yield name, None if placement == ["none"] else tuple(int(number) for number in placement), word
 
 
 def without_table(data):
@@ -268,25 +269,39 @@ def without_mark(data):
     return bytes([data[0] & ~16]) + data[1:]
 
 
+def without_repeats(shot):
+    """The shot with the first cell at each point alone."""
+    first = {}
+    for u, v, samples in shot.cells:
+        first.setdefault((u, v), (u, v, samples))
+    shot.cells = list(first.values())
+    return shot
+
+
 def placement(text):
     """Turn, tx and ty of the line `best`, or None for a refusal."""
     return tuple(int(number) for number in text.splitlines()[1].split()[1:4]) if text.startswith("placed") else None
 
 
-def faults(name, truth, known_wrong):
+def faults(name, truth, word):
     """What does not hold of one sheet."""
     data = (HERE / f"{name}.shot").read_bytes()
     text = model(data)
     if text != (HERE / f"{name}.txt").read_text():
         yield "not the stored text"
-    if not (HERE / f"{name}.png").exists():
+    if word != "repeats" and not (HERE / f"{name}.png").exists():
         yield "no picture"
     placed = placement(text)
-    if known_wrong:
+    if word == "wrong":
         if placed is None or placed == truth:
             yield f"placed {placed}, and wrongly was expected: drawn {truth}"
         if truth not in [placement[:3] for placement in Match(Shot(data)).placements()]:
             yield f"drawn {truth}, which does not put every cell on the board"
+    elif word == "repeats":
+        if text != "refused 23\n":
+            yield f"{text.splitlines()[0]}, and refused 23 was expected"
+        if placement(model(data, without_repeats)) != truth:
+            yield f"without its repeats it is not placed at {truth}"
     elif placed != truth:
         yield f"placed {placed}, drawn {truth}"
     if data[0] & 8 and model(without_table(data)) == text:

@@ -3,9 +3,10 @@
 usage: python3 make_samples.py [--full] [directory]
 
 The sheets go to the given directory, or to the one of this file, each with a small picture, and `truth.tsv`: the
-placement that each picture was taken with. With --full the pictures that were sampled go there too, as NAME-full.png.
-All noise comes from fixed seeds, so a second run writes the same bytes. Nothing here comes from the library: boards,
-markers and codes are OpenCV's, the record is written from documents 01 and 02.
+placement that each picture was taken with. One sheet is another one with a cell filed twice, without a picture of its
+own. With --full the pictures that were sampled go there too, as NAME-full.png. All noise comes from fixed seeds, so a
+second run writes the same bytes. Nothing here comes from the library: boards, markers and codes are OpenCV's, the
+record is written from documents 01 and 02.
 """
 
 import math
@@ -204,6 +205,9 @@ def truth(shot, cells):
     return shot.turn, *shifts.pop()
 
 
+# A sheet with one cell of another one filed a second time, as its last: its name, the other sheet, and the cell, counted from 0.
+REPEATED, SOURCE, CELL = "repeated", "narrow", 7
+
 # The study's sheet is not made here. Its truth is the board's place in the study's picture.
 STUDY = "glare-two-squares\t0\t-33\t21\twrong\n"
 
@@ -232,6 +236,17 @@ def small(picture):
     return np.clip(np.rint(mean / 8) * 8, 0, 255).astype(np.uint8)
 
 
+def write_sheet(directory, name, shot, cells, word=""):
+    """Writes the record, and gives its row of truth.tsv."""
+    data = record(shot.asked, cells)
+    assert len(data) <= 65535
+    (directory / f"{name}.shot").write_bytes(data)
+    unsampled = sum(samples is None for _, _, samples in cells)
+    print(f"{name}: {len(data)} bytes, {len(cells)} cells, {unsampled} of them not sampled")
+    placed = "\t".join(str(number) for number in truth(shot, cells)) if shot.is_board else "none"
+    return f"{name}\t{placed}{word}\n"
+
+
 def main():
     words = sys.argv[1:]
     full = words[:1] == ["--full"]
@@ -241,13 +256,9 @@ def main():
     for make in SHOTS:
         shot = make()
         cells = shot.cells()
-        data = record(shot.asked, cells)
-        assert len(data) <= 65535
-        (directory / f"{shot.name}.shot").write_bytes(data)
-        placed = "\t".join(str(number) for number in truth(shot, cells)) if shot.is_board else "none"
-        rows.append(f"{shot.name}\t{placed}\n")
-        unsampled = sum(samples is None for _, _, samples in cells)
-        print(f"{shot.name}: {len(data)} bytes, {len(cells)} cells, {unsampled} of them not sampled")
+        rows.append(write_sheet(directory, shot.name, shot, cells))
+        if shot.name == SOURCE:
+            rows.append(write_sheet(directory, REPEATED, shot, [*cells, cells[CELL]], "\trepeats"))
         cv2.imwrite(str(directory / f"{shot.name}.png"), small(shot.picture), [cv2.IMWRITE_PNG_COMPRESSION, 9])
         if full:
             cv2.imwrite(str(directory / f"{shot.name}-full.png"), shot.picture)

@@ -125,20 +125,56 @@ static void check_mark(void)
     check(violations_with(1) == 0 && violations_with(256) == 0 && violations_with(UINT32_MAX) == 0, "a legacy pattern that is not 0 does not mark the board");
 }
 
-/* Document 01's record, with the built-in table and its cell twice: both show marker 0. */
+/* Document 01's record with the built-in table and its cell twice, at (u, v) and (x, y); the second is sampled or not. The fraction is 2, so that 13
+ * refuses every record that 23 lets through. How many bytes it has. */
+static size_t put_cells(int u, int v, int x, int y, int sampled)
+{
+    static const uint8_t front[] = {0, 2, 2, 2, 1, 0, 0, 128, 63, 0, 0, 0, 63, 2, 0, 1, 0, 0, 0, 0, 0, 0, 0, 15, 0, 0, 0, 0, 0, 0, 0, 2, 0};
+    static const uint8_t sample[] = {0, 0, 0, 64, 128, 0, 0, 0, 0, 0, 0, 255, 0, 0, 255, 255, 0, 0, 0, 0, 0};
+    const size_t first = sizeof front + 1, second = first + 4 + sizeof sample;
+    memcpy(record, front, sizeof front);
+    record[sizeof front] = sampled ? 3 : 1;
+    put_u16(first, (size_t)u);
+    put_u16(first + 2, (size_t)v);
+    put_u16(second, (size_t)x);
+    put_u16(second + 2, (size_t)y);
+    memcpy(record + first + 4, sample, sizeof sample);
+    memcpy(record + second + 4, sample, sizeof sample);
+    return second + 4 + (sampled ? sizeof sample : 0);
+}
+
+/* What a match says of these cells, with so many words lent. It refuses them, so the lists stay as they were. */
+static uint32_t match_cells(int u, int v, int x, int y, int sampled, size_t words)
+{
+    uint32_t markers[2 * CHARUCO_MARKER_WORDS] = {0}, match[CHARUCO_MATCH_WORDS] = {0};
+    static const uint32_t zeros[2 * CHARUCO_MARKER_WORDS];
+    uint32_t number = charuco_match_board(record, put_cells(u, v, x, y, sampled), markers, words, match, CHARUCO_MATCH_WORDS);
+    check(memcmp(markers, zeros, sizeof markers) == 0 && memcmp(match, zeros, sizeof match) == 0, "a refusal writes to a list");
+    return number;
+}
+
 static void check_same_cells(void)
 {
-    static const uint8_t front[] = {0, 2, 2, 2, 1, 0, 0, 128, 63, 0, 0, 0, 63, 2, 0, 1, 0, 0, 0, 0, 0, 0, 0, 15, 0, 0, 0, 0, 0, 0, 0, 2, 0, 3};
-    static const uint8_t cell[] = {0, 0, 0, 0, 0, 0, 128, 63, 128, 0, 0, 0, 0, 0, 0, 255, 0, 0, 255, 255, 0, 0, 0, 0, 0};
-    uint32_t markers[2 * CHARUCO_MARKER_WORDS], match[CHARUCO_MATCH_WORDS];
-    memcpy(record, front, sizeof front);
-    memcpy(record + sizeof front, cell, sizeof cell);
-    memcpy(record + sizeof front + sizeof cell, cell, sizeof cell);
-    check(charuco_match_board(record, sizeof front + 2 * sizeof cell, markers, 2 * CHARUCO_MARKER_WORDS, match, CHARUCO_MATCH_WORDS) == 0
-          && match[CHARUCO_MATCH_MARKERS] == 2, "two cells with one (u, v) are not both emitted");
-    for (uint32_t k = 0; k < 2; k++) {
-        const uint32_t *marker = markers + k * CHARUCO_MARKER_WORDS;
-        check(marker[CHARUCO_MARKER_CELL] == k && marker[CHARUCO_MARKER_ID] == 0, "the cells show another marker, or in another order");
+    const size_t room = 2 * CHARUCO_MARKER_WORDS;
+    uint32_t words[CHARUCO_HEADER_WORDS];
+    for (int k = 0; k < 625; k++) {
+        const int u = k % 5 - 2, v = k / 5 % 5 - 2, x = k / 25 % 5 - 2, y = k / 125 - 2;
+        const uint32_t number = u == x && v == y ? CHARUCO_REPEATED_POINT : CHARUCO_INVALID_SAMPLE;
+        check(match_cells(u, v, x, y, 1, room) == number && match_cells(u, v, x, y, 0, room) == number,
+              number == CHARUCO_REPEATED_POINT ? "a point that is filed twice passes" : "two points are refused as one");
+    }
+    check(match_cells(4096, -4096, 4096, -4096, 1, room) == CHARUCO_REPEATED_POINT, "a point far out that is filed twice passes");
+    check(match_cells(0, 4096, 1, -4096, 1, room) == CHARUCO_INVALID_SAMPLE && match_cells(4096, 0, -4096, 1, 1, room) == CHARUCO_INVALID_SAMPLE,
+          "the last point of a line is refused as the first of the next");
+    check(match_cells(4097, 0, 4097, 0, 1, room) == CHARUCO_CELLS_OUT_OF_RANGE, "23 is asked before 12");
+    check(match_cells(0, 0, 0, 0, 1, 0) == CHARUCO_REPEATED_POINT, "14 is asked before 23");
+    const size_t length = put_cells(-1, 2, -1, 2, 1);
+    check(charuco_read_header(record, length, words, CHARUCO_HEADER_WORDS) == 0 && words[CHARUCO_HEADER_CELLS] == 2, "two cells at one point are not read");
+    for (size_t k = 0; k < 2; k++) {
+        check(charuco_cell(record, length, k, words, CHARUCO_CELL_WORDS) == 0 && words[CHARUCO_CELL_STATE] == CHARUCO_CELL_SAMPLED
+              && words[CHARUCO_CELL_U] == UINT32_MAX && words[CHARUCO_CELL_V] == 2, "a cell whose point is filed twice is not read");
+        check(charuco_grid(record, length, k, words, CHARUCO_GRID_WORDS) == 0 && words[0] == length - 16 - (1 - k) * 25 && words[1] == 16,
+              "the grid of a cell whose point is filed twice is not read");
     }
 }
 

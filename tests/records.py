@@ -1,4 +1,4 @@
-"""Writes the shot records of tests/programs, from document 01 alone: python3 tests/records.py DIRECTORY
+"""Writes the shot records of tests/programs, from documents 01 and 02 alone: python3 tests/records.py DIRECTORY
 
 full.shot     256 cells, each with a marker that is read, on a board of 32 x 32 squares
 whole.shot    65,535 bytes, the longest record that question 21 lets through
@@ -6,6 +6,7 @@ longer.shot   one byte more, which question 21 refuses
 seven.shot    samples/lane4.shot with a board of 32 x 32 squares, for which its dictionary is too small
 neighbours.shot   samples/lane4.shot with a minimum margin that is the next float above its margin
 high.shot     samples/glare.shot with a minimum margin of 100
+unsampled.shot    samples/lane4.shot with an unsampled cell more, at the point of its last cell
 """
 
 import struct
@@ -98,6 +99,10 @@ def main(out):
     (out / "seven.shot").write_bytes(lane4[:1] + b"\x20\x20" + lane4[3:])
     (out / "neighbours.shot").write_bytes(b"\x01" + struct.pack("<I", 0x3F7E9301) + lane4[1:])
     (out / "high.shot").write_bytes(glare[:1] + struct.pack("<f", 100) + glare[5:])
+    # 15 cells become 16; each has 4 + 5 + 6 x 6 bytes, and the bit of the new one is clear
+    count = 15 + 8 * lane4[13]
+    assert lane4[count:count + 4] == b"\x0F\0\xFF\x7F" and len(lane4) == count + 4 + 15 * 45
+    (out / "unsampled.shot").write_bytes(lane4[:count] + b"\x10" + lane4[count + 1:] + lane4[-45:-41])
 
 
 if __name__ == "__main__":

@@ -167,6 +167,7 @@ pub struct Match {
     pub placements: usize,
     /// The alignment of the corners of the best placement.
     pub corners: Alignment,
+    /// In the order of their cells. No two have the same id.
     pub markers: Vec<Marker>,
 }
 

@@ -1,4 +1,4 @@
-//! The questions of document 01 that can be answered with no.
+//! The questions of documents 01 and 02 that can be answered with no.
 
 use std::error::Error;
 use std::fmt::{self, Display, Formatter};
@@ -35,6 +35,7 @@ pub enum Refusal {
     TooManyCells,
     InvalidRecord,
     CodesAlike,
+    RepeatedPoint,
     /// A number that this crate has no name for: the library is a later one.
     Unknown(u32),
 }
@@ -72,6 +73,7 @@ impl Refusal {
             20 => Self::TooManyCells,
             21 => Self::InvalidRecord,
             22 => Self::CodesAlike,
+            23 => Self::RepeatedPoint,
             _ => Self::Unknown(number),
         }
     }
@@ -100,13 +102,14 @@ impl Refusal {
             Self::TooManyCells => 20,
             Self::InvalidRecord => 21,
             Self::CodesAlike => 22,
+            Self::RepeatedPoint => 23,
             Self::Unknown(number) => *number,
         }
     }
 }
 
 /// What was answered with no: the sentence of refusal n stands at place n - 1. They are those of bin/refusals.tsv.
-const SENTENCES: [&str; 22] = [
+const SENTENCES: [&str; 23] = [
     "the board has fewer than 2 rows or fewer than 2 columns",
     "cell_size is not finite or is not above 0",
     "marker_size_rel is not finite, is not above 0, or is above 1",
@@ -129,6 +132,7 @@ const SENTENCES: [&str; 22] = [
     "there are more than 256 whole cells",
     "the record is above 65,535 bytes, a field is cut short, a spare bit is set, or bytes follow the last field",
     "two codes that markers use are equal after some number of quarter turns",
+    "two cells, sampled or not, lie at one point (u, v)",
 ];
 
 impl Display for Refusal {
@@ -162,7 +166,7 @@ mod tests {
 
     #[test]
     fn numbers_are_those_of_the_names() {
-        for number in 1..=22 {
+        for number in 1..=23 {
             let refusal = Refusal::new(number, [5, 3]);
             assert_eq!(refusal.number(), number);
             assert!(!matches!(refusal, Refusal::Unknown(_)));
@@ -171,7 +175,7 @@ mod tests {
 
     #[test]
     fn other_numbers_are_told() {
-        for number in [0, 23, u32::MAX] {
+        for number in [0, 24, u32::MAX] {
             assert_eq!(Refusal::new(number, [0; 2]), Refusal::Unknown(number));
             assert!(
                 Refusal::Unknown(number)
@@ -211,6 +215,6 @@ mod tests {
             assert_eq!(refusal.to_string(), format!("refused {number}: {sentence}"));
             next += 1;
         }
-        assert_eq!(next, 23);
+        assert_eq!(next, 24);
     }
 }

@@ -1,6 +1,9 @@
 //! What document 02 says of single requests, asked through the wrapper.
 
-use charuco::{BoardSpec, LinkCheckMode, read_header, validate_marker_corner_links};
+use charuco::{
+    BoardSpec, LinkCheckMode, Refusal, cell, grid, match_board, read_header,
+    validate_marker_corner_links,
+};
 
 const BOARD: BoardSpec = BoardSpec {
     rows: 4,
@@ -14,6 +17,10 @@ const BOARD: BoardSpec = BoardSpec {
 
 /// No two are alike: 8 would be 1 turned.
 const CODES: [u64; 10] = [1, 2, 3, 4, 5, 6, 7, 9, 10, 11];
+
+fn sample(name: &str) -> Vec<u8> {
+    std::fs::read(format!("../../samples/{name}.shot")).expect("a sample")
+}
 
 /// The four corners that are expected of a marker, by a link to a corner that no board has.
 fn expected(spec: &BoardSpec, marker: u32) -> Option<[u32; 4]> {
@@ -66,17 +73,17 @@ fn markers_look_alike() {
             .map(|found| found.len())
     };
     for alike in [1, 2, 4, 8] {
-        assert_eq!(check(&[1, alike, 15]), Err(charuco::Refusal::CodesAlike));
+        assert_eq!(check(&[1, alike, 15]), Err(Refusal::CodesAlike));
     }
     assert_eq!(check(&[1, 3, 1, 3, 12]), Ok(0));
     assert_eq!(check(&[0, 15]), Ok(0));
-    assert_eq!(check(&[16, 16]), Err(charuco::Refusal::CodeOutOfRange));
+    assert_eq!(check(&[16, 16]), Err(Refusal::CodeOutOfRange));
 }
 
 /// Bit 4 of the map byte is the mark, and adds no field; bits 5 to 7 are spare.
 #[test]
 fn map_byte_marks_the_board() {
-    let sheet = std::fs::read("../../samples/legacy.shot").expect("a sample");
+    let sheet = sample("legacy");
     let marked = read_header(&sheet).expect("a whole record");
     assert!(marked.spec.legacy_pattern && marked.map & 16 != 0);
     let mut cleared = sheet.clone();
@@ -95,5 +102,55 @@ fn map_byte_marks_the_board() {
                 .err(),
             Some(21)
         );
+    }
+}
+
+/// 2.3: a sheet whose last cell is its cell 7 again. The match refuses it; every field is read as before.
+#[test]
+fn repeated_point_is_read_and_not_matched() {
+    let sheet = sample("repeated");
+    let single = sample("narrow");
+    assert!(match_board(&single).is_ok());
+    assert_eq!(match_board(&sheet), Err(Refusal::RepeatedPoint));
+    let mut header = read_header(&single).expect("a whole record");
+    header.cells += 1;
+    assert_eq!(read_header(&sheet), Ok(header));
+    for k in 0..header.cells {
+        let place = if k == 15 { 7 } else { k };
+        let there = cell(&single, place);
+        assert!(matches!(there, Ok(Some(_))));
+        assert_eq!(cell(&sheet, k), there);
+        assert_eq!(grid(&sheet, k), grid(&single, place));
+    }
+}
+
+/// The last cell of that sheet, sampled or not, at every point around: it is refused exactly where another cell lies.
+#[test]
+fn points_beside_are_not_repeated() {
+    let sheet = sample("repeated");
+    let point = |k| {
+        let there = cell(&sheet, k).expect("a whole record").expect("a cell");
+        [there.u, there.v]
+    };
+    let others: Vec<_> = (0..15).map(point).collect();
+    // A cell has its point in 4 bytes; if it is sampled, 5 more and a grid of 6 by 6.
+    let at = sheet.len() - 45;
+    let map = at - 15 * 45 - 2;
+    let mut unsampled = sheet[..at + 4].to_vec();
+    assert_eq!(unsampled[map..map + 2], [0xFF, 0xFF]);
+    unsampled[map + 1] = 0x7F;
+    for mut record in [sheet.clone(), unsampled] {
+        let mut refused = 0;
+        for v in -10_i16..=-4 {
+            for u in 13_i16..=21 {
+                record[at..at + 2].copy_from_slice(&u.to_le_bytes());
+                record[at + 2..at + 4].copy_from_slice(&v.to_le_bytes());
+                assert_eq!(read_header(&record).map(|header| header.cells), Ok(16));
+                let is_refused = match_board(&record) == Err(Refusal::RepeatedPoint);
+                assert_eq!(is_refused, others.contains(&[u.into(), v.into()]));
+                refused += usize::from(is_refused);
+            }
+        }
+        assert_eq!(refused, others.len());
     }
 }

@@ -13,7 +13,7 @@ use borrow.Author.Tests.{eq-eqb, ne-eqb, eqb-true, eqb-false, not-true}
 use Rattle.integers.proofs.Distances.{lt-or-le}
 use Rattle.matcher.specs.Codes.{turned}
 use Rattle.matcher.proofs.Turns.{turns-mod, turned-none}
-use Rattle.sorting.specs.Order.{AllDifferent, Repeated}
+use Rattle.sorting.specs.Order.{AllDifferent, Repeated, wordAt}
 use Rattle.alike.specs.Alike.{anyBelow, alike, twoAlike}
 use Rattle.alike.specs.Quarters.{HasLeast}
 use Rattle.alike.proofs.Least.{Alike, met-alike, alike-least, least-alike}
@@ -132,7 +132,7 @@ module _ (n : ℕ) (codes : List ℕ) (count : ℕ) where
           absurd (false≢true (sym passed ∙ two))
 
   -- what is found by least turns
-  pub answered : (least : List ℕ) (r : Bool) → 0 < n → HasLeast n codes count least → (r ≡ true → AllDifferent count least) → (r ≡ false → Repeated count least)
+  pub answered : (least : List ℕ) (r : Bool) → 0 < n → HasLeast n codes count least → (r ≡ true → AllDifferent count (wordAt least)) → (r ≡ false → Repeated count (wordAt least))
       → r ≡ not (twoAlike n codes count)
   answered least true some has different repeated = go (twoAlike n codes count) refl
     where

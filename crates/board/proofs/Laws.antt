@@ -62,6 +62,15 @@ id-below p rows cols (pos i) (pos j) id e = markers p rows cols .below i j id e
 id-below p rows cols (pos i) (negsuc j) id e = let z : _≡_ {A = ℕ} 0 1 = cc in absurd (omega arith)
 id-below p rows cols (negsuc i) j id e = let z : _≡_ {A = ℕ} 0 1 = cc in absurd (omega arith)
 
+-- no two squares share an id, wherever they are asked for
+pub id-once : (p rows cols : ℕ) (i j i' j' : ℤ) (id : ℕ) → markerAt p rows cols i j ≡ numbered.Id id → markerAt p rows cols i' j' ≡ numbered.Id id → (i ≡ i') × (j ≡ j')
+unfolding numberAtℤ
+id-once p rows cols (pos i) (pos j) (pos i') (pos j') id e f = let o = markers p rows cols .once i j i' j' id e f in (ap pos (o .0), ap pos (o .1))
+id-once p rows cols (pos i) (negsuc j) i' j' id e f = let z : _≡_ {A = ℕ} 0 1 = cc in absurd (omega arith)
+id-once p rows cols (negsuc i) j i' j' id e f = let z : _≡_ {A = ℕ} 0 1 = cc in absurd (omega arith)
+id-once p rows cols (pos i) (pos j) (pos i') (negsuc j') id e f = let z : _≡_ {A = ℕ} 0 1 = cc in absurd (omega arith)
+id-once p rows cols (pos i) (pos j) (negsuc i') j' id e f = let z : _≡_ {A = ℕ} 0 1 = cc in absurd (omega arith)
+
 pub id-small : (b : Board) (i j : ℤ) (id : ℕ) → b .rows ≤ 32 → b .cols ≤ 32 → markerOn b i j ≡ numbered.Id id → id < 512
 id-small b i j id r c e =
     let p = parityOf b in

@@ -1,5 +1,5 @@
 -- Demand 3 of the answer to every record. Assumes nothing.
-use mathlib.Core.Path.{_≡_, refl, sym, subst, _∙_}
+use mathlib.Core.Path.{_≡_, refl, subst, _∙_}
 use mathlib.Core.Bool.{Bool, true, false, cond}
 use mathlib.Core.List.{List}
 use mathlib.Core.Option.{Option, none, some}
@@ -23,7 +23,7 @@ use Rattle.emit.specs.Markers.{markers}
 use Rattle.emit.proofs.Laws.{emitted-number}
 use Rattle.board_match.specs.declared.Matched.{Matched}
 use Rattle.board_match.specs.declared.Matched.the-variants as matched
-use Rattle.board_match.specs.Questions.{askedOfShot}
+use Rattle.board_match.specs.Questions.{askedOfShot, askedBefore15}
 use Rattle.board_match.specs.Match.{markersWith, markersOf, fitsAnswer, marginAnswer, markersAnswer, askedFrom15, refusedBy}
 use Rattle.board_match.specs.Match.{matchOf, answerWith, matchedShot, matchAnswer}
 use Rattle.board_match.specs.Accuracy.{PlacedAccurately, Accuracy}
@@ -56,11 +56,18 @@ some-emitted s e =
     let q16 = answered (marginAnswer s) _ _ (q15 .1) in
     ltb-true 0 (length (markersOf s)) (answered (markersAnswer s) _ _ (q16 .1) .0)
 
+-- a record that is placed at b
+pub record PlacedAt (bytes lent : List ℕ) (b : Hypothesis) : Type 0 where
+  pub whole : wholeRecord bytes ≡ true
+  pub passes-all : refusedBy (shot bytes) (length lent) ≡ none
+  pub asked : askedBefore15 (shot bytes) (length lent) ≡ none
+  pub passed : PassedShot (shot bytes)
+  pub is : best (shot bytes) ≡ choice.Placement b
+  pub some-marker : 0 < length (markers (shot bytes) (b .alignment))
+
 -- of every answer, from what holds of a refusal and of a match
 pub of-answer : (bytes lent : List ℕ) → Small bytes → (P : Matched → Type 0) → ((r : Refusal) → P (matched.Refused r))
-    → ((b : Hypothesis) → PassedShot (shot bytes) → best (shot bytes) ≡ choice.Placement b → 0 < length (markers (shot bytes) (b .alignment))
-    → P (matched.Placed (matchOf (shot bytes) b)))
-    → P (matchAnswer bytes lent)
+    → ((b : Hypothesis) → PlacedAt bytes lent b → P (matched.Placed (matchOf (shot bytes) b))) → P (matchAnswer bytes lent)
 unfolding parse
 of-answer bytes lent small P refused placed = by-record (wholeRecord bytes) refl
   where
@@ -72,8 +79,14 @@ of-answer bytes lent small P refused placed = by-record (wholeRecord bytes) refl
     by-refusal w none e choice.Absent is = refused refusal.TranslationWindow
     by-refusal w none e (choice.Placement b) is =
         let q = both-passed (askedOfShot s (length lent)) (shot-goes-on s (length lent)) (askedFrom15 s) e in
-        let p = passes bytes small w (length lent) (sound s (length lent) (q .0)) in
-        placed b p is (subst (λ (c : Choice). 0 < length (markersWith s c)) is (some-emitted s (q .1)))
+        placed b (record {
+          whole = w;
+          passes-all = e;
+          asked = q .0;
+          passed = passes bytes small w (length lent) (sound s (length lent) (q .0));
+          is = is;
+          some-marker = subst (λ (c : Choice). 0 < length (markersWith s c)) is (some-emitted s (q .1));
+        })
 
     by-record : (w : Bool) → wholeRecord bytes ≡ w → P (matchedShot (cond w (some s) none) (length lent))
     by-record false w = refused refusal.InvalidRecord
@@ -81,4 +94,4 @@ of-answer bytes lent small P refused placed = by-record (wholeRecord bytes) refl
 
 pub match-accurate : (bytes lent : List ℕ) → Small bytes → Accuracy bytes (matchAnswer bytes lent)
 match-accurate bytes lent small =
-    of-answer bytes lent small (Accuracy bytes) (λ r. tt) (λ b p is n. accurately (shot bytes) p b is n)
+    of-answer bytes lent small (Accuracy bytes) (λ r. tt) (λ b p. accurately (shot bytes) (p .passed) b (p .is) (p .some-marker))

@@ -1,14 +1,13 @@
 -- The margin gate refuses exactly below the minimum, and the corners of a match are aligned with its best placement. Assumes nothing.
 use mathlib.Core.Path.{_≡_, refl, sym, ap, subst, _∙_}
 use mathlib.Core.Bool.{Bool, true, false, not}
-use mathlib.Core.Option.{Option, none, some, Option·none-ne-some, Option·some-injective}
+use mathlib.Core.Option.{none, some, Option·none-ne-some, Option·some-injective}
 use Prim.Native.Nat.{ℕ, _<_}
 use native.Mathlib.Omega.{arith}
 use lib.Dec.{T}
 use lib.ListN.{length}
 use lib.Ieee.{Float, isNan}
 use borrow.Author.Tests.{lt-ltb}
-use Rattle.refusal.specs.declared.Refusal.{Refusal}
 use Rattle.refusal.specs.declared.Refusal.the-variants as refusal
 use Rattle.refusal.specs.Questions.{ask}
 use Rattle.refusal.proofs.Questions.{rest-asked}
@@ -81,4 +80,4 @@ module _ (s : Shot) (p : PassedShot s) (b : Hypothesis) (is : best s ≡ choice.
 pub match-corners : CornersRule
 match-corners bytes lent small m =
     of-answer bytes lent small (λ a. a ≡ matched.Placed m → CornersAligned m) (λ r e. let z : _≡_ {A = ℕ} 0 1 = cc in absurd (omega arith))
-    (λ b p is n. aligned (shot bytes) p b is m)
+    (λ b p. aligned (shot bytes) (p .passed) b (p .is) m)

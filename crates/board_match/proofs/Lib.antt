@@ -1,4 +1,3 @@
-pub mod Every
 pub mod CellAnswers
 pub mod Order
 pub mod Sound
@@ -9,3 +8,4 @@ pub mod Accurately
 pub mod Gates
 pub mod Laws
 pub mod Sizes
+pub mod Repeats

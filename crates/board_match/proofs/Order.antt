@@ -5,7 +5,7 @@ use Rattle.board.specs.Questions.{askedOfBoard}
 use Rattle.board.proofs.Asked.{board-goes-on}
 use Rattle.shot_record.specs.Shots.{Shot}
 use Rattle.shot_record.specs.Answers.{configOf, specOf}
-use Rattle.board_match.specs.Questions.{settingsAnswer, tableAnswer, someAnswer, cellsAnswer, samplesAnswer, roomAnswer, askedFrom9, askedOfShot}
+use Rattle.board_match.specs.Questions.{settingsAnswer, tableAnswer, someAnswer, cellsAnswer, pointsAnswer, samplesAnswer, roomAnswer, askedFrom9, askedOfShot}
 
 from-9-goes-on : (s : Shot) (words : ℕ) → GoesOn (askedFrom9 s words)
 unfolding askedFrom9
@@ -14,8 +14,9 @@ from-9-goes-on s words =
     (ask-first (tableAnswer s) _ _
     (ask-first (someAnswer s) _ _
     (ask-first (cellsAnswer s) _ _
+    (ask-first (pointsAnswer s) _ _
     (ask-first (samplesAnswer s) _ _
-    (ask-last (roomAnswer s words) _)))))
+    (ask-last (roomAnswer s words) _))))))
 
 pub shot-goes-on : (s : Shot) (words : ℕ) → GoesOn (askedOfShot s words)
 shot-goes-on s words =

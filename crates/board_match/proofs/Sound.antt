@@ -12,17 +12,18 @@ use lib.Ieee.Scale.{finite}
 use borrow.Author.Tests.{leb-true, ltb-true, eqb-true}
 use Rattle.floats.specs.Units.{Finite, nought, unity, Between}
 use Rattle.refusal.proofs.Questions.{both, answered}
+use Rattle.refusal.proofs.Every.{each}
+use Rattle.points.proofs.Twice.{none-twice}
 use Rattle.board.proofs.Asked as board
 use Rattle.score_matrix.specs.Table.{isTable}
 use Rattle.shot_record.specs.Fields.{gridSize}
 use Rattle.shot_record.specs.Shots.{Sample, Shot}
 use Rattle.shot_record.specs.Answers.{ofPattern, configOf, specOf}
-use Rattle.hypothesis.specs.Placements.{cell}
+use Rattle.hypothesis.specs.Placements.{cell, cellPoint}
 use Rattle.integers.specs.Distance.{isWithin}
 use Rattle.integers.proofs.Distances.{within-abs}
 use Rattle.board_match.specs.Questions.{placedAnswer, sampleAnswer, askedFrom9, askedBefore15}
-use Rattle.board_match.specs.Questions.{settingsAnswer, tableAnswer, someAnswer, cellsAnswer, samplesAnswer, roomAnswer}
-use Rattle.board_match.proofs.Every.{each}
+use Rattle.board_match.specs.Questions.{settingsAnswer, tableAnswer, someAnswer, cellsAnswer, pointsAnswer, samplesAnswer, roomAnswer}
 
 pub record Sound (s : Shot) (words : ℕ) : Type 0 where
   pub board : board.Asked (specOf s) (s .codes)
@@ -34,6 +35,7 @@ pub record Sound (s : Shot) (words : ℕ) : Type 0 where
   pub few-cells : length (s .cells) ≤ 256
   pub u : (k : ℕ) → k < length (s .cells) → natAbs (cell s k .u) ≤ 4096
   pub v : (k : ℕ) → k < length (s .cells) → natAbs (cell s k .v) ≤ 4096
+  pub apart : (i j : ℕ) → i < j → j < length (s .cells) → cellPoint s i ≡ cellPoint s j → ⊥
   pub fraction : (k : ℕ) → k < length (s .cells) → (x : Sample) → cell s k .sample ≡ some x → Between nought unity (ofPattern (x .fraction))
   pub grid : (k : ℕ) → k < length (s .cells) → (x : Sample) → cell s k .sample ≡ some x → length (x .grid) ≡ gridSize (s .bits) (s .border)
   pub room : 18 * length (s .cells) ≤ words
@@ -59,7 +61,8 @@ sound s words e =
     let q10 = answered (tableAnswer s) _ _ (q9 .1) in
     let q11 = answered (someAnswer s) _ _ (q10 .1) in
     let q12 = answered (cellsAnswer s) _ _ (q11 .1) in
-    let q13 = answered (samplesAnswer s) _ _ (q12 .1) in
+    let q23 = answered (pointsAnswer s) _ _ (q12 .1) in
+    let q13 = answered (samplesAnswer s) _ _ (q23 .1) in
     let q14 = answered (roomAnswer s words) _ _ (q13 .1) in
     let count = length (s .cells) in
     let size = gridSize (s .bits) (s .border) in
@@ -80,6 +83,7 @@ sound s words e =
       few-cells = leb-true count 256 (cells .0);
       u = λ k h. within-abs 4096 (cell s k .u) (point k h .0);
       v = λ k h. within-abs 4096 (cell s k .v) (point k h .1);
+      apart = none-twice (cellPoint s) count (q23 .0);
       fraction = λ k h x e. sample k h x e .0;
       grid = λ k h x e. sample k h x e .1;
       room = leb-true (18 * count) words (q14 .0);

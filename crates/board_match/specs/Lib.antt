@@ -4,3 +4,4 @@ pub mod Match
 pub mod Accuracy
 pub mod Corners
 pub mod Sizes
+pub mod Repeats

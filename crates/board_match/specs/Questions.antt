@@ -1,5 +1,5 @@
--- Document 01, "The questions asked": what Match asks of a shot before it searches, 1 to 14 in order, with document 02's 22 behind 8.
-use Prim.Native.Nat.{ℕ, zero, suc, _*_}
+-- Document 01, "The questions asked": what Match asks of a shot before it searches, 1 to 14 in order, with document 02's 22 behind 8 and 23 behind 12.
+use Prim.Native.Nat.{ℕ, _*_}
 use mathlib.Core.Bool.{Bool, true, _&&_}
 use mathlib.Core.List.{List, map}
 use mathlib.Core.Option.{Option, none, some}
@@ -11,23 +11,19 @@ use Rattle.integers.specs.Distance.{isWithin}
 use Rattle.floats.specs.Units.{nought, unity}
 use Rattle.refusal.specs.declared.Refusal.{Refusal}
 use Rattle.refusal.specs.declared.Refusal.the-variants as refusal
-use Rattle.refusal.specs.Questions.{ask}
+use Rattle.refusal.specs.Questions.{ask, every}
 use Rattle.board.specs.Questions.{askedOfBoard, boardOf}
 use Rattle.score_matrix.specs.declared.BoardMatchConfig.{BoardMatchConfig}
 use Rattle.score_matrix.specs.Table.{isTable}
 use Rattle.shot_record.specs.Fields.{gridSize}
 use Rattle.shot_record.specs.Shots.{Sample, Cell, Shot, shot, parse}
 use Rattle.shot_record.specs.Answers.{ofPattern, configOf, specOf}
-use Rattle.hypothesis.specs.Placements.{cell}
+use Rattle.points.specs.Points.{allApart}
+use Rattle.hypothesis.specs.Placements.{cell, cellPoint}
 use Rattle.board_match.specs.declared.Asked.{Asked}
 use Rattle.board_match.specs.declared.Asked.the-variants as asked
 use Rattle.board_match.specs.declared.questions.Answer.{Answer}
 use Rattle.board_match.specs.declared.questions.Answer.the-variants as answer
-
--- do 0 to n − 1 all pass?
-unfoldable pub every : (ℕ → Bool) → ℕ → Bool
-every test zero = true
-every test (suc k) = every test k && test k
 
 -- 9: Are minimum margin, border threshold and px_per_square finite?
 abbrev pub settingsAnswer : BoardMatchConfig → Bool
@@ -48,6 +44,10 @@ placedAnswer c = isWithin 4096 (c .u) && isWithin 4096 (c .v)
 abbrev pub cellsAnswer : Shot → Bool
 cellsAnswer s = leb (length (s .cells)) 256 && every (λ (k : ℕ). placedAnswer (cell s k)) (length (s .cells))
 
+-- 23: Is no point filed twice? Sampled or not.
+abbrev pub pointsAnswer : Shot → Bool
+pointsAnswer s = allApart (cellPoint s) (length (s .cells))
+
 -- 13: Has every sampled cell a whole grid and a fraction from 0 to 1?
 abbrev pub fractionAnswer : Float → Bool
 fractionAnswer x = le nought x && le x unity
@@ -63,18 +63,19 @@ samplesAnswer s = every (λ (k : ℕ). sampleAnswer (gridSize (s .bits) (s .bord
 abbrev pub roomAnswer : Shot → ℕ → Bool
 roomAnswer s words = leb (18 * length (s .cells)) words
 
--- questions 9 to 14, then the rest
+-- questions 9 to 14 with 23, then the rest
 unfoldable pub askedFrom9 : Shot → ℕ → Option Refusal → Option Refusal
 askedFrom9 s words rest =
     ask (settingsAnswer (configOf s)) refusal.SettingsNotFinite
     (ask (tableAnswer s) refusal.InvalidTable
     (ask (someAnswer s) refusal.NoCells
     (ask (cellsAnswer s) refusal.CellsOutOfRange
+    (ask (pointsAnswer s) refusal.RepeatedPoint
     (ask (samplesAnswer s) refusal.InvalidSample
     (ask (roomAnswer s words) refusal.ListTooShort
-    rest)))))
+    rest))))))
 
--- questions 1 to 14 and 22, then the rest: the board's come first
+-- questions 1 to 14, 22 and 23, then the rest: the board's come first
 abbrev pub askedOfShot : Shot → ℕ → Option Refusal → Option Refusal
 askedOfShot s words rest = askedOfBoard (specOf s) (s .codes) (askedFrom9 s words rest)
 

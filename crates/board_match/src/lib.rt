@@ -1,5 +1,5 @@
 // Match (board_match/mod.rs): where a board lies under the cells of a shot record. Uses `refusal`, `floats`, `grid_alignment`, `board`,
-// `score_matrix`, `shot_record`, `ranking`, `hypothesis` and `emit`, and for its definitions and laws `integers` and `lent_list`.
+// `score_matrix`, `shot_record`, `points`, `ranking`, `hypothesis` and `emit`, and for its definitions and laws `integers` and `lent_list`.
 ghost use mathlib.Core.Path.{_≡_};
 ghost use mathlib.Core.List.{map};
 ghost use mathlib.Core.Option.{none};
@@ -59,7 +59,7 @@ pub enum Asked {
     Refused(Refusal),
 }
 
-// The questions 1 to 14 of a record that question 21 let pass, for a list of results with so many words.
+// The questions 1 to 14, 22 and 23 of a record that question 21 let pass, for a list of results with so many words.
 fn before_15(
     bytes: &[u8],
     f: Fields,

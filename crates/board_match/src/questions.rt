@@ -1,9 +1,10 @@
-// What Match asks of a record that question 21 let pass (document 01): the questions 1 to 14 and 22, before it searches, and 16.
+// What Match asks of a record that question 21 let pass (documents 01 and 02): the questions 1 to 14, 22 and 23, before it searches, and 16.
 ghost use mathlib.Core.Path.{_≡_};
 ghost use mathlib.Core.Bool.{_&&_};
 ghost use mathlib.Core.List.{map};
 ghost use mathlib.Core.Option.{none};
 ghost use Prim.Native.Nat.{_≤_};
+ghost use Rattle.refusal.specs.Questions.{every};
 ghost use Rattle.board.specs.Questions.{newBoard};
 ghost use Rattle.shot_record.specs.Fields.{fieldsOf};
 ghost use Rattle.shot_record.specs.Shots.{shot};
@@ -11,7 +12,7 @@ ghost use Rattle.shot_record.specs.Answers.{ofPattern, configOf, specOf};
 ghost use Rattle.shot_record.specs.Index.{Indexed};
 ghost use Rattle.hypothesis.specs.Inputs.{firstCodes};
 ghost use Rattle.integers.specs.Distance.{isWithin as withinOf};
-ghost use Rattle.board_match.specs.Questions.{every, settingsAnswer, tableAnswer, fractionAnswer, askedFrom9, toldAnswer};
+ghost use Rattle.board_match.specs.Questions.{settingsAnswer, tableAnswer, fractionAnswer, askedFrom9, toldAnswer};
 ghost use Rattle.board_match.specs.Entries.{placedIn, borderAnswer, sampledIn};
 ghost use Rattle.board_match.specs.Match.{marginPasses};
 use board::Board;
@@ -130,7 +131,7 @@ fn all_sampled(index: &[u32; 768], count: usize) -> bool
     true
 }
 
-// The questions 9 to 14.
+// The questions 9 to 14, with 23 behind 12.
 pub fn from_9(
     bytes: &[u8],
     f: Fields,
@@ -157,6 +158,9 @@ pub fn from_9(
     }
     if !all_placed(index, count) {
         return Answer::Refused(Refusal::CellsOutOfRange);
+    }
+    if !points::all_different(index, count) {
+        return Answer::Refused(Refusal::RepeatedPoint);
     }
     if !all_sampled(index, count) {
         return Answer::Refused(Refusal::InvalidSample);

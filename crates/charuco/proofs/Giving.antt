@@ -34,6 +34,7 @@ values-are refusal.TooManyLinks = refl
 values-are refusal.TooManyCells = refl
 values-are refusal.InvalidRecord = refl
 values-are refusal.CodesAlike = refl
+values-are refusal.RepeatedPoint = refl
 
 -- at most two
 pub few : (n : ℕ) → valueCount n ≤ 2

@@ -1,6 +1,6 @@
 -- A marker has 18 words, and a placement has at most one marker for each cell. Where a marker is emitted some cell contributes, so that the
 -- placement's evidence is a number. Assumes nothing.
-use mathlib.Core.Path.{_≡_, refl, ap, _∙_}
+use mathlib.Core.Path.{_≡_, refl}
 use mathlib.Core.Bool.{Bool, true, false, _&&_, cond}
 use mathlib.Core.List.{List, [], _∷_, flatMap}
 use mathlib.Core.Option.{Option, none, some}
@@ -25,7 +25,7 @@ use Rattle.hypothesis.proofs.Contributing.{none-rule}
 use Rattle.emit.specs.Markers.{Marker, markerOf, emittedWith, emitted, markers, markerWords}
 
 -- ---- how many words
-words-length : (m : Marker) → length (markerWords m) ≡ 18
+pub words-length : (m : Marker) → length (markerWords m) ≡ 18
 unfolding markerWords
 words-length m = refl
 

@@ -1,2 +1,3 @@
 pub mod Reading
 pub mod Laws
+pub mod Ids

@@ -1,5 +1,5 @@
 -- Document 01, Emission: the markers that are emitted for a placement, and the 18 words by which each is told.
-use Prim.Native.Nat.{ℕ, _/_, _%_, _^_}
+use Prim.Native.Nat.{ℕ, _+_, _*_, _/_, _%_, _^_}
 use mathlib.Core.Bool.{_&&_, cond}
 use mathlib.Core.List.{List, [], _∷_}
 use mathlib.Core.Option.{Option, none, some}
@@ -82,3 +82,7 @@ markerWords m =
     let at = cornerWord (m .corners) in
     m .cell ∷ m .id ∷ ofZ w32 (m .point .u) ∷ ofZ w32 (m .point .v) ∷ m .turn ∷ m .differing ∷ m .code % 2 ^ 32 ∷ m .code / 2 ^ 32
     ∷ pattern (m .quotient) ∷ pattern (m .fraction) ∷ at 0 0 ∷ at 0 1 ∷ at 1 0 ∷ at 1 1 ∷ at 2 0 ∷ at 2 1 ∷ at 3 0 ∷ at 3 1 ∷ []
+
+-- the id among the words of marker i
+abbrev pub idIn : List ℕ → ℕ → ℕ
+idIn words i = getD words (18 * i + 1) 0

@@ -48,6 +48,15 @@ sends-back r p =
     let whole : (4 - r % 4 + r) % 4 ≡ 0 = omega arith in
     sends-sends (4 - r % 4) r p ∙ sym (sends-mod (4 - r % 4 + r) p) ∙ ap (λ (m : ℕ). sends m p) whole ∙ sends-none p
 
+-- different points stay different
+pub applied-once : (a : GridAlignment) (p q : Coord) → applied a p ≡ applied a q → p ≡ q
+applied-once a p q e =
+    let turned : sends (a .turn) p ≡ sends (a .turn) q = ap₂ point (unmoved _ _ (a .tx) (ap (λ (c : Coord). c .u) e)) (unmoved _ _ (a .ty) (ap (λ (c : Coord). c .v) e)) in
+    sym (sends-back (a .turn) p) ∙ ap (sends (4 - a .turn % 4)) turned ∙ sends-back (a .turn) q
+  where
+    unmoved : (x y t : ℤ) → x +ℤ t ≡ y +ℤ t → x ≡ y
+    unmoved x y t f = ext x y (omega (arith, add-is x t, add-is y t, ap plus f, ap minus f))
+
 -- a turn of a sum is the sum of the turns
 sends-moved : (r : ℕ) (p : Coord) (x y : ℤ) → sends r (moved p x y) ≡ moved (sends r p) (sends r (point x y) .u) (sends r (point x y) .v)
 unfolding sends

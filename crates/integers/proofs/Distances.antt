@@ -1,16 +1,16 @@
 -- Order and distance of whole numbers, as inequalities of their parts, so that `omega` reads them. Assumes nothing.
 use mathlib.Core.Path.{_≡_, sym, ap, subst, _∙_}
 use mathlib.Core.Logic.{_⊎_, inl, inr}
-use mathlib.Core.Bool.{Bool, true, false, not, false≢true}
+use mathlib.Core.Bool.{Bool, true, false, not, _&&_, false≢true}
 use Prim.Native.Nat.{ℕ, zero, suc, _+_, _*_, _≤_, _<_, zero-le}
-use native.Mathlib.Nat.{le-trans, le-of-eq, mul-comm, mul-le-mul-right}
+use native.Mathlib.Nat.{le-refl, le-trans, le-of-eq, mul-comm, mul-le-mul-right}
 use native.Mathlib.Omega.{arith}
 use lib.Dec.{T, ltb, leb, ltb→lt, lt→ltb, nltb→le, leb→le}
 use lib.Signed.{ltZ, leZ}
 use lib.IntN.{ℤ, pos, negsuc, negℤ, natAbs, _+ℤ_, _-ℤ_, _*ℤ_, *ℤ-comm}
 use lib.Ieee.Fits.{and-l, and-r}
 use borrow.Author.Tests.{le-leb}
-use Rattle.integers.specs.Distance.{Within, isWithin}
+use Rattle.integers.specs.Distance.{Within, same, isWithin}
 use Rattle.integers.proofs.Parts.{plus, minus, Is, add-is, sub-is-parts, mul-is, abs-is, abs-mul, parts-le, ext}
 
 -- ---- the order
@@ -108,6 +108,22 @@ lt-or-le a b = go (ltb a b) (ltb→lt a b) (nltb→le a b)
     go : (t : Bool) → (T t → a < b) → (T (not t) → b ≤ a) → (a < b) ⊎ (b ≤ a)
     go true l m = inl (l tt)
     go false l m = inr (m tt)
+
+-- ---- equal
+pub same-refl : (a : ℤ) → same a a ≡ true
+same-refl (pos a) = rw (le-leb a a (le-refl a))
+same-refl (negsuc a) = rw (le-leb a a (le-refl a))
+
+each-way : (a b : ℕ) → (leb a b && leb b a) ≡ true → a ≡ b
+each-way a b e =
+    let t : T (leb a b && leb b a) = subst T (sym e) tt in
+    omega (arith, leb→le a b (and-l (leb a b) (leb b a) t), leb→le b a (and-r (leb a b) (leb b a) t))
+
+pub same-eq : (a b : ℤ) → same a b ≡ true → a ≡ b
+same-eq (pos a) (pos b) e = ap pos (each-way a b e)
+same-eq (pos a) (negsuc b) e = absurd (false≢true e)
+same-eq (negsuc a) (pos b) e = absurd (false≢true e)
+same-eq (negsuc a) (negsuc b) e = ap negsuc (sym (each-way b a e))
 
 -- ---- from −m to m
 pub within-abs : (m : ℕ) (z : ℤ) → isWithin m z ≡ true → natAbs z ≤ m

@@ -1,4 +1,4 @@
--- How far two whole numbers lie apart, and whether one lies near 0.
+-- How far two whole numbers lie apart, whether they are equal, and whether one lies near 0.
 use Prim.Native.Nat.{ℕ, _≤_}
 use mathlib.Core.Bool.{Bool, _&&_}
 use lib.IntN.{ℤ, pos, negℤ, natAbs, _-ℤ_}
@@ -7,6 +7,9 @@ use lib.Signed.{leZ}
 -- |a − b| ≤ e
 abbrev pub Within : ℤ → ℤ → ℕ → Type 0
 Within a b e = natAbs (a -ℤ b) ≤ e
+
+abbrev pub same : ℤ → ℤ → Bool
+same a b = leZ a b && leZ b a
 
 -- from −m to m
 abbrev pub isWithin : ℕ → ℤ → Bool

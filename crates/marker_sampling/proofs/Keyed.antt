@@ -10,10 +10,12 @@ use borrow.Author.Tests.{lt-ltb, eq-eqb, ne-eqb, eqb-true}
 use Rattle.integers.proofs.Parts.{plus, minus, add-is, sub-is-parts, ext}
 use Rattle.grid_alignment.specs.declared.Coord.{Coord}
 use Rattle.grid_alignment.specs.Alignment.{point, corner}
-use Rattle.marker_sampling.specs.Cells.{Corners, word, labelled, same, stands}
+use Rattle.integers.specs.Distance.{same}
+use Rattle.integers.proofs.Distances.{same-refl, same-eq}
+use Rattle.marker_sampling.specs.Cells.{Corners, word, labelled, stands}
 use Rattle.marker_sampling.specs.Keys.{keySide, rangePoint, HasKey}
 use Rattle.refusal.proofs.Questions.{both}
-use Rattle.marker_sampling.proofs.Tests.{agree, fails, same-refl, same-eq, offset-only}
+use Rattle.marker_sampling.proofs.Tests.{agree, fails, offset-only}
 
 -- rows of w: a place has one row and one column
 digits-same : (w : ℕ) {u v a b : ℕ} → u < w → a < w → v * w + u ≡ b * w + a → (u ≡ a) × (v ≡ b)

@@ -2,18 +2,16 @@
 use mathlib.Core.Path.{_≡_, refl, sym, ap, _∙_}
 use mathlib.Core.Bool.{Bool, true, false, not, false≢true}
 use Prim.Native.Nat.{ℕ, _+_, _*_, _^_, _≤_, _<_}
-use native.Mathlib.Nat.{le-refl}
 use native.Mathlib.Omega.{arith}
 use lib.IntN.{ℤ, pos, negsuc, natAbs, negℤ, _+ℤ_, _-ℤ_, +ℤ-negℤ-cancel}
 use lib.Dec.{leb·zero, leb·suc-zero}
 use lib.Signed.{leZ, ltZ, mag}
 use mir.Syntax.{w32}
 use mir.ValLaws.{toZ-ofZ}
-use borrow.Author.Tests.{leb-true, le-leb}
+use borrow.Author.Tests.{leb-true}
 use Rattle.refusal.proofs.Questions.{both}
 use Rattle.integers.proofs.Parts.{plus, minus, plus-neg, minus-neg, add-is, sub-is-parts, abs-is, ext}
 use Rattle.integers.proofs.Words.{word}
-use Rattle.marker_sampling.specs.Cells.{same}
 use Rattle.integers.specs.Distance.{isWithin}
 
 -- two tests that hold together
@@ -25,16 +23,6 @@ agree false false f g = refl
 pub fails : (a : Bool) → (a ≡ true → ⊥) → a ≡ false
 fails true f = absurd (f refl)
 fails false f = refl
-
-pub same-refl : (a : ℤ) → same a a ≡ true
-same-refl (pos a) = rw (le-leb a a (le-refl a))
-same-refl (negsuc a) = rw (le-leb a a (le-refl a))
-
-pub same-eq : (a b : ℤ) → same a b ≡ true → a ≡ b
-same-eq (pos a) (pos b) e = let h = both (leZ (pos a) (pos b)) _ e in ap pos (omega (arith, leb-true a b (h .0), leb-true b a (h .1)))
-same-eq (pos a) (negsuc b) e = absurd (false≢true e)
-same-eq (negsuc a) (pos b) e = absurd (false≢true e)
-same-eq (negsuc a) (negsuc b) e = let h = both (leZ (negsuc a) (negsuc b)) _ e in ap negsuc (omega (arith, leb-true b a (h .0), leb-true a b (h .1)))
 
 le-parts : (a b : ℤ) → leZ a b ≡ true → plus a + minus b ≤ plus b + minus a
 unfolding plus minus

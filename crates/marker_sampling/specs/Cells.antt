@@ -6,7 +6,7 @@ use mathlib.Core.Option.{Option, none, some}
 use lib.Dec.{ltb}
 use lib.ListN.{getD}
 use lib.IntN.{ℤ, pos, _-ℤ_}
-use lib.Signed.{leZ}
+use Rattle.integers.specs.Distance.{same}
 use Rattle.lent_list.specs.Front.{upTo}
 use Rattle.grid_alignment.specs.declared.Coord.{Coord}
 use Rattle.grid_alignment.specs.Alignment.{point, corner}
@@ -19,9 +19,6 @@ pub record Corners : Type 0 where
 
 abbrev pub cornersOf : ℕ → List ℤ → Corners
 cornersOf count grid = record { count = count; grid = grid }
-
-abbrev pub same : ℤ → ℤ → Bool
-same a b = leZ a b && leZ b a
 
 abbrev pub word : Corners → ℕ → ℕ → ℤ
 word c k w = getD (c .grid) (3 * k + w) (pos 0)

@@ -148,6 +148,7 @@ number-small refusal.TooManyLinks = lit< tt
 number-small refusal.TooManyCells = lit< tt
 number-small refusal.InvalidRecord = lit< tt
 number-small refusal.CodesAlike = lit< tt
+number-small refusal.RepeatedPoint = lit< tt
 
 refusal-room : (r : Refusal) → length (refusalLine r) ≤ 32768
 unfolding refusalLine

@@ -7,7 +7,7 @@ use Rattle.refusal.specs.declared.Refusal.the-variants.{InvalidSize, Inv
 use Rattle.refusal.specs.declared.Refusal.the-variants.{BoardOutOfRange, NotEnoughDictionaryCodes, CodeOutOfRange}
 use Rattle.refusal.specs.declared.Refusal.the-variants.{SettingsNotFinite, InvalidTable, NoCells, CellsOutOfRange, InvalidSample, ListTooShort}
 use Rattle.refusal.specs.declared.Refusal.the-variants.{TranslationWindow, Margin, NoMarkers}
-use Rattle.refusal.specs.declared.Refusal.the-variants.{CornersOutOfRange, TooManyLinks, TooManyCells, InvalidRecord, CodesAlike}
+use Rattle.refusal.specs.declared.Refusal.the-variants.{CornersOutOfRange, TooManyLinks, TooManyCells, InvalidRecord, CodesAlike, RepeatedPoint}
 
 -- the question that was answered with no
 abbrev pub numberOf : Refusal → ℕ
@@ -55,6 +55,8 @@ numberOf TooManyCells = 20
 numberOf InvalidRecord = 21
 -- Are no two used codes alike?
 numberOf CodesAlike = 22
+-- Is no point filed twice?
+numberOf RepeatedPoint = 23
 
 -- the values that a refusal gives: 7 needed and available, 16 the margin, as its bits
 abbrev pub valuesOf : Refusal → List ℕ
@@ -80,3 +82,4 @@ valuesOf TooManyLinks = []
 valuesOf TooManyCells = []
 valuesOf InvalidRecord = []
 valuesOf CodesAlike = []
+valuesOf RepeatedPoint = []

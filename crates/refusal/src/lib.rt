@@ -30,8 +30,9 @@ pub enum Refusal {
     TooManyLinks,
     TooManyCells,
     InvalidRecord,
-    // The board, by document 02.
+    // Document 02: the board, and Match.
     CodesAlike,
+    RepeatedPoint,
 }
 
 impl Refusal {
@@ -65,6 +66,7 @@ impl Refusal {
             Refusal::TooManyCells => 20,
             Refusal::InvalidRecord => 21,
             Refusal::CodesAlike => 22,
+            Refusal::RepeatedPoint => 23,
         }
     }
 

@@ -52,6 +52,7 @@ entry-of bytes index k s p f g =
     let point : pointIn index k ≡ number 4 at bytes = p ∙ point-word bytes s grid at b in
     let small : number 2 (at + 2) bytes % 65536 ≡ number 2 (at + 2) bytes = omega (arith, number-below bytes s 2 (at + 2)) in
     record {
+      word = rw point (number-below bytes s 4 at);
       u = ap (toZ w16) (ap (λ (n : ℕ). n % 65536) point ∙ low-half bytes s 2 2 at);
       v = ap (toZ w16) (ap (λ (n : ℕ). n / 65536 % 65536) point ∙ ap (λ (n : ℕ). n % 65536) (high-half bytes s 2 2 at) ∙ small);
       border = ap₂ (border-by bytes s grid at) g f ∙ border-word bytes s grid at b;

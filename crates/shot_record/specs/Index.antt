@@ -4,7 +4,7 @@
 use mathlib.Core.Path.{_≡_}
 use mathlib.Core.Bool.{true}
 use mathlib.Core.List.{List, [], _∷_}
-use Prim.Native.Nat.{ℕ, zero, suc, _+_, _*_, _/_, _%_, _<_}
+use Prim.Native.Nat.{ℕ, zero, suc, _+_, _*_, _/_, _%_, _^_, _<_}
 use lib.ListN.{getD, set}
 use lib.IntN.{ℤ}
 use mir.Syntax.{w16}
@@ -50,8 +50,9 @@ thresholdIn index k = gridIn index k % 256
 abbrev pub placeIn : List ℕ → ℕ → ℕ
 placeIn index k = gridIn index k / 256
 
--- it has what cell k holds, and where the cell's grid is
+-- it has what cell k holds, the point in a word of 32 bits, and where the cell's grid is
 pub record Entry (bytes index : List ℕ) (k : ℕ) : Type 0 where
+  pub word : pointIn index k < 2 ^ 32
   pub u : uIn index k ≡ cellOf bytes k .u
   pub v : vIn index k ≡ cellOf bytes k .v
   pub border : borderIn index k ≡ borderWith (cellOf bytes k .sample)

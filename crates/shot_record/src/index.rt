@@ -6,7 +6,7 @@ ghost use lib.ListN.{length, take, drop};
 ghost use Rattle.shot_record.specs.Fields.{fieldsOf};
 ghost use Rattle.shot_record.specs.Shots.{wholeRecord, cellOf};
 ghost use Rattle.shot_record.specs.Answers.{gridWith};
-ghost use Rattle.shot_record.specs.Index.{wordsFrom, withWords, uIn, vIn, borderIn, thresholdIn, Index, Indexed};
+ghost use Rattle.shot_record.specs.Index.{wordsFrom, withWords, pointIn, uIn, vIn, borderIn, thresholdIn, Index, Indexed};
 use super::cells;
 use super::cells::Part;
 use super::fields::Fields;
@@ -54,6 +54,14 @@ pub fn fill(index: &mut [u32; 768], bytes: &[u8], f: Fields)
         start = cells::next_start(bytes, f, k, start);
         k += 1;
     }
+}
+
+// The point of cell k as one word: equal words are equal points.
+pub fn point(index: &[u32; 768], k: usize) -> u32
+    requires { ⌜ k < 256 ⌝ }
+    ensures { λ r. ⌜ r ≡ pointIn (now (index .entry)) k ⌝ }
+{
+    index[3 * k]
 }
 
 pub fn u(index: &[u32; 768], k: usize) -> i16

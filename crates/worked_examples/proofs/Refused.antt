@@ -1,5 +1,5 @@
--- P11 of the proved table, the refusal: the answers to Match's questions compute, 15 for every shot with the two cells, 21 and 1 to 14 for one
--- record. Assumes nothing.
+-- P11 of the proved table, the refusal: the answers to Match's questions compute, 15 for every shot with the two cells, 21, 1 to 14, 22 and 23 for
+-- one record. Assumes nothing.
 use mathlib.Core.Path.{_≡_, refl, _∙_}
 use mathlib.Core.List.{List}
 use mathlib.Core.Option.{Option, none, some}
@@ -8,6 +8,7 @@ use lib.ListN.{length}
 use lib.Ieee.{ofBits, le, lt, eq}
 use borrow.Author.Tests.{le-leb}
 use Rattle.refusal.specs.declared.Refusal.the-variants as refusal
+use Rattle.refusal.specs.Questions.{every}
 use Rattle.refusal.proofs.Questions.{rest-asked}
 use Rattle.matcher.specs.Codes.{fromBits, source}
 use Rattle.grid_alignment.specs.Alignment.{sends}
@@ -22,7 +23,7 @@ use Rattle.shot_record.specs.Writing as writing
 use Rattle.shot_record.specs.Writing.{bytesOf}
 use Rattle.hypothesis.specs.Placements.{leastTo, greatestTo, frame, withTurnsBelow, placements}
 use Rattle.board_match.specs.declared.Matched.the-variants as matched
-use Rattle.board_match.specs.Questions.{every, askedFrom9, askedOfShot, askedBefore15}
+use Rattle.board_match.specs.Questions.{askedFrom9, askedOfShot, askedBefore15}
 use Rattle.board_match.specs.Match.{askedFrom15, matchAnswer}
 use Rattle.board_match.proofs.Order.{shot-goes-on}
 use Rattle.worked_examples.specs.Table.{showing, tooWide}

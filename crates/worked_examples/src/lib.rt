@@ -1,1 +1,2 @@
-// Document 01's proved table, P1 to P12: `specs/Table.antt` states them and `proofs/Rows.antt` proves them. No code.
+// Document 01's proved table, P1 to P12: `specs/Table.antt` states them and `proofs/Rows.antt` proves them. Document 02's small shots:
+// `specs/Requests.antt` and `proofs/Requested.antt`. No code.

@@ -3,7 +3,9 @@
 mod faults;
 mod look_alikes;
 mod numbers;
+mod points;
 mod reach;
+mod repeats;
 mod scene;
 mod ties;
 
@@ -28,7 +30,8 @@ pub struct Kind {
     make: Make,
 }
 
-pub const KINDS: [Kind; 15] = [
+/// No two cells of a shot that passes question 12 are at one point, but in the kind that means it, and by damage.
+pub const KINDS: [Kind; 17] = [
     shots("true placements", 18_000, numbers::shown),
     shots("ties", 15_000, ties::shot),
     shots("tiny boards", 12_000, ties::tiny_board),
@@ -52,7 +55,12 @@ pub const KINDS: [Kind; 15] = [
     ),
     kind("lent lists", 4_000, Make::Given(with_any_places)),
     kind("damaged records", 8_000, Make::Given(damaged)),
+    kind("cells at one point", 60_000, Make::Given(repeats::given)),
+    shots("points nearly alike", 12_000, repeats::nearly),
 ];
+
+/// So many of the kinds, the last, are about cells at one point.
+pub const OF_REPEATS: usize = 2;
 
 /// The same kinds of legacy boards, half as many records of each.
 pub const LEGACY_KINDS: [Kind; KINDS.len()] = {

@@ -16,7 +16,8 @@ pub use answer::{
     Selected, told,
 };
 pub use questions::{
-    by_rust_and_model, by_rust_without_22, by_turned_rust_and_model, match_record, match_shot,
+    by_rust_and_model, by_rust_without_22, by_rust_without_23, by_turned_rust_and_model,
+    match_record, match_shot,
 };
 pub use rust::{Matching, Samples};
 pub use text::text;

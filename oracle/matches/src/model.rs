@@ -15,7 +15,7 @@ const LN_2: f32 = f32::from_bits(0x3F31_7218);
 /// 2⁻²³.
 const LEAST_CAPACITY: f32 = 1.0 / 8_388_608.0;
 
-/// A shot that the questions 1 to 8, 22, 9, 10 and 12 to 14 have let pass.
+/// A shot that the questions 1 to 8, 22, 9, 10, 12, 23, 13 and 14 have let pass.
 pub fn match_shot(shot: &Shot) -> Matched {
     if shot.cells.is_empty() {
         return Err(Answer::refused(11));

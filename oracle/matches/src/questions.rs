@@ -1,6 +1,7 @@
 //! The questions of the match in their order. Those that the Rust asks it answers itself: 1 to 5 and 7 when a board is
 //! made, 11 and 15 to 17 in the matcher. The rule for the added ones stands here and in `theirs`. Shots of boards with markers
-//! that are alike are refused by 22, so that nothing else of them is compared with the Rust, which places them.
+//! that are alike are refused by 22, and shots with two cells at one point by 23, so that nothing else of them is compared with
+//! the Rust, which places them.
 
 use crate::answer::{MARKER_WORDS, Matched};
 use crate::turned::{self, Compared, TurnedShot};
@@ -10,7 +11,7 @@ use cases::answer::Answer;
 use cases::boards::BoardArguments;
 use cases::corner_lists::FARTHEST;
 use cases::tables::SLOPES_AND_FLOORS;
-use records::{REFUSED, Shot, TABLE_LENGTH};
+use records::{Cell, REFUSED, Shot, TABLE_LENGTH};
 use std::collections::HashSet;
 use std::sync::{LazyLock, Mutex};
 use theirs::{accepted_board, board_up_to_8, is_table, likelihood_table};
@@ -51,13 +52,29 @@ pub fn by_turned_rust_and_model(shot: &Shot) -> Option<[Compared; 2]> {
 }
 
 /// What is said of a shot if 22 is not asked: a refusal by a question from 1 to 8, else what the Rust says, where no question from 9
-/// to 14 that it does not ask refuses the shot and the table is by the formula. A legacy board that it does not know is turned
-/// by a quarter.
+/// to 14 that it does not ask refuses the shot and the table is by the formula.
 pub fn by_rust_without_22(shot: &Shot) -> Option<Matched> {
     if let Err(refused) = board(shot) {
         return Some(Err(refused));
     }
-    asked_after_board(shot, usize::MAX).ok()?;
+    first_refused(&after_board(shot, usize::MAX)).ok()?;
+    by_rust(shot)
+}
+
+/// The same if 23 is not asked: a refusal by a question before it, else what the Rust says, where 13 does not refuse the shot.
+pub fn by_rust_without_23(shot: &Shot) -> Option<Matched> {
+    let questions = after_board(shot, usize::MAX);
+    let place = questions.iter().position(|&(number, _)| number == 23);
+    let (before, from_23) = questions.split_at(place.expect("it is one of them"));
+    if let Err(refused) = accepted(shot).and_then(|_| first_refused(before)) {
+        return Some(Err(refused));
+    }
+    first_refused(&from_23[1..]).ok()?;
+    by_rust(shot)
+}
+
+/// What the Rust says, if the table is by the formula. A legacy board that it does not know is turned by a quarter.
+fn by_rust(shot: &Shot) -> Option<Matched> {
     let slope_and_floor = slope_and_floor(&shot.table)?;
     let turned = is_unknown_to_rust(shot).then(|| TurnedShot::new(shot).shot);
     let shot = turned.as_ref().unwrap_or(shot);
@@ -69,27 +86,34 @@ const fn is_unknown_to_rust(shot: &Shot) -> bool {
     shot.is_legacy() && shot.rows % 2 == 0
 }
 
-/// The questions 1 to 8, 22, 9, 10 and 12 to 14. Where there is no cell, 12 to 14 have nothing to refuse, so that the Rust may
-/// answer 11 after them.
+/// The questions 1 to 8, 22, 9, 10, 12, 23, 13 and 14. Where there is no cell, those from 12 on have nothing to refuse, so that the
+/// Rust may answer 11 after them.
 fn asked_first(shot: &Shot, places: usize) -> Result<(), Answer> {
     accepted(shot)?;
-    asked_after_board(shot, places)
+    first_refused(&after_board(shot, places))
 }
 
-/// From 9 on.
-fn asked_after_board(shot: &Shot, places: usize) -> Result<(), Answer> {
+/// A question by its number, and whether it lets the shot pass.
+type Asked = (u32, bool);
+
+/// From 9 on, but for 11.
+fn after_board(shot: &Shot, places: usize) -> [Asked; 6] {
     let settings = [
         shot.minimum_margin,
         shot.border_threshold,
         shot.px_per_square,
     ];
-    let questions = [
+    [
         (9, settings.iter().all(|&x| f32::from_bits(x).is_finite())),
         (10, is_table(&shot.table.map(f32::from_bits))),
         (12, cells_in_range(shot)),
+        (23, no_point_twice(shot)),
         (13, samples_in_range(shot)),
         (14, places >= shot.cells.len() * MARKER_WORDS),
-    ];
+    ]
+}
+
+fn first_refused(questions: &[Asked]) -> Result<(), Answer> {
     let refused = questions.iter().find(|(_, passed)| !passed);
     refused.map_or(Ok(()), |&(number, _)| Err(Answer::refused(number)))
 }
@@ -124,6 +148,16 @@ fn cells_in_range(shot: &Shot) -> bool {
     let in_range = |x: i16| (-FARTHEST..=FARTHEST).contains(&x.into());
     let mut cells = shot.cells.iter();
     shot.cells.len() <= MOST_CELLS && cells.all(|cell| in_range(cell.u) && in_range(cell.v))
+}
+
+/// Question 23: no cell, sampled or not, lies where one before it does.
+fn no_point_twice(shot: &Shot) -> bool {
+    let point = |cell: &Cell| [cell.u, cell.v];
+    let mut cells = shot.cells.iter().enumerate();
+    cells.all(|(place, cell)| {
+        let mut before = shot.cells[..place].iter();
+        before.all(|other| point(other) != point(cell))
+    })
 }
 
 /// Question 13. In a record that is read every grid is whole.

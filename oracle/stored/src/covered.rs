@@ -1,5 +1,5 @@
 //! Whether the answers in the file would show that any two words or fields are exchanged, that a word is left out, or that a
-//! kind of line is spelled otherwise; and whether every number of a refusal comes up.
+//! kind of line is spelled otherwise; whether every number of a refusal comes up; and whether cells at one point are read.
 
 use crate::kinds::{self, Kind};
 use crate::script::Asked;
@@ -50,11 +50,20 @@ pub fn check(asked: &[Asked]) {
         let answers: Vec<&Answer> = answers.map(|asked| &asked.answer).collect();
         check_kind(kind, &answers);
     }
+    let of_repeats = || asked.iter().filter(|asked| asked.has_repeat);
     // Kinds that ask about a record have none of their own for legacy boards.
     let of_marked = asked.iter().filter(|asked| asked.is_marked);
     let matches = of_marked.filter(|asked| asked.kind == kinds::MATCH);
     let answers: Vec<&Answer> = matches.map(|asked| &asked.answer).collect();
     check_numbers("matches of legacy boards", kinds::MATCH.numbers, &answers);
+    // Cells at one point are read, and no match has them.
+    for kind in [kinds::HEADER, kinds::CELL, kinds::GRID] {
+        let is_read = |asked: &Asked| asked.kind == kind && asked.answer.number == 0;
+        let name = kind.name;
+        assert!(of_repeats().any(is_read), "{name}, cells at one point");
+    }
+    let mut matches = of_repeats().filter(|asked| asked.kind == kinds::MATCH);
+    assert!(matches.all(|asked| asked.answer.number != 0));
     check_text(asked);
 }
 

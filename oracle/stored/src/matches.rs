@@ -3,14 +3,15 @@
 
 use crate::kinds::{ANSWER_TEXT, Kind, MATCH, TEXT};
 use crate::records::{ask_header, ask_place};
-use crate::script::{Script, few, is_marked};
+use crate::script::{MOST_CELLS, Script, few, is_marked};
 use cases::answer::Answer;
 use cases::cells::Cell as Grid;
 use cases::codes::listed_codes;
-use matches::given::{Given, KINDS, Kind as GivenKind, LEGACY_KINDS};
+use cases::corner_lists::rectangle;
+use matches::given::{Given, KINDS, Kind as GivenKind, LEGACY_KINDS, OF_REPEATS};
 use matches::{MARKER_WORDS, MOST_PLACES, Placed, by_turned_rust_and_model, match_record, text};
 use records::telling::Place;
-use records::{Cell, REFUSED, Sample, Shot, read, write};
+use records::{Cell, REFUSED, Sample, Shot, built_in_table, read, write};
 
 /// Most records are no longer than this. A table alone has 2,044 bytes, so few records have one.
 const SHORT: usize = 200;
@@ -45,6 +46,11 @@ const ONE_IN: usize = 8;
 /// Of each kind of legacy boards so many.
 const OF_EACH_LEGACY_KIND: usize = 10;
 
+/// The kinds that are not about cells at one point, and those that are.
+fn parted(kinds: &[GivenKind]) -> (&[GivenKind], &[GivenKind]) {
+    kinds.split_at(kinds.len() - OF_REPEATS)
+}
+
 pub fn ask(script: &mut Script) {
     ask_all(script, &chosen());
     ask_answers(script);
@@ -54,10 +60,35 @@ pub fn ask(script: &mut Script) {
 pub fn ask_marked(script: &mut Script) {
     let mut chosen = small_legacy_boards().map(with_places).to_vec();
     chosen.extend(with_every_refusal(&LEGACY_KINDS));
-    for kind in &LEGACY_KINDS {
+    for kind in parted(&LEGACY_KINDS).0 {
         let (longest, most) = lengths(kind);
         chosen.extend(of_kind(kind, longest, most.min(OF_EACH_LEGACY_KIND)));
     }
+    ask_all(script, &chosen);
+}
+
+/// Cells at one point, which only the match refuses, and points that are nearly alike. The readers read both.
+pub fn ask_repeats(script: &mut Script, legacy: bool) {
+    for mut shot in small_repeats().into_iter().chain(repeats_of_most_cells()) {
+        if legacy {
+            shot = shot.marked();
+        }
+        let given = with_places(shot);
+        ask_all(script, std::slice::from_ref(&given));
+        let read = read(&given.record);
+        for place in [0, 1, 2, MOST_CELLS - 1] {
+            ask_place(script, read.as_ref(), Place::Cell(place));
+        }
+    }
+    let (kinds, most) = if legacy {
+        (&LEGACY_KINDS, OF_EACH_LEGACY_KIND)
+    } else {
+        (&KINDS, OF_EACH_KIND)
+    };
+    let of_kinds = parted(kinds).1.iter();
+    let chosen: Vec<Given> = of_kinds
+        .flat_map(|kind| of_kind(kind, SHORT, most))
+        .collect();
     ask_all(script, &chosen);
 }
 
@@ -95,7 +126,8 @@ fn ask_text(script: &mut Script, kind: Kind, text: String) {
 /// Answers that no record has: without a runner-up, which there always is; with a best placement that has no number, of
 /// which no marker is emitted; with numbers as large as their words hold.
 fn ask_answers(script: &mut Script) {
-    let records = KINDS.iter().flat_map(|kind| kind.first(ANSWERS));
+    let (kinds, _) = parted(&KINDS);
+    let records = kinds.iter().flat_map(|kind| kind.first(ANSWERS));
     let records = records.filter(|given| !is_marked(&given.record));
     let placed = records.filter_map(|given| match_record(&given.record, MOST_PLACES).ok());
     let short = placed.filter(|placed| placed.markers.len() <= MOST_MARKERS);
@@ -145,7 +177,7 @@ fn chosen_by(kind: &GivenKind, given: &Given) -> u32 {
 fn chosen() -> Vec<Given> {
     let mut chosen = vec![with_places(Shot::of_document_01())];
     chosen.extend(with_every_refusal(&KINDS));
-    for kind in &KINDS {
+    for kind in parted(&KINDS).0 {
         let (longest, most) = lengths(kind);
         chosen.extend(of_kind(kind, longest, most));
     }
@@ -204,6 +236,56 @@ fn no_evidence_of_the_next() -> Shot {
     let [u, v] = [2, 1];
     shot.cells.push(Cell { u, v, sample: None });
     shot
+}
+
+/// The board of document 01 by the built-in table.
+fn with_cells(cells: Vec<Cell>) -> Shot {
+    Shot {
+        map: 0,
+        table: built_in_table(),
+        cells,
+        ..Shot::of_document_01()
+    }
+}
+
+/// The record of document 01 with a second cell at the point of its cell, which is (0, 0): each of them sampled or not. Then with
+/// the second cell beside that point, where it is refused by no question before 15.
+fn small_repeats() -> Vec<Shot> {
+    let sample = Shot::of_document_01().cells[0].sample.clone();
+    let shot = |samples: [bool; 2], [u, v]: [i16; 2]| {
+        let [first, second] = samples.map(|is_sampled| sample.clone().filter(|_| is_sampled));
+        let cells = vec![
+            Cell {
+                u: 0,
+                v: 0,
+                sample: first,
+            },
+            Cell {
+                u,
+                v,
+                sample: second,
+            },
+        ];
+        with_cells(cells)
+    };
+    let samples = [[true, true], [true, false], [false, true], [false, false]];
+    let mut shots = samples.map(|samples| shot(samples, [0, 0])).to_vec();
+    shots.extend([[0, 1], [1, 0], [-1, 0], [0, -1], [-1, -1]].map(|point| shot([true; 2], point)));
+    shots
+}
+
+/// 256 cells that are not sampled: two of them at one point, the first and the last, then two others; last none.
+fn repeats_of_most_cells() -> [Shot; 3] {
+    let points = rectangle([0, 0], [16, 16]).map(|point| point.map(|x| x as i16));
+    let cells = points.map(|[u, v]| Cell { u, v, sample: None });
+    let cells: Vec<Cell> = cells.collect();
+    [Some([0, MOST_CELLS - 1]), Some([200, 77]), None].map(|places| {
+        let mut cells = cells.clone();
+        if let Some([from, to]) = places {
+            cells[to] = cells[from].clone();
+        }
+        with_cells(cells)
+    })
 }
 
 /// The record of document 01 with the mark, and its cell on legacy boards of 4 rows and 5 columns and of 3 by 3: they stand

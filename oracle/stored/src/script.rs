@@ -2,8 +2,8 @@
 
 use crate::kinds::Kind;
 use cases::answer::{Answer, after};
-use records::settings;
-use std::collections::HashMap;
+use records::{read, settings};
+use std::collections::{HashMap, HashSet};
 use std::fmt::Write;
 
 /// What the program has room for.
@@ -11,6 +11,9 @@ pub const MOST_PLACES: usize = 147_500;
 pub const MOST_BYTES: usize = 65_536;
 const MOST_WORDS: usize = 8_600;
 const WORDS_OF_A_ROW: usize = 32;
+
+/// Of a match.
+pub const MOST_CELLS: usize = 256;
 
 /// So many equal bytes or words have a row of their own.
 const LONG_RUN_OF_BYTES: usize = 24;
@@ -22,6 +25,8 @@ pub struct Asked {
     pub answer: Answer,
     /// Have the bytes, if they are a record, the mark of a legacy board?
     pub is_marked: bool,
+    /// Are two cells at one point, of no more than a match may have, if the bytes are a record?
+    pub has_repeat: bool,
     /// That of place, if the row asks for it.
     pub text: String,
 }
@@ -128,6 +133,7 @@ impl Script {
             kind,
             answer,
             is_marked: is_marked(&self.bytes),
+            has_repeat: has_repeat(&self.bytes),
             text: String::new(),
         });
     }
@@ -136,6 +142,12 @@ impl Script {
 pub fn is_marked(record: &[u8]) -> bool {
     let map = record.first();
     map.is_some_and(|map| map & settings::LEGACY != 0)
+}
+
+fn has_repeat(record: &[u8]) -> bool {
+    let cells = read(record).map_or(Vec::new(), |read| read.shot.cells);
+    let points: HashSet<[i16; 2]> = cells.iter().map(|cell| [cell.u, cell.v]).collect();
+    points.len() < cells.len() && cells.len() <= MOST_CELLS
 }
 
 /// What every list holds before it is asked for.

@@ -13,13 +13,17 @@ fn main() -> ExitCode {
     Bench::with_memory("bench_match", "match").run(cases.into())
 }
 
-/// Columns and rows of squares that are seen.
+/// Columns and rows of the block of squares that is seen.
 type Size = [i32; 2];
 
-/// The last two are against us. A block as wide as the board has one column or one row of placements in each turn, so that
+/// No match has more cells.
+const MOST_CELLS: i32 = 256;
+
+/// The last three are against us. A block as wide as the board has one column or one row of placements in each turn, so that
 /// few scores stand side by side. With 3 by 3 bits what is done once for each score weighs most; there are 140 such codes of which no
-/// two are alike, and 136 markers on 16 rows and 17 columns.
-const CASES: [(Board, Size); 10] = [
+/// two are alike, and 136 markers on 16 rows and 17 columns. Cells that need the whole board have 4 placements, so that reading the
+/// most cells and asking the questions about them weighs most.
+const CASES: [(Board, Size); 11] = [
     (([5, 7], 4), [5, 4]),
     (([12, 9], 4), [5, 10]),
     (([12, 9], 6), [5, 10]),
@@ -30,19 +34,23 @@ const CASES: [(Board, Size); 10] = [
     (([32, 32], 6), [1, 1]),
     (([32, 32], 4), [32, 8]),
     (([16, 17], 3), [8, 8]),
+    (([32, 32], 4), [32, 32]),
 ];
 
 fn name(([rows, cols], bits): Board, [width, height]: Size) -> String {
-    let cells = width * height;
+    let cells = (width * height).min(MOST_CELLS);
     format!(
         "{rows} rows and {cols} columns, {bits} by {bits} bits, {cells} cells, {width} by {height}"
     )
 }
 
-/// A part from the middle of the board. A single square there holds a marker.
+/// A part from the middle of the board. A single square there holds a marker. Of a block with too many squares whole rows are
+/// seen, as many as there may be, from its first to its last, evenly apart.
 fn case(([rows, cols], bits): Board, [width, height]: Size) -> WholeMatch {
     let left = (i32::from(cols) - width + 1) / 2;
     let top = (i32::from(rows) - height) / 2;
-    let squares = rectangle([left, top], [width, height]);
+    let seen_rows = height.min(MOST_CELLS / width);
+    let apart = |k: i32| k * (height - 1) / (seen_rows - 1).max(1);
+    let squares = rectangle([0, 0], [width, seen_rows]).map(|[i, k]| [left + i, top + apart(k)]);
     WholeMatch::new(seen(([rows, cols], bits), squares.collect()))
 }

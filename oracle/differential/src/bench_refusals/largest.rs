@@ -6,11 +6,11 @@
 //! cells that have as many bytes. The codes are random ones of 8 by 8 bits, of which no two are alike: question 22 turns 512 of
 //! them, which takes longest for the largest side, and puts the least turns in order.
 
-use cases::cells::Cell as Grid;
 use cases::codes::{random_different_codes, turned_code};
+use cases::corner_lists::{FARTHEST, rectangle};
 use cases::prng::Prng;
 use matches::MOST_PLACES;
-use matches::given::Given;
+use matches::given::{Given, Look, Scene};
 use records::{Cell, LONGEST, Sample, Shot, TABLE_LENGTH, UNSAMPLED, write};
 
 pub struct Asked {
@@ -46,7 +46,7 @@ pub fn asked() -> Vec<Asked> {
     let mut all = vec![a_byte_more()];
     all.extend(up_to_10);
     all.extend([no_cell(), too_many_cells()]);
-    all.extend(from_13());
+    all.extend(from_23());
     all.extend(largest_searches());
     all
 }
@@ -165,7 +165,8 @@ fn too_many_cells() -> Asked {
 }
 
 /// 256 cells, with grids of 16 by 16 greys, by which the record still has the most bytes. As many are sampled as there is
-/// room for, and they are the last.
+/// room for, and they are the last. Their points are different and lie over the whole range, in any order: question 23 takes longer
+/// then than for a block that fits on a board.
 fn most_cells() -> Shot {
     let mut shot = without_cells(0);
     shot.border = 4;
@@ -178,48 +179,62 @@ fn most_cells() -> Shot {
     shot.codes = random_codes(codes);
     let cell = sampled(&shot);
     shot.cells[MOST_CELLS - (room - 8 * codes) / bytes..].fill(cell);
+    let mut prng = Prng::new(19);
+    let mut any = || (prng.below(FARTHEST as u64 * 2) as i32 - FARTHEST) as i16;
+    for cell in &mut shot.cells {
+        [cell.u, cell.v] = [any(), any()];
+    }
     shot
 }
 
-/// 13 to 15.
-fn from_13() -> [Asked; 3] {
+/// 23 and 13 to 15.
+fn from_23() -> [Asked; 4] {
     const LAST: usize = MOST_CELLS - 1;
     let shot = most_cells();
+    // Their point is above all others, so that it is found last.
+    let mut twice = shot.clone();
+    for cell in &mut twice.cells[LAST - 1..] {
+        [cell.u, cell.v] = [FARTHEST as i16; 2];
+    }
     let mut odd = shot.clone();
     if let Some(sample) = odd.samples_mut().last() {
         sample.fraction = f32::NAN.to_bits();
     }
     let mut short = Asked::new(14, "a list that is a word too short", &shot);
     short.given.places -= 1;
-    let mut wide = shot;
-    wide.cells[LAST].u = 32;
     [
+        Asked::new(23, "the last two cells at one point", &twice),
         Asked::new(13, "the last fraction NaN", &odd),
         short,
-        Asked::new(15, "cells in 33 columns", &wide),
+        Asked::new(15, "cells too far apart", &shot),
     ]
 }
 
-/// 16, 17 and a match: 256 cells of 8 by 8 bits at one point, which have 4,096 placements. No larger record has as much to
-/// search: with a border of 4 the grids alone would have 65,536 bytes.
+/// 16, 17 and a match: 256 cells of 8 by 8 bits in a block, in any order. It has 1,156 placements; no 256 points have more. No
+/// larger record has as much to search: with a border of 4 the grids alone would have 65,536 bytes.
 fn largest_searches() -> [Asked; 3] {
     let mut prng = Prng::new(18);
-    let size = [BITS, 3];
-    let mut placed = without_cells(MOST_CODES);
-    placed.border = size[1];
-    let code = placed.codes[0];
-    placed.cells = prng.many(MOST_CELLS, |prng| {
-        let Grid {
-            threshold, grid, ..
-        } = Grid::showing(prng, size, code);
-        Cell {
-            sample: Some(Sample::new(1.0, threshold, grid)),
-            ..UNSAMPLED
-        }
-    });
+    let mut squares: Vec<[i32; 2]> = rectangle([8, 8], [16, 16]).collect();
+    prng.shuffle(&mut squares);
+    let Shot {
+        rows, cols, codes, ..
+    } = without_cells(MOST_CODES);
+    let scene = Scene {
+        rows,
+        cols,
+        legacy: false,
+        bits: BITS,
+        border: 3,
+        turn: 0,
+        translation: [0, 0],
+        codes,
+        squares,
+    };
+    let mut placed = scene.shot(&mut prng, Look::Clear);
+    placed.map = ALL;
     let mut narrow = placed.clone();
     narrow.minimum_margin = f32::MAX.to_bits();
-    // No evidence is above 0 by this table, so that the margin is 0 and no cell emits a marker, though all of them count.
+    // No evidence is above 0 by this table, so that the margin is 0 and no cell emits a marker, though half of them lie on one.
     let mut none = placed.clone();
     none.minimum_margin = 0.0f32.to_bits();
     none.table = [(-1.0f32).to_bits(); TABLE_LENGTH];

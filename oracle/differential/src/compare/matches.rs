@@ -1,22 +1,22 @@
 //! The match: its answer, every word of the lent list, and what the program `place` prints.
 
-mod look_alikes;
 mod program;
+mod unknown_to_rust;
 
 use crate::entry::{Both, Entry};
 use crate::subject::{Bytes, Subject};
-use look_alikes::LookAlikes;
 use matches::given::{Given, KINDS, Kind, LEGACY_KINDS};
 use matches::{Compared, by_rust_and_model, by_turned_rust_and_model, told};
 use records::REFUSED;
 use std::fmt::{self, Display, Formatter};
+use unknown_to_rust::UnknownToRust;
 
 pub use program::compare as compare_program;
 
 /// The numbers of the answers, in the order of the questions; 0 is a match.
 #[rustfmt::skip]
-const NUMBERS: [u32; 20] = [
-    0, REFUSED, 1, 2, 3, 4, 5, 6, 7, 8, 22, 9, 10, 11, 12, 13, 14, 15, 16, 17,
+const NUMBERS: [u32; 21] = [
+    0, REFUSED, 1, 2, 3, 4, 5, 6, 7, 8, 22, 9, 10, 11, 12, 23, 13, 14, 15, 16, 17,
 ];
 
 pub fn compare() -> Vec<Subject> {
@@ -31,7 +31,7 @@ pub fn compare() -> Vec<Subject> {
 fn compare_kinds(name: &'static str, kinds: &[Kind], turned: &mut Turned) -> Vec<Subject> {
     let mut entry = Entry::new(name, &NUMBERS);
     let mut rules = Subject::new(format!("{name}, the rules against the Rust"));
-    let mut look_alikes = LookAlikes::new(name);
+    let mut unknown = UnknownToRust::all(name);
     let mut subjects = Vec::new();
     for kind in kinds {
         let mut of_kind = Subject::new(format!("{name}, {}", kind.name));
@@ -55,15 +55,16 @@ fn compare_kinds(name: &'static str, kinds: &[Kind], turned: &mut Turned) -> Vec
             if let Some(both) = by_turned_rust_and_model(&read.shot) {
                 turned.check(both, &asked);
             }
-            if ours.number == 22 {
-                look_alikes.check(&read.shot, &asked);
+            let mut unknown = unknown.iter_mut();
+            if let Some(unknown) = unknown.find(|unknown| unknown.number == ours.number) {
+                unknown.check(&read.shot, &asked);
             }
         }
         subjects.push(of_kind);
     }
     subjects.extend(entry.subjects());
     subjects.push(rules);
-    subjects.extend(look_alikes.subjects());
+    subjects.extend(unknown.into_iter().flat_map(UnknownToRust::subjects));
     subjects
 }
 

@@ -2,6 +2,7 @@
 
 use super::Given;
 use super::numbers::odd_entries;
+use super::points::is_free;
 use super::scene::{Look, Scene, markers_of};
 use crate::answer::MARKER_WORDS;
 use cases::boards::Pair;
@@ -18,7 +19,7 @@ struct Faulty {
 
 type Fault = fn(&mut Prng, &mut Faulty);
 
-/// By the number of the question, in the order in which they are asked.
+/// By the number of the question, in the order in which they are asked, but for 23, which has a kind of its own (`repeats.rs`).
 const FAULTS: [Fault; 19] = [
     |_, faulty| faulty.is_broken = true,
     |prng, Faulty { shot, .. }| {
@@ -99,7 +100,9 @@ const FAULTS: [Fault; 19] = [
             let [u, v] = [first.u, first.v];
             let far: i16 = prng.pick(&[32, 33, 60, -32, -33, -60]);
             let [u, v] = prng.pick(&[[u.saturating_add(far), v], [u, v.saturating_add(far)]]);
-            shot.cells.push(Cell { u, v, ..UNSAMPLED });
+            if is_free(shot, [u, v]) {
+                shot.cells.push(Cell { u, v, ..UNSAMPLED });
+            }
         }
     },
     |prng, Faulty { shot, .. }| {

@@ -1,5 +1,6 @@
 //! Which placements there are: single cells, cells along the rim, cells that just fit or just do not, far cells, many cells.
 
+use super::points::keep_first;
 use super::scene::{Look, Scene};
 use cases::corner_lists::{FARTHEST, rectangle};
 use cases::prng::Prng;
@@ -46,7 +47,9 @@ fn along_the_rim(prng: &mut Prng, legacy: bool) -> Shot {
         scene.squares.push(square);
     }
     prng.shuffle(&mut scene.squares);
-    scene.any_shot(prng)
+    let mut shot = scene.any_shot(prng);
+    keep_first(&mut shot);
+    shot
 }
 
 /// As wide or as high as the board, or by one more; a board that is not square may take them in two turns only.
@@ -99,7 +102,9 @@ fn no_marker_seen(prng: &mut Prng, legacy: bool) -> Shot {
         Some(_) => [i, 0],
     });
     scene.squares = plain.collect();
-    scene.shot(prng, Look::Noisy)
+    let mut shot = scene.shot(prng, Look::Noisy);
+    keep_first(&mut shot);
+    shot
 }
 
 /// 250 to 257 cells, on boards where they have few places or many.

@@ -1,12 +1,13 @@
 //! Shots in which placements tie: grids or cells that are alike, markers that look the same when they are turned. No two markers
 //! are alike; codes past the last marker may be like any.
 
+use super::points::free_in_frame;
 use super::scene::{Look, Scene, markers_of};
 use cases::cells::Cell as Grid;
 use cases::codes::{least_turn, patterns};
 use cases::floats::NORMAL;
 use cases::prng::Prng;
-use records::{Sample, Shot};
+use records::{Cell, Sample, Shot};
 
 type Change = fn(&mut Prng, &mut Shot);
 
@@ -20,7 +21,7 @@ const CHANGES: [Change; 10] = [
     |_, shot| for_each_grey(shot, |threshold| threshold),
     |_, shot| for_each_grey(shot, |threshold| threshold.saturating_sub(1)),
     one_grey,
-    repeated_cells,
+    copied_cells,
     any_margin,
 ];
 
@@ -99,15 +100,20 @@ fn for_each_grey(shot: &mut Shot, grey: impl Fn(u8) -> u8) {
     }
 }
 
-/// The same cell several times, as it is or with another's samples.
-fn repeated_cells(prng: &mut Prng, shot: &mut Shot) {
+/// Cells that show what another one does, at points of the frame without a cell, or in the place of a cell where there is none.
+fn copied_cells(prng: &mut Prng, shot: &mut Shot) {
     for _ in 0..1 + prng.below(4) {
         let [from, other] = prng.two(|prng| prng.place(shot.cells.len()));
-        let mut cell = shot.cells[from].clone();
-        if prng.one_in(2) {
-            cell.sample = shot.cells[other].sample.clone();
+        let shown = if prng.one_in(2) { other } else { from };
+        let sample = shot.cells[shown].sample.clone();
+        let to = prng.place(shot.cells.len() + 1);
+        let free = free_in_frame(shot);
+        if free.is_empty() {
+            shot.cells[from].sample = sample;
+        } else {
+            let [u, v] = free[to % free.len()];
+            shot.cells.insert(to, Cell { u, v, sample });
         }
-        shot.cells.insert(prng.place(shot.cells.len() + 1), cell);
     }
 }
 

@@ -7,6 +7,7 @@ use lib.Dec.{leb}
 use lib.ListN.{length}
 use borrow.Author.Needs.{needs}
 use borrow.Author.Tests.{not-true, not-false, lt-leb, le-leb, lt-ltb, le-ltb}
+use Rattle.refusal.specs.Questions.{every}
 use Rattle.shot_record.specs.Fields.{cellCount}
 use Rattle.shot_record.specs.Shots.{Shot, shot}
 use Rattle.shot_record.specs.Answers.{configOf}
@@ -14,8 +15,9 @@ use Rattle.shot_record.proofs.Reading.{Small, found}
 use Rattle.shot_record.proofs.Whole.{passed}
 use Rattle.shot_record.proofs.CellReads.{cell-count}
 use Rattle.hypothesis.specs.Placements.{cell}
-use Rattle.board_match.specs.Questions.{every, placedAnswer, settingsAnswer, tableAnswer, someAnswer, cellsAnswer, samplesAnswer, askedFrom9}
-use Rattle.board_match.proofs.CellAnswers.{placed-are, samples-are}
+use Rattle.board_match.specs.Questions.{placedAnswer, settingsAnswer, tableAnswer, someAnswer, cellsAnswer, pointsAnswer}
+use Rattle.board_match.specs.Questions.{samplesAnswer, askedFrom9}
+use Rattle.board_match.proofs.CellAnswers.{placed-are, points-small, points-are, samples-are}
 use Rattle.board_match.proofs.questions.from_9.Statement.{statement}
 use Rattle.board_match.proofs.questions.from_9.Tie as tie
 
@@ -123,58 +125,88 @@ returns-5 c =
     let e = c .before .before .before in
     rw (yes9 (before-10 (before-12 e .before)), yes10 (before-12 e), yes11 e, answer-12 (c .before) ∙ not-true _ (c .if5 .taken))
 
--- ---- 13
+-- ---- 23
 module _ (c : tie.Else5) where
-  abbrev before-13 : tie.Else3
-  before-13 = c .before .before .before
+  abbrev before-23 : tie.Else3
+  before-23 = c .before .before .before
 
-  yes12 : cellsAnswer (s (at-12 before-13)) ≡ true
+  yes12 : cellsAnswer (s (at-12 before-23)) ≡ true
   yes12 = answer-12 (c .before) ∙ not-false _ (c .if5 .left)
 
-all-sampled-requires : tie.Need-all-sampled-requires
-all-sampled-requires c κs = c .before .before .if4 .left
+all-different-requires : tie.Need-all-different-requires
+all-different-requires c κs =
+    let x = at-12 (before-23 c) in
+    let few = c .before .before .if4 .left in
+    (few, points-small (x .args .bytes .now) (x .args .index .now) (x .pre .0 .1) _ (all x) few)
 
-answer-13 : (c : tie.After-all-sampled) → samplesAnswer (s (at-12 (before-13 (c .before)))) ≡ c .all-sampled .result
-answer-13 c =
-    let x = at-12 (before-13 (c .before)) in
-    sym (c .all-sampled .ensures ∙ samples-are (x .args .bytes .now) (x .args .index .now) (x .pre .0 .1) _ (all x) (c .before .before .before .if4 .left)
-    (passed (x .args .bytes .now) (x .pre .0 .2)) (small (before-10 (before-12 (before-13 (c .before)) .before) .before)))
+answer-23 : (c : tie.After-all-different) → pointsAnswer (s (at-12 (before-23 (c .before)))) ≡ c .all-different .result
+answer-23 c =
+    let x = at-12 (before-23 (c .before)) in
+    sym (c .all-different .ensures ∙ points-are (x .args .bytes .now) (x .args .index .now) (x .pre .0 .1) _ (all x) (c .before .before .before .if4 .left))
 
 returns-6 : tie.Need-returns-6
 unfolding askedFrom9
 returns-6 c =
     let f = c .before .before in
-    let e = before-13 f in
-    rw
-    (yes9 (before-10 (before-12 e .before)), yes10 (before-12 e), yes11 e, yes12 f, answer-13 (c .before) ∙ not-true _ (c .if6 .taken))
+    let e = before-23 f in
+    rw (yes9 (before-10 (before-12 e .before)), yes10 (before-12 e), yes11 e, yes12 f, answer-23 (c .before) ∙ not-true _ (c .if6 .taken))
 
--- ---- 14
+-- ---- 13
 module _ (c : tie.Else6) where
-  abbrev before-14 : tie.Else5
-  before-14 = c .before .before
+  abbrev before-13 : tie.Else5
+  before-13 = c .before .before
 
-  yes13 : samplesAnswer (s (at-12 (before-13 before-14))) ≡ true
-  yes13 = answer-13 (c .before) ∙ not-false _ (c .if6 .left)
+  yes23 : pointsAnswer (s (at-12 (before-23 before-13))) ≡ true
+  yes23 = answer-23 (c .before) ∙ not-false _ (c .if6 .left)
+
+all-sampled-requires : tie.Need-all-sampled-requires
+all-sampled-requires c κs = before-13 c .before .before .if4 .left
+
+answer-13 : (c : tie.After-all-sampled) → samplesAnswer (s (at-12 (before-23 (before-13 (c .before))))) ≡ c .all-sampled .result
+answer-13 c =
+    let e = before-23 (before-13 (c .before)) in
+    let x = at-12 e in
+    sym (c .all-sampled .ensures ∙ samples-are (x .args .bytes .now) (x .args .index .now) (x .pre .0 .1) _ (all x)
+    (before-13 (c .before) .before .before .if4 .left) (passed (x .args .bytes .now) (x .pre .0 .2)) (small (before-10 (before-12 e .before) .before)))
 
 returns-7 : tie.Need-returns-7
 unfolding askedFrom9
 returns-7 c =
-    let f = before-14 (c .before) in
-    let e = before-13 f in
-    let x = at-12 e in
-    let no = lt-leb (18 * length (s x .cells)) (words x) (omega (arith, count x, c .if7 .taken)) in
-    rw (yes9 (before-10 (before-12 e .before)), yes10 (before-12 e), yes11 e, yes12 f, yes13 (c .before), no)
+    let g = c .before .before in
+    let f = before-13 g in
+    let e = before-23 f in
+    rw
+    (yes9 (before-10 (before-12 e .before)), yes10 (before-12 e), yes11 e, yes12 f, yes23 g, answer-13 (c .before) ∙ not-true _ (c .if7 .taken))
+
+-- ---- 14
+module _ (c : tie.Else7) where
+  abbrev before-14 : tie.Else6
+  before-14 = c .before .before
+
+  yes13 : samplesAnswer (s (at-12 (before-23 (before-13 before-14)))) ≡ true
+  yes13 = answer-13 (c .before) ∙ not-false _ (c .if7 .left)
 
 returns-8 : tie.Need-returns-8
 unfolding askedFrom9
 returns-8 c =
-    let f = before-14 (c .before) in
-    let e = before-13 f in
+    let g = before-14 (c .before) in
+    let f = before-13 g in
+    let e = before-23 f in
     let x = at-12 e in
-    let yes = le-leb (18 * length (s x .cells)) (words x) (omega (arith, count x, c .if7 .left)) in
-    rw (yes9 (before-10 (before-12 e .before)), yes10 (before-12 e), yes11 e, yes12 f, yes13 (c .before), yes)
+    let no = lt-leb (18 * length (s x .cells)) (words x) (omega (arith, count x, c .if8 .taken)) in
+    rw (yes9 (before-10 (before-12 e .before)), yes10 (before-12 e), yes11 e, yes12 f, yes23 g, yes13 (c .before), no)
+
+returns-9 : tie.Need-returns-9
+unfolding askedFrom9
+returns-9 c =
+    let g = before-14 (c .before) in
+    let f = before-13 g in
+    let e = before-23 f in
+    let x = at-12 e in
+    let yes = le-leb (18 * length (s x .cells)) (words x) (omega (arith, count x, c .if8 .left)) in
+    rw (yes9 (before-10 (before-12 e .before)), yes10 (before-12 e), yes11 e, yes12 f, yes23 g, yes13 (c .before), yes)
 
 pub from-9-spec : {M : Type 1} → statement M
 from-9-spec =
-    tie.close (tie.spec (λ c κs. tt) returns table-passes-requires returns-2 returns-3 returns-4 all-placed-requires returns-5 all-sampled-requires
-    returns-6 (λ c. search needs) returns-7 returns-8)
+    tie.close (tie.spec (λ c κs. tt) returns table-passes-requires returns-2 returns-3 returns-4 all-placed-requires returns-5
+    all-different-requires returns-6 all-sampled-requires returns-7 (λ c. search needs) returns-8 returns-9)

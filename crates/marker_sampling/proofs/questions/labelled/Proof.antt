@@ -11,8 +11,9 @@ use mir.Val.{SFits, toZ, ofZ}
 use mir.ValLaws.{toZ-ofZ}
 use borrow.Author.Needs.{needs}
 use borrow.Author.Tests.{eqb-true, eq-eqb}
-use Rattle.marker_sampling.specs.Cells.{same}
-use Rattle.marker_sampling.proofs.Tests.{agree, same-eq}
+use Rattle.integers.specs.Distance.{same}
+use Rattle.integers.proofs.Distances.{same-eq}
+use Rattle.marker_sampling.proofs.Tests.{agree}
 use Rattle.marker_sampling.proofs.questions.labelled.Statement.{statement}
 use Rattle.marker_sampling.proofs.questions.labelled.Tie as tie
 

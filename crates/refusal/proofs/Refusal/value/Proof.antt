@@ -16,7 +16,7 @@ use Rattle.refusal.proofs.Refusal.value.Tie as tie
 
 -- the tags of the refusals that give nothing
 abbrev silent : List ℕ
-silent = 0 ∷ 1 ∷ 2 ∷ 3 ∷ 4 ∷ 5 ∷ 7 ∷ 8 ∷ 9 ∷ 10 ∷ 11 ∷ 12 ∷ 13 ∷ 14 ∷ 16 ∷ 17 ∷ 18 ∷ 19 ∷ 20 ∷ 21 ∷ []
+silent = 0 ∷ 1 ∷ 2 ∷ 3 ∷ 4 ∷ 5 ∷ 7 ∷ 8 ∷ 9 ∷ 10 ∷ 11 ∷ 12 ∷ 13 ∷ 14 ∷ 16 ∷ 17 ∷ 18 ∷ 19 ∷ 20 ∷ 21 ∷ 22 ∷ []
 
 nothing : (r : Refusal) → OneOf silent (tagOf the-type r) → valuesOf r ≡ []
 nothing refusal.InvalidSize h = refl
@@ -41,6 +41,7 @@ nothing refusal.TooManyLinks h = refl
 nothing refusal.TooManyCells h = refl
 nothing refusal.InvalidRecord h = refl
 nothing refusal.CodesAlike h = refl
+nothing refusal.RepeatedPoint h = refl
 
 -- past the last value
 past-two : (a b k : ℕ) → (k ≡ 0 → ⊥) → (k ≡ 1 → ⊥) → 0 ≡ getD (a ∷ b ∷ []) k 0

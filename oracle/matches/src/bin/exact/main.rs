@@ -7,7 +7,7 @@ mod search;
 use matches::exact::{self, Worst};
 use matches::given::{KINDS, Kind, LEGACY_KINDS};
 use matches::match_record;
-use records::{Shot, built_in_table};
+use records::built_in_table;
 use search::Search;
 use std::process::ExitCode;
 
@@ -41,8 +41,8 @@ impl Class {
 fn main() -> ExitCode {
     let broken = of_many_shots("random shots", &KINDS)
         + of_many_shots("random shots of legacy boards", &LEGACY_KINDS)
-        + of_bad_shots("search", |shot| shot)
-        + of_bad_shots("search, on a legacy board", Shot::marked);
+        + of_bad_shots("search", false)
+        + of_bad_shots("search, on a legacy board", true);
     println!("shots that break the rule: {broken}");
     ExitCode::from(u8::from(broken != 0))
 }
@@ -77,9 +77,8 @@ fn of_many_shots(name: &str, kinds: &[Kind]) -> usize {
     classes.iter().map(|class| class.broken).sum()
 }
 
-/// The search starts anew for each number of cells, for errors up and down, and for both kinds of tables. The shot that it ends
-/// with is changed before it is judged.
-fn of_bad_shots(name: &str, change: fn(Shot) -> Shot) -> usize {
+/// The search starts anew for each number of cells, for errors up and down, and for both kinds of tables.
+fn of_bad_shots(name: &str, legacy: bool) -> usize {
     let mut broken = 0;
     for cells in SEARCHED {
         for (of_table, table) in [
@@ -88,7 +87,7 @@ fn of_bad_shots(name: &str, change: fn(Shot) -> Shot) -> usize {
         ] {
             let mut ratio = 0.0f64;
             for is_up in [true, false] {
-                let shot = change(Search::new(table, cells, is_up).run());
+                let shot = Search::new(table, cells, is_up).run(legacy);
                 let matched = matches::match_shot(&shot, usize::MAX);
                 matched.expect("a search ends with a shot that is placed");
                 let worst = exact::worst(&shot);

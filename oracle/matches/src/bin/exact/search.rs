@@ -1,19 +1,26 @@
 //! A search for shots whose reported evidence is far from the exact one: greys, weights and the table are changed step by
 //! step, and a change stays if the error grows.
 //!
-//! All cells lie at one point, on a board of two markers of 8 by 8 bits. Marker 0 has all bits and is what the cells show,
-//! so that the shot is placed. Marker 1 has none: its evidence sums the entries below the middle of the table, 64 for each
-//! cell, as far from 0 as they can be. The placement that expects it is the one that errs.
+//! The cells lie on the first markers of a board of 32 by 32 squares and show all bits, of 8 by 8. The 256 markers of the upper half
+//! have all bits but for two at most, so that the shot is placed. Those of the lower half have two bits at most: their
+//! evidence sums entries below the middle of the table, 62 to 64 for each cell, as far from 0 as they can be. The placement
+//! that expects these, 16 rows below, is the one that errs.
 
+use cases::codes::least_turn;
+use cases::layout::marker_squares;
 use cases::prng::Prng;
 use matches::Wide;
-use records::{Cell, Sample, Shot, TABLE_LENGTH, UNSAMPLED, built_in_table, settings};
+use records::{Cell, Sample, Shot, TABLE_LENGTH, built_in_table, settings};
 use theirs::null_score;
 
 const BITS: u8 = 8;
 const SIDE: usize = 10;
 const ENTRIES: usize = 64;
 const MIDDLE: usize = 255;
+
+/// Rows and columns of the board, and the markers of one half of it.
+const ROWS: u8 = 32;
+const HALF: usize = 256;
 
 /// Cells that are tried before one is taken, and changes that are tried afterwards.
 const TRIED: usize = 300;
@@ -27,9 +34,20 @@ pub fn near_the_floor() -> Table {
     std::array::from_fn(|k| if k <= MIDDLE { floor - k as u32 } else { 0 })
 }
 
-/// A cell by the differences of threshold and grey in its bits, 1 to 255, and its weight.
+/// Codes of two bits at most, no two of them alike: those of fewer bits first.
+fn few_bits() -> Vec<u64> {
+    let bit = |k: usize| 1u64 << k;
+    let one = (0..ENTRIES).map(bit);
+    let two = (0..ENTRIES).flat_map(|b| (0..b).map(move |a| bit(a) | bit(b)));
+    let all = [0].into_iter().chain(one).chain(two);
+    let least = all.filter(|&code| least_turn(code, BITS) == code);
+    least.take(HALF).collect()
+}
+
+/// A cell by the differences of threshold and grey in its bits, 1 to 255, its weight, and the code that it is held against.
 #[derive(Clone)]
 struct Row {
+    code: u64,
     differences: [u8; ENTRIES],
     weight: f32,
 }
@@ -47,6 +65,8 @@ pub struct Search {
     is_table_fixed: bool,
     cells: usize,
     is_up: bool,
+    /// Of the markers that the placement expects, cell by cell.
+    codes: Vec<u64>,
     rows: Vec<Row>,
     parts: Vec<Part>,
 }
@@ -59,12 +79,14 @@ impl Search {
             table,
             cells,
             is_up,
+            codes: few_bits(),
             rows: Vec::new(),
             parts: Vec::new(),
         }
     }
 
-    pub fn run(mut self) -> Shot {
+    /// On a board with the mark of a legacy board, or without it.
+    pub fn run(mut self, legacy: bool) -> Shot {
         for _ in 0..self.cells {
             self.take_best_cell();
         }
@@ -76,15 +98,23 @@ impl Search {
                 self.change_cell(&mut error);
             }
         }
-        self.shot()
+        self.shot(legacy)
     }
 
-    fn entry(&self, difference: u8) -> f32 {
-        f32::from_bits(self.table[MIDDLE - usize::from(difference)])
+    /// What a bit adds that is set, or not, in the code.
+    fn entry(&self, difference: u8, is_set: bool) -> f32 {
+        let difference = usize::from(difference);
+        let place = if is_set {
+            MIDDLE + difference
+        } else {
+            MIDDLE - difference
+        };
+        f32::from_bits(self.table[place])
     }
 
     fn part(&self, row: &Row) -> Part {
-        let entries = row.differences.map(|difference| self.entry(difference));
+        let entries: [f32; ENTRIES] =
+            std::array::from_fn(|k| self.entry(row.differences[k], is_set(row.code, k)));
         let score = entries.iter().fold(0.0, |sum, entry| sum + entry);
         let exact = entries.map(Wide::of_float);
         let exact = exact.into_iter().fold(Wide::ZERO, |sum, entry| sum + entry);
@@ -120,20 +150,22 @@ impl Search {
 
     /// Each entry is the one among some whose addition errs most.
     fn greedy_row(&mut self) -> Row {
+        let code = self.codes[self.rows.len()];
         let mut score = 0.0f32;
         let mut differences = [1; ENTRIES];
-        for place in &mut differences {
+        for (k, place) in differences.iter_mut().enumerate() {
             let tried = self.prng.many(48, |prng| 1 + prng.below(255) as u8);
             let error = |difference: u8| {
-                let entry = self.entry(difference);
+                let entry = self.entry(difference, is_set(code, k));
                 let error = f64::from(score + entry) - (f64::from(score) + f64::from(entry));
                 if self.is_up { error } else { -error }
             };
             let best = |&a: &u8, &b: &u8| error(a).total_cmp(&error(b));
             *place = tried.into_iter().max_by(best).expect("some were tried");
-            score += self.entry(*place);
+            score += self.entry(*place, is_set(code, k));
         }
         Row {
+            code,
             differences,
             weight: self.weight(),
         }
@@ -183,22 +215,32 @@ impl Search {
         }
     }
 
-    fn shot(self) -> Shot {
-        let cells = self.rows.iter().map(|row| Cell {
-            sample: Some(sample(row)),
-            ..UNSAMPLED
+    fn shot(self, legacy: bool) -> Shot {
+        let squares = marker_squares(ROWS.into(), ROWS.into(), legacy);
+        let cells = self.rows.iter().zip(squares).map(|(row, square)| {
+            let [u, v] = square.map(|x| x as i16);
+            let sample = Some(sample(row));
+            Cell { u, v, sample }
         });
-        Shot {
+        let many_bits = self.codes.iter().map(|code| !code);
+        let shot = Shot {
             map: settings::MINIMUM_MARGIN | settings::BORDER_THRESHOLD | settings::TABLE,
             minimum_margin: 0,
             border_threshold: 1.0f32.to_bits(),
             table: self.table,
+            rows: ROWS,
+            cols: ROWS,
             bits: BITS,
-            codes: vec![u64::MAX, 0],
+            codes: many_bits.chain(self.codes.iter().copied()).collect(),
             cells: cells.collect(),
             ..Shot::default()
-        }
+        };
+        if legacy { shot.marked() } else { shot }
     }
+}
+
+const fn is_set(code: u64, bit: usize) -> bool {
+    code >> bit & 1 != 0
 }
 
 fn sample(row: &Row) -> Sample {

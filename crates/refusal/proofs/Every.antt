@@ -7,8 +7,8 @@ use native.Mathlib.Nat.{eq-or-lt-of-le, le-of-suc-le-suc}
 use native.Mathlib.Numerals.{add-one}
 use native.Mathlib.Omega.{arith}
 use borrow.Author.Tests.{not-true, not-false}
 use Rattle.refusal.proofs.Questions.{both}
-use Rattle.board_match.specs.Questions.{every}
+use Rattle.refusal.specs.Questions.{every}
 
 module _ (test : ℕ → Bool) where
   pub each : (n : ℕ) → every test n ≡ true → (k : ℕ) → k < n → test k ≡ true
@@ -19,6 +19,11 @@ module _ (test : ℕ → Bool) where
       go : (k ≡ n) ⊎ (k < n) → test n ≡ true → (k < n → test k ≡ true) → test k ≡ true
       go (inl z) t ih = rw z t
       go (inr l) t ih = ih l
+
+  pub from-each : (n : ℕ) → ((k : ℕ) → k < n → test k ≡ true) → every test n ≡ true
+  unfolding every
+  from-each zero h = refl
+  from-each (suc n) h = rw (from-each n (λ k l. h k (omega (arith, l))), h n (omega arith))
 
   -- ---- in a loop: before it, after k that passes, at k that does not, and after the last
   pub none-tested : every test 0 ≡ true

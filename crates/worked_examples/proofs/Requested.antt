@@ -1,0 +1,17 @@
+-- Document 02's small shots: each answer computes. Assumes nothing.
+use mathlib.Core.Path.{refl}
+use lib.Ieee.{ofBits, le, lt, eq}
+use borrow.Author.Tests.{le-leb}
+use Rattle.refusal.specs.Questions.{every}
+use Rattle.matcher.specs.Codes.{fromBits, source}
+use Rattle.alike.specs.Alike.{anyBelow}
+use Rattle.board.specs.Numbering.{countPassing}
+use Rattle.board.specs.Layout.{parityOf}
+use Rattle.board.specs.Questions.{askedOfSize, askedOfBoard}
+use Rattle.score_matrix.specs.Table.{patterns}
+use Rattle.board_match.specs.Questions.{askedFrom9}
+use Rattle.worked_examples.specs.Requests.{Requests}
+
+pub requests : Requests
+unfolding askedOfBoard askedOfSize anyBelow fromBits source parityOf countPassing askedFrom9 every patterns ofBits le lt eq
+requests = record { filed-twice = λ first second words. refl; side-by-side = λ words room. rw (le-leb 36 words room) refl }
