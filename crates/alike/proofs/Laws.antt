@@ -1,53 +1,24 @@
 -- What a user relies on: which of two codes is named first makes no difference, nor does a code past the last marker; and where no two codes are
 -- alike, a code that is read exactly names at most one marker, whatever the turn. Assumes nothing.
 use mathlib.Core.Path.{_≡_, refl, sym, ap, ap₂, _∙_}
-use mathlib.Core.Bool.{Bool, true, false, not, _&&_, _||_, false≢true}
+use mathlib.Core.Bool.{Bool, true, false, not, _&&_, false≢true}
 use mathlib.Core.List.{List}
 use mathlib.Core.Logic.{_⊎_, inl, inr}
-use Prim.Native.Nat.{ℕ, zero, suc, _*_, _%_, _^_, _≤_, _<_}
+use Prim.Native.Nat.{ℕ, _*_, _%_, _^_, _≤_, _<_}
 use native.Mathlib.Nat.{mod-lt}
 use native.Mathlib.Omega.{arith}
 use lib.Dec.{eqb, lit<}
 use lib.ListN.{getD}
 use borrow.Author.Tests.{eq-eqb, ne-eqb, eqb-true, eqb-false, not-true}
+use Rattle.integers.specs.Tests.{anyBelow}
 use Rattle.integers.proofs.Distances.{lt-or-le}
+use Rattle.integers.proofs.Tests.{both, any-true, any-passes}
 use Rattle.matcher.specs.Codes.{turned}
 use Rattle.matcher.proofs.Turns.{turns-mod, turned-none}
-use Rattle.sorting.specs.Order.{AllDifferent, Repeated, wordAt}
-use Rattle.alike.specs.Alike.{anyBelow, alike, twoAlike}
+use Rattle.sorting.specs.Order.{Told, wordAt}
+use Rattle.alike.specs.Alike.{alike, twoAlike}
 use Rattle.alike.specs.Quarters.{HasLeast}
 use Rattle.alike.proofs.Least.{Alike, met-alike, alike-least, least-alike}
-
--- ---- one of 0 to n − 1
-or-true : (a b : Bool) → (a || b) ≡ true → (a ≡ true) ⊎ (b ≡ true)
-or-true true b e = inl refl
-or-true false b e = inr e
-
-or-left : (a b : Bool) → a ≡ true → (a || b) ≡ true
-or-left true b e = refl
-or-left false b e = absurd (false≢true e)
-
-or-right : (a b : Bool) → b ≡ true → (a || b) ≡ true
-or-right true b e = refl
-or-right false b e = e
-
-pub any-passes : (p : ℕ → Bool) (n : ℕ) → anyBelow p n ≡ true → (k : ℕ) × (k < n) × (p k ≡ true)
-unfolding anyBelow
-any-passes p zero e = absurd (false≢true e)
-any-passes p (suc n) e = go (any-passes p n) (or-true (p n) (anyBelow p n) e)
-  where
-    go : (anyBelow p n ≡ true → (k : ℕ) × (k < n) × (p k ≡ true)) → (p n ≡ true) ⊎ (anyBelow p n ≡ true) → (k : ℕ) × (k < suc n) × (p k ≡ true)
-    go before (inl f) = (n, omega arith, f)
-    go before (inr f) = let x = before f in (x .0, omega (arith, x .1), x .2)
-
-pub passes-any : (p : ℕ → Bool) (n k : ℕ) → k < n → p k ≡ true → anyBelow p n ≡ true
-unfolding anyBelow
-passes-any p zero k l e = absurd (omega arith)
-passes-any p (suc n) k l e = go (λ h. passes-any p n k h e) (lt-or-le k n)
-  where
-    go : (k < n → anyBelow p n ≡ true) → (k < n) ⊎ (n ≤ k) → (p n || anyBelow p n) ≡ true
-    go before (inl h) = or-right (p n) (anyBelow p n) (before h)
-    go before (inr h) = let is : k ≡ n = omega arith in or-left (p n) (anyBelow p n) (sym (ap p is) ∙ e)
 
 -- ---- two codes
 pub alike-is : (n a b : ℕ) → alike n a b ≡ true → Alike n a b
@@ -58,7 +29,7 @@ alike-is n a b e =
 pub is-alike : (n a b : ℕ) → Alike n a b → alike n a b ≡ true
 is-alike n a b x =
     let r = x .turns in
-    passes-any (λ (turns : ℕ). eqb (turned n turns a) (turned n 0 b)) 4 (r % 4) (mod-lt r (lit< tt))
+    any-true (λ (turns : ℕ). eqb (turned n turns a) (turned n 0 b)) 4 (r % 4) (mod-lt r (lit< tt))
     (eq-eqb (turned n (r % 4) a) (turned n 0 b) (turns-mod n r a ∙ x .same))
 
 -- turned back
@@ -94,31 +65,26 @@ module _ (n : ℕ) (codes : List ℕ) (count : ℕ) where
     pub apart : first ≡ second → ⊥
     pub alike-codes : Alike n (code first) (code second)
 
-  and-true : (a b : Bool) → (a && b) ≡ true → (a ≡ true) × (b ≡ true)
-  and-true true true e = (refl, refl)
-  and-true true false e = absurd (false≢true e)
-  and-true false b e = absurd (false≢true e)
-
   pub two-are : twoAlike n codes count ≡ true → TwoAlike
   two-are e =
       let x = any-passes (λ (a : ℕ). anyBelow (pair a) count) count e in
       let y = any-passes (pair (x .0)) count (x .2) in
-      let both = and-true (not (eqb (x .0) (y .0))) (alike n (code (x .0)) (code (y .0))) (y .2) in
+      let h = both (not (eqb (x .0) (y .0))) (alike n (code (x .0)) (code (y .0))) (y .2) in
       record {
         first = x .0;
         second = y .0;
         first-used = x .1;
         second-used = y .1;
-        apart = eqb-false (x .0) (y .0) (not-true (eqb (x .0) (y .0)) (both .0));
-        alike-codes = alike-is n (code (x .0)) (code (y .0)) (both .1);
+        apart = eqb-false (x .0) (y .0) (not-true (eqb (x .0) (y .0)) (h .0));
+        alike-codes = alike-is n (code (x .0)) (code (y .0)) (h .1);
       }
 
   pub are-two : TwoAlike → twoAlike n codes count ≡ true
   are-two t =
       let a = t .first in
       let b = t .second in
-      passes-any (λ (k : ℕ). anyBelow (pair k) count) count a (t .first-used)
-      (passes-any (pair a) count b (t .second-used)
+      any-true (λ (k : ℕ). anyBelow (pair k) count) count a (t .first-used)
+      (any-true (pair a) count b (t .second-used)
       (ap₂ (λ (x y : Bool). not x && y) (ne-eqb a b (t .apart)) (is-alike n (code a) (code b) (t .alike-codes))))
 
   -- a code that is read exactly names at most one marker, whatever the turn
@@ -132,9 +98,8 @@ module _ (n : ℕ) (codes : List ℕ) (count : ℕ) where
           absurd (false≢true (sym passed ∙ two))
 
   -- what is found by least turns
-  pub answered : (least : List ℕ) (r : Bool) → 0 < n → HasLeast n codes count least → (r ≡ true → AllDifferent count (wordAt least)) → (r ≡ false → Repeated count (wordAt least))
-      → r ≡ not (twoAlike n codes count)
-  answered least true some has different repeated = go (twoAlike n codes count) refl
+  pub answered : (least : List ℕ) (r : Bool) → 0 < n → HasLeast n codes count least → Told count (wordAt least) r → r ≡ not (twoAlike n codes count)
+  answered least true some has told = go (twoAlike n codes count) refl
     where
       equal : (t : TwoAlike) → getD least (t .first) 0 ≡ getD least (t .second) 0
       equal t =
@@ -144,14 +109,14 @@ module _ (n : ℕ) (codes : List ℕ) (count : ℕ) where
       none t = order (lt-or-le (t .first) (t .second))
         where
           order : (t .first < t .second) ⊎ (t .second ≤ t .first) → ⊥
-          order (inl l) = different refl (t .first) (t .second) l (t .second-used) (equal t)
-          order (inr l) = different refl (t .second) (t .first) (omega (arith, l, t .apart)) (t .first-used) (sym (equal t))
+          order (inl l) = told .different refl (t .first) (t .second) l (t .second-used) (equal t)
+          order (inr l) = told .different refl (t .second) (t .first) (omega (arith, l, t .apart)) (t .first-used) (sym (equal t))
 
       go : (b : Bool) → twoAlike n codes count ≡ b → true ≡ not b
       go true e = absurd (none (two-are e))
       go false e = refl
-  answered least false some has different repeated =
-      let x = repeated refl in
+  answered least false some has told =
+      let x = told .repeated refl in
       let a = x .first in
       let b = x .second in
       let ha : a < count = omega (arith, x .order, x .inside) in

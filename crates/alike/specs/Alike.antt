@@ -1,15 +1,11 @@
 -- Document 02, 2.2: "two of different ids are equal after some number of quarter turns".
-use Prim.Native.Nat.{ℕ, zero, suc}
-use mathlib.Core.Bool.{Bool, false, not, _&&_, _||_}
+use Prim.Native.Nat.{ℕ}
+use mathlib.Core.Bool.{Bool, not, _&&_}
 use mathlib.Core.List.{List}
 use lib.Dec.{eqb}
 use lib.ListN.{getD}
+use Rattle.integers.specs.Tests.{anyBelow}
 use Rattle.matcher.specs.Codes.{turned}
-
--- does one of 0 to n − 1 pass?
-unfoldable pub anyBelow : (ℕ → Bool) → ℕ → Bool
-anyBelow passes zero = false
-anyBelow passes (suc n) = passes n || anyBelow passes n
 
 -- Is code b code a after some number of quarter turns, none included? After no turn a code of side n is itself, without any bits beyond those of the
 -- side (question 8 lets no such code pass).

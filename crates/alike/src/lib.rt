@@ -1,5 +1,5 @@
-// Whether two codes look alike: one is the other after some number of quarter turns (document 02, 2.2). Uses `matcher`, `sorting`, and for a law of
-// whole numbers `integers`.
+// Whether two codes look alike: one is the other after some number of quarter turns (document 02, 2.2). Uses `matcher`, `sorting`, and for its
+// definitions and laws `integers`.
 ghost use mathlib.Core.Path.{_≡_};
 ghost use mathlib.Core.Bool.{not};
 ghost use Prim.Native.Nat.{_≤_, _<_};

@@ -18,7 +18,8 @@ use Rattle.matcher.specs.Codes.{turned}
 use Rattle.refusal.specs.declared.Refusal.{Refusal}
 use Rattle.refusal.specs.declared.Refusal.the-variants as refusal
 use Rattle.refusal.specs.Questions.{ask}
-use Rattle.refusal.proofs.Questions.{both, answered, GoesOn, ask-first, ask-last, followed-by, rest-asked, refusal-stands}
+use Rattle.refusal.proofs.Questions.{answered, GoesOn, ask-first, ask-last, followed-by, rest-asked, refusal-stands}
+use Rattle.integers.proofs.Tests.{both}
 use Rattle.board.specs.declared.CharucoBoardSpec.{CharucoBoardSpec}
 use Rattle.board.specs.declared.Board.{Board}
 use Rattle.board.specs.declared.NewBoard.the-variants as new

@@ -1,5 +1,5 @@
 // The ChArUco board (board.rs): the questions 1 to 8 and 22, and the layout as formulas on a board value.
-// Uses `refusal`, `floats` and `alike`, and for its definitions `matcher`.
+// Uses `refusal`, `floats` and `alike`, and for its definitions and laws `matcher` and `integers`.
 ghost use mathlib.Core.Path.{_≡_};
 ghost use Rattle.board.specs.Layout.{parityOf, holdsMarker, markerTotal, markerOn, markerSquare, surroundingCorners};
 ghost use Rattle.board.specs.Layout.{cornerCount, cornerAt, cornerPlace, objectPoint};

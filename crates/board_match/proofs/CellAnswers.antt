@@ -8,8 +8,8 @@ use native.Mathlib.Omega.{arith}
 use lib.IntN.{ℤ}
 use lib.ListN.{length}
 use borrow.Author.Tests.{eq-eqb}
-use Rattle.refusal.specs.Questions.{every}
-use Rattle.refusal.proofs.Every.{same-answers}
+use Rattle.integers.specs.Tests.{every}
+use Rattle.integers.proofs.Tests.{same-answers}
 use Rattle.integers.specs.Distance.{isWithin}
 use Rattle.grid_alignment.specs.Alignment.{point}
 use Rattle.points.specs.Points.{allApart, pointOf, SmallWords}

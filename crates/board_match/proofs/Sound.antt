@@ -11,8 +11,8 @@ use lib.Ieee.{le}
 use lib.Ieee.Scale.{finite}
 use borrow.Author.Tests.{leb-true, ltb-true, eqb-true}
 use Rattle.floats.specs.Units.{Finite, nought, unity, Between}
-use Rattle.refusal.proofs.Questions.{both, answered}
-use Rattle.refusal.proofs.Every.{each}
+use Rattle.refusal.proofs.Questions.{answered}
+use Rattle.integers.proofs.Tests.{both, each}
 use Rattle.points.proofs.Twice.{none-twice}
 use Rattle.board.proofs.Asked as board
 use Rattle.score_matrix.specs.Table.{isTable}

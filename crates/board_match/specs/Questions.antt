@@ -11,7 +11,8 @@ use Rattle.integers.specs.Distance.{isWithin}
 use Rattle.floats.specs.Units.{nought, unity}
 use Rattle.refusal.specs.declared.Refusal.{Refusal}
 use Rattle.refusal.specs.declared.Refusal.the-variants as refusal
-use Rattle.refusal.specs.Questions.{ask, every}
+use Rattle.refusal.specs.Questions.{ask}
+use Rattle.integers.specs.Tests.{every}
 use Rattle.board.specs.Questions.{askedOfBoard, boardOf}
 use Rattle.score_matrix.specs.declared.BoardMatchConfig.{BoardMatchConfig}
 use Rattle.score_matrix.specs.Table.{isTable}

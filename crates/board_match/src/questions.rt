@@ -4,7 +4,7 @@ ghost use mathlib.Core.Bool.{_&&_};
 ghost use mathlib.Core.List.{map};
 ghost use mathlib.Core.Option.{none};
 ghost use Prim.Native.Nat.{_≤_};
-ghost use Rattle.refusal.specs.Questions.{every};
+ghost use Rattle.integers.specs.Tests.{every};
 ghost use Rattle.board.specs.Questions.{newBoard};
 ghost use Rattle.shot_record.specs.Fields.{fieldsOf};
 ghost use Rattle.shot_record.specs.Shots.{shot};

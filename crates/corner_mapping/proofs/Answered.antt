@@ -6,7 +6,6 @@ use mathlib.Core.Option.{Option, none, some}
 use Prim.Native.Nat.{ℕ, _*_, _/_, _≤_}
 use native.Mathlib.Omega.{arith}
 use lib.Dec.{leb, ltb}
-use borrow.Author.Tests.{leb-true}
 use lib.IntN.{ℤ}
 use lib.ListN.{length}
 use lib.Ieee.{Float}
@@ -15,7 +14,7 @@ use Rattle.integers.proofs.Distances.{within-abs}
 use Rattle.refusal.specs.declared.Refusal.{Refusal}
 use Rattle.refusal.specs.declared.Refusal.the-variants as refusal
 use Rattle.refusal.specs.Questions.{ask}
-use Rattle.refusal.proofs.Questions.{both}
+use Rattle.integers.proofs.Tests.{both}
 use Rattle.grid_alignment.specs.declared.GridAlignment.{GridAlignment}
 use Rattle.board.specs.declared.Board.{Board}
 use Rattle.board.specs.declared.CharucoBoardSpec.{CharucoBoardSpec}
@@ -29,7 +28,7 @@ use Rattle.corner_mapping.specs.declared.MappedCorners.{MappedCorners}
 use Rattle.corner_mapping.specs.declared.MappedCorners.the-variants as found
 use Rattle.lent_list.specs.Front.{atExit, upTo, Put}
 use Rattle.lent_list.proofs.Front.{put-as, put-front, up-to-as}
-use Rattle.corner_mapping.specs.Corners.{Input, MappedCorner, mappedIf, mappedBy, chosen, mapped, wordsOfCorners}
+use Rattle.corner_mapping.specs.Corners.{Input, mappedIf, mappedBy, chosen, mapped, wordsOfCorners}
 use Rattle.corner_mapping.specs.Entry.{cornerRangeAnswer, askedFrom18, input, cornersRefusedBy, answeredBy, mappedOn, listOn, mapCorners, mapCornersList}
 use Rattle.corner_mapping.specs.Inner.{InputInRange, stored, ChoicesHeld}
 use Rattle.corner_mapping.proofs.Writing.{words-length, enough}

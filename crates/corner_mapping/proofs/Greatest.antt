@@ -13,7 +13,7 @@ use lib.Ieee.{Float, lt}
 use lib.Ieee.Scale.{finite as isFinite}
 use Rattle.floats.specs.Units.{Finite}
 use Rattle.floats.proofs.Order.{lt-self, lt-trans, not-lt-trans}
-use Rattle.refusal.proofs.Questions.{both}
+use Rattle.integers.proofs.Tests.{both}
 use Rattle.marker_sampling.specs.Entry.{finiteScores}
 use Rattle.corner_mapping.specs.Corners.{Input, bears, scoreOf, greater, replaced, chosenTo}
 use Rattle.corner_mapping.specs.Rules.{GreatestScore}

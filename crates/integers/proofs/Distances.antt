@@ -9,8 +9,9 @@ use lib.Dec.{T, ltb, leb, ltb→lt, lt→ltb, nltb→le, leb→le}
 use lib.Signed.{ltZ, leZ}
 use lib.IntN.{ℤ, pos, negsuc, negℤ, natAbs, _+ℤ_, _-ℤ_, _*ℤ_, *ℤ-comm}
 use lib.Ieee.Fits.{and-l, and-r}
-use borrow.Author.Tests.{le-leb}
+use borrow.Author.Tests.{leb-true, le-leb}
 use Rattle.integers.specs.Distance.{Within, same, isWithin}
+use Rattle.integers.proofs.Tests.{both}
 use Rattle.integers.proofs.Parts.{plus, minus, Is, add-is, sub-is-parts, mul-is, abs-is, abs-mul, parts-le, ext}
 
 -- ---- the order
@@ -115,9 +116,7 @@ same-refl (pos a) = rw (le-leb a a (le-refl a))
 same-refl (negsuc a) = rw (le-leb a a (le-refl a))
 
 each-way : (a b : ℕ) → (leb a b && leb b a) ≡ true → a ≡ b
-each-way a b e =
-    let t : T (leb a b && leb b a) = subst T (sym e) tt in
-    omega (arith, leb→le a b (and-l (leb a b) (leb b a) t), leb→le b a (and-r (leb a b) (leb b a) t))
+each-way a b e = let h = both (leb a b) (leb b a) e in omega (arith, leb-true a b (h .0), leb-true b a (h .1))
 
 pub same-eq : (a b : ℤ) → same a b ≡ true → a ≡ b
 same-eq (pos a) (pos b) e = ap pos (each-way a b e)

@@ -1,1 +1,2 @@
 pub mod Distance
+pub mod Tests

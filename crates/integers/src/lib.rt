@@ -1,5 +1,5 @@
 // Signed arithmetic on small numbers, said in whole numbers. The laws of whole numbers are in `proofs/Parts.antt`, and those of
-// their order and distance in `proofs/Distances.antt`. Uses no other crate.
+// their order and distance in `proofs/Distances.antt`; tests of the numbers below n in `specs/Tests.antt`. Uses no other crate.
 ghost use mathlib.Core.Path.{_≡_};
 ghost use mathlib.Core.Bool.{cond};
 ghost use Prim.Native.Nat.{_^_, _≤_};

@@ -2,7 +2,7 @@
 -- Assumes nothing.
 use mathlib.Core.Path.{_≡_, refl, sym, ap, ap₂, subst, _∙_}
 use mathlib.Core.Logic.{_⊎_, inl, inr}
-use mathlib.Core.Bool.{Bool, true, false, _||_, or-true}
+use mathlib.Core.Bool.{Bool, true, false}
 use mathlib.Core.List.{List}
 use Prim.Native.Nat.{ℕ, zero, suc, _+_, _*_, _%_, _≤_, _<_}
 use native.Mathlib.Nat.{eq-or-lt-of-le, zero-mul}
@@ -12,22 +12,9 @@ use lib.ListN.{length, getD, set, length-set}
 use lib.Seq.{getD-set-same, getD-set-other}
 use borrow.Author.Tests.{eqb-true}
 use Rattle.integers.proofs.Distances.{lt-or-le}
-use Rattle.refusal.proofs.Questions.{both}
-use Rattle.link_check.specs.Links.{linkMarker, linkCorner, anyBelow}
+use Rattle.integers.proofs.Tests.{both}
+use Rattle.link_check.specs.Links.{linkMarker, linkCorner}
 use Rattle.link_check.specs.Chains.{keyFor, keyOf, linksTo, LeastFrom, ChainedFrom, Chained}
-
--- ---- a test of the numbers below n
-pub any-true : (t : ℕ → Bool) (n j : ℕ) → j < n → t j ≡ true → anyBelow t n ≡ true
-unfolding anyBelow
-any-true t zero j h e = absurd (omega arith)
-any-true t (suc n) j h e =
-    elim (eq-or-lt-of-le {n = j} {m = n} (omega arith))
-    [ inl q ↦ ap (λ (b : Bool). anyBelow t n || b) (ap t (sym q) ∙ e) ∙ or-true (anyBelow t n) | inr l ↦ ap (λ (b : Bool). b || t n) (any-true t n j l e) ]
-
-pub any-false : (t : ℕ → Bool) (n : ℕ) → ((j : ℕ) → j < n → t j ≡ false) → anyBelow t n ≡ false
-unfolding anyBelow
-any-false t zero f = refl
-any-false t (suc n) f = ap₂ (λ (a b : Bool). a || b) (any-false t n (λ j h. f j (omega (arith, h)))) (f n (omega arith))
 
 -- ---- filling, from the last link to the first
 module _ (κ : ℕ → ℕ) (n : ℕ) where

@@ -15,7 +15,8 @@ use Rattle.link_check.specs.declared.LinkCheckMode.{LinkCheckMode}
 use Rattle.link_check.specs.declared.LinkCheckMode.the-variants as mode
 use Rattle.link_check.specs.declared.expected.MarkerExpectation.{MarkerExpectation}
 use Rattle.link_check.specs.declared.expected.MarkerExpectation.the-variants.{Unknown, NoFourCorners, Expected}
-use Rattle.link_check.specs.Links.{linkMarker, linkCorner, anyBelow, names, repeated, first, isReported}
+use Rattle.integers.specs.Tests.{anyBelow}
+use Rattle.link_check.specs.Links.{linkMarker, linkCorner, names, repeated, first, isReported}
 use Rattle.link_check.specs.Violations.{Violation, has, unless, against, repeatAt, missingEntry, inMode, ofLink, without}
 use Rattle.link_check.specs.Violations.{own, ofMarker, ofFirst, violations}
 

@@ -1,9 +1,10 @@
 -- Document 01, Links: the links that are lent, and which of them repeat an earlier one.
-use Prim.Native.Nat.{ℕ, zero, suc, _+_, _*_, _/_}
-use mathlib.Core.Bool.{Bool, false, not, _&&_, _||_}
+use Prim.Native.Nat.{ℕ, _+_, _*_, _/_}
+use mathlib.Core.Bool.{Bool, not, _&&_}
 use mathlib.Core.List.{List}
 use lib.Dec.{eqb}
 use lib.ListN.{length, getD}
+use Rattle.integers.specs.Tests.{anyBelow}
 
 -- two words a link; an odd last word is no link
 abbrev pub linkCount : List ℕ → ℕ
@@ -14,11 +15,6 @@ linkMarker links k = getD links (2 * k) 0
 
 abbrev pub linkCorner : List ℕ → ℕ → ℕ
 linkCorner links k = getD links (2 * k + 1) 0
-
--- does some j below n pass the test?
-unfoldable pub anyBelow : (ℕ → Bool) → ℕ → Bool
-anyBelow t zero = false
-anyBelow t (suc n) = anyBelow t n || t n
 
 -- link j names the marker, and the corner
 abbrev pub names : List ℕ → ℕ → ℕ → Bool

@@ -3,7 +3,8 @@
 ghost use mathlib.Core.Path.{_≡_};
 ghost use Prim.Native.Nat.{ℕ, _+_, _*_, _≤_, _<_};
 ghost use lib.ListN.{length, getD};
-ghost use Rattle.link_check.specs.Links.{linkMarker, linkCorner, anyBelow, repeated, first as firstOf, isReported};
+ghost use Rattle.integers.specs.Tests.{anyBelow};
+ghost use Rattle.link_check.specs.Links.{linkMarker, linkCorner, repeated, first as firstOf, isReported};
 ghost use Rattle.link_check.specs.Chains.{keyFor, keyOf, linksTo, Chained};
 
 // The word at a place; 0 past the list.

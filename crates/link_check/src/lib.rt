@@ -1,5 +1,5 @@
 // The link entry (link_check.rs): do reported links of markers and corners agree with the board? Uses `refusal`, `lent_list` and
-// `board`.
+// `board`, and for its definitions and laws `integers`.
 ghost use mathlib.Core.Path.{_≡_};
 ghost use Prim.Native.Nat.{_*_, _≤_};
 ghost use lib.ListN.{length};

@@ -19,7 +19,7 @@ use Rattle.marker_sampling.specs.declared.MarkerCells.the-variants as fo
 use Rattle.marker_sampling.specs.Cells.{wordsOfCells}
 use Rattle.marker_sampling.specs.Entry.{corners, allPlaced, cornersAnswer, cellsOf, cellsRefusedBy, foundBy, markerCells, markerCellsList}
 use Rattle.marker_sampling.specs.Keys.{Collected}
-use Rattle.refusal.proofs.Questions.{both}
+use Rattle.integers.proofs.Tests.{both}
 use Rattle.marker_sampling.proofs.Passing.{words-length}
 
 -- what question 18 tells

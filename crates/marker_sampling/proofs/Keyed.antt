@@ -14,7 +14,7 @@ use Rattle.integers.specs.Distance.{same}
 use Rattle.integers.proofs.Distances.{same-refl, same-eq}
 use Rattle.marker_sampling.specs.Cells.{Corners, word, labelled, stands}
 use Rattle.marker_sampling.specs.Keys.{keySide, rangePoint, HasKey}
-use Rattle.refusal.proofs.Questions.{both}
+use Rattle.integers.proofs.Tests.{both}
 use Rattle.marker_sampling.proofs.Tests.{agree, fails, offset-only}
 
 -- rows of w: a place has one row and one column

@@ -1,5 +1,5 @@
 -- The whole cells among the first places: places without a key add none, and a place with one adds its words. Assumes nothing.
-use mathlib.Core.Path.{_≡_, refl, sym, ap, ap₂, _∙_}
+use mathlib.Core.Path.{_≡_, refl, sym, ap, _∙_}
 use mathlib.Core.Bool.{Bool, true, false, cond, false≢true}
 use mathlib.Core.List.{List, [], _∷_, _++_, flatMap}
 use mathlib.Core.Option.{Option, none, some}
@@ -18,7 +18,7 @@ use Rattle.grid_alignment.specs.declared.Coord.{Coord}
 use Rattle.grid_alignment.specs.Alignment.{corner}
 use Rattle.marker_sampling.specs.Cells.{Corners, holder, held, index, hasCorner, wholeCell, pointAt, wholeAt, cellWords, wordsOfCells}
 use Rattle.marker_sampling.specs.Keys.{keySide, MapOf, Next, indexOrMinusOne, foundWords, wholeWords, CellAdded, Collected}
-use Rattle.refusal.proofs.Questions.{both}
+use Rattle.integers.proofs.Tests.{both}
 use Rattle.marker_sampling.proofs.Keyed.{column, row}
 use Rattle.marker_sampling.proofs.Holders.{nobody}
 

@@ -9,7 +9,7 @@ use native.Mathlib.Omega.{arith}
 use Rattle.marker_sampling.specs.Cells.{Corners, word, labelled}
 use Rattle.integers.specs.Distance.{isWithin}
 use Rattle.marker_sampling.specs.Entry.{placed, allPlaced}
-use Rattle.refusal.proofs.Questions.{both}
+use Rattle.integers.proofs.Tests.{both}
 
 module _ (m : ℕ) (c : Corners) where
   pub one-out : (n k : ℕ) → k < n → placed m c k ≡ false → allPlaced m c n ≡ false

@@ -9,7 +9,7 @@ use lib.Signed.{leZ, ltZ, mag}
 use mir.Syntax.{w32}
 use mir.ValLaws.{toZ-ofZ}
 use borrow.Author.Tests.{leb-true}
-use Rattle.refusal.proofs.Questions.{both}
+use Rattle.integers.proofs.Tests.{both}
 use Rattle.integers.proofs.Parts.{plus, minus, plus-neg, minus-neg, add-is, sub-is-parts, abs-is, ext}
 use Rattle.integers.proofs.Words.{word}
 use Rattle.integers.specs.Distance.{isWithin}

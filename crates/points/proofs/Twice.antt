@@ -9,9 +9,8 @@ use borrow.Author.Tests.{not-true}
 use native.Mathlib.Omega.{arith}
 use Rattle.integers.specs.Distance.{same}
 use Rattle.integers.proofs.Distances.{same-refl, same-eq}
-use Rattle.refusal.specs.Questions.{every}
-use Rattle.refusal.proofs.Questions.{both}
-use Rattle.refusal.proofs.Every.{each, from-each, one-out, same-answers}
+use Rattle.integers.specs.Tests.{every}
+use Rattle.integers.proofs.Tests.{both, each, from-each, one-out, same-answers}
 use Rattle.grid_alignment.specs.declared.Coord.{Coord}
 use Rattle.grid_alignment.specs.Alignment.{point}
 use Rattle.points.specs.Points.{samePoint, allApart}

@@ -9,8 +9,9 @@ use mir.Val.{toZ}
 use mir.Facts.{toZ-inj}
 use Rattle.grid_alignment.specs.declared.Coord.{Coord}
 use Rattle.grid_alignment.specs.Alignment.{point}
+use Rattle.sorting.specs.Order.{Told}
 use Rattle.shot_record.specs.Index.{pointIn}
-use Rattle.points.specs.Points.{allApart, pointOf, SmallWords, Told}
+use Rattle.points.specs.Points.{allApart, pointOf, SmallWords}
 use Rattle.points.proofs.Twice.{if-none-twice, if-twice}
 
 half-same : (a b : ℕ) → a < 65536 → b < 65536 → toZ w16 a ≡ toZ w16 b → a ≡ b
@@ -22,7 +23,7 @@ same-words index i j a b e =
     let high = half-same (pointIn index i / 65536 % 65536) (pointIn index j / 65536 % 65536) (omega arith) (omega arith) (ap (λ (p : Coord). p .v) e) in
     omega (arith, low, high, a, b)
 
-pub told-apart : (index : List ℕ) (n : ℕ) (r : Bool) → SmallWords index n → Told index n r → r ≡ allApart (pointOf index) n
+pub told-apart : (index : List ℕ) (n : ℕ) (r : Bool) → SmallWords index n → Told n (pointIn index) r → r ≡ allApart (pointOf index) n
 told-apart index n true small t =
     sym (if-none-twice (pointOf index) n
     (λ i j l h e. t .different refl i j l h (same-words index i j (small i (omega (arith, l, h))) (small j h) e)))

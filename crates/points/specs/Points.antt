@@ -1,15 +1,14 @@
 -- Document 02, 2.3: "two cells at one point". And how the points of an index tell it.
 use Prim.Native.Nat.{ℕ, _+_, _*_, _/_, _%_, _^_, _<_}
 use mathlib.Core.Path.{_≡_}
-use mathlib.Core.Bool.{Bool, true, false, not, _&&_}
+use mathlib.Core.Bool.{Bool, not, _&&_}
 use mathlib.Core.List.{List}
 use lib.ListN.{getD}
 use Rattle.integers.specs.Distance.{same}
-use Rattle.refusal.specs.Questions.{every}
+use Rattle.integers.specs.Tests.{every}
 use Rattle.grid_alignment.specs.declared.Coord.{Coord}
 use Rattle.grid_alignment.specs.Alignment.{point}
 use Rattle.shot_record.specs.Index.{pointIn, uIn, vIn}
-use Rattle.sorting.specs.Order.{AllDifferent, Repeated}
 
 -- equal u and equal v
 abbrev pub samePoint : Coord → Coord → Bool
@@ -31,11 +30,9 @@ SmallWords index n = (k : ℕ) → k < n → pointIn index k < 2 ^ 32
 abbrev pub residueOf : ℕ → ℕ
 residueOf word = word / 65536 % 32 * 32 + word % 32
 
+abbrev pub residueIn : List ℕ → ℕ → ℕ
+residueIn index k = residueOf (pointIn index k)
+
 -- the first n words are those of the first n points
 abbrev pub HasPoints : List ℕ → ℕ → List ℕ → Type 0
 HasPoints index n words = (k : ℕ) → k < n → getD words k 0 ≡ pointIn index k
-
--- r says whether the words of the first n points are all different
-pub record Told (index : List ℕ) (n : ℕ) (r : Bool) : Type 0 where
-  pub different : r ≡ true → AllDifferent n (pointIn index)
-  pub repeated : r ≡ false → Repeated n (pointIn index)

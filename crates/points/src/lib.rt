@@ -1,12 +1,10 @@
 // Whether two cells lie at one point (document 02, 2.3). Uses `sorting` and `shot_record`, whose index has the point of each cell as a word, u in its low
-// half and v in its high half; for its definitions and laws `integers`, `refusal` and `grid_alignment`.
+// half and v in its high half; for its definitions and laws `integers` and `grid_alignment`.
 ghost use mathlib.Core.Path.{_≡_};
-ghost use mathlib.Core.Bool.{true};
 ghost use Prim.Native.Nat.{_≤_};
 ghost use lib.ListN.{length};
-ghost use Rattle.sorting.specs.Order.{AllDifferent};
-ghost use Rattle.shot_record.specs.Index.{pointIn};
-ghost use Rattle.points.specs.Points.{allApart, pointOf, SmallWords, residueOf, HasPoints};
+ghost use Rattle.sorting.specs.Order.{Told};
+ghost use Rattle.points.specs.Points.{allApart, pointOf, SmallWords, residueOf, residueIn, HasPoints};
 use shot_record::index;
 
 // The residues of u and v modulo 32, as one number.
@@ -19,7 +17,7 @@ fn residue(point: u32) -> usize
 // Are the residues of the first points all different? Two squares of a board never share theirs, so this is enough for every shot that fits.
 fn apart(index: &[u32; 768], n: usize) -> bool
     requires { ⌜ n ≤ 256 ⌝ }
-    ensures { λ r. ⌜ (r ≡ true → AllDifferent n (pointIn (now (index .entry)))) ⌝ }
+    ensures { λ r. ⌜ Told n (residueIn (now (index .entry))) r ⌝ }
 {
     let mut met: [bool; 1024] = [false; 1024];
     let mut k = 0;

@@ -1,13 +1,9 @@
--- Laws of questions: one that is answered with yes or no, one of two parts, and a list of them that goes on with a rest. Assumes nothing.
+-- Laws of questions: one that is answered with yes or no, and a list of them that goes on with a rest. Assumes nothing.
 use mathlib.Core.Path.{_≡_, refl, sym, ap, _∙_}
-use mathlib.Core.Bool.{Bool, true, false, _&&_, false≢true}
+use mathlib.Core.Bool.{Bool, true, false}
 use mathlib.Core.Option.{Option, none, some, orElse, Option·none-ne-some}
 use Rattle.refusal.specs.declared.Refusal.{Refusal}
 use Rattle.refusal.specs.Questions.{ask}
-
-pub both : (a b : Bool) → (a && b) ≡ true → (a ≡ true) × (b ≡ true)
-both true b e = (refl, e)
-both false b e = absurd (false≢true e)
 
 -- where nothing is refused, this question was answered with yes and nothing is refused after it
 pub answered : (a : Bool) (r : Refusal) (next : Option Refusal) → ask a r next ≡ none → (a ≡ true) × (next ≡ none)

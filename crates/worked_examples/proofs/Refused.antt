@@ -8,12 +8,11 @@ use lib.ListN.{length}
 use lib.Ieee.{ofBits, le, lt, eq}
 use borrow.Author.Tests.{le-leb}
 use Rattle.refusal.specs.declared.Refusal.the-variants as refusal
-use Rattle.refusal.specs.Questions.{every}
+use Rattle.integers.specs.Tests.{every, anyBelow}
 use Rattle.refusal.proofs.Questions.{rest-asked}
 use Rattle.matcher.specs.Codes.{fromBits, source}
 use Rattle.grid_alignment.specs.Alignment.{sends}
 use Rattle.board.specs.Numbering.{countPassing}
-use Rattle.alike.specs.Alike.{anyBelow}
 use Rattle.board.specs.Layout.{parityOf}
 use Rattle.board.specs.Questions.{askedOfSize, askedOfBoard}
 use Rattle.score_matrix.specs.Table.{patterns}

@@ -2,9 +2,8 @@
 use mathlib.Core.Path.{refl}
 use lib.Ieee.{ofBits, le, lt, eq}
 use borrow.Author.Tests.{le-leb}
-use Rattle.refusal.specs.Questions.{every}
+use Rattle.integers.specs.Tests.{every, anyBelow}
 use Rattle.matcher.specs.Codes.{fromBits, source}
-use Rattle.alike.specs.Alike.{anyBelow}
 use Rattle.board.specs.Numbering.{countPassing}
 use Rattle.board.specs.Layout.{parityOf}
 use Rattle.board.specs.Questions.{askedOfSize, askedOfBoard}

@@ -8,7 +8,7 @@ use Rattle.board.specs.Layout.{parityOf}
 use Rattle.shot_record.specs.Shots.{list}
 use Rattle.hypothesis.specs.Placements.{leastTo, greatestTo, frame, withTurnsBelow, placements}
 use Rattle.lent_list.specs.Front.{upTo}
-use Rattle.link_check.specs.Links.{anyBelow}
+use Rattle.integers.specs.Tests.{anyBelow}
 use Rattle.link_check.specs.Violations.{expectation, without}
 use Rattle.worked_examples.specs.Table.{Table}
 use Rattle.worked_examples.proofs.Refused.{refused-5, record-refused}

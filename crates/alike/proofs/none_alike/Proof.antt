@@ -25,9 +25,8 @@ returns c =
     let p = d .before .before in
     let l = p .before .before in
     let s = l .before .before in
-    let e = d .all-different .ensures in
     answered (s .args .bits) (s .args .codes .now) (l .lesser .result) (p .put-least .last .0) (d .all-different .result) (s .pre .0) (p .put-least .ensures .1)
-    (e .different) (e .repeated)
+    (d .all-different .ensures .told)
     ∙ ap (λ (n : ℕ). not (twoAlike (s .args .bits) (s .args .codes .now) n)) (l .lesser .ensures)
 
 pub none-alike-spec : {M : Type 1} → statement M

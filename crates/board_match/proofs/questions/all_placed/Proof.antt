@@ -9,9 +9,9 @@ use mir.Syntax.{w16}
 use mir.ValLaws.{toZ-ofZ}
 use Rattle.integers.specs.Distance.{isWithin}
 use Rattle.integers.proofs.Words.{half}
-use Rattle.refusal.specs.Questions.{every}
+use Rattle.integers.specs.Tests.{every}
 use Rattle.board_match.specs.Entries.{placedIn}
-use Rattle.refusal.proofs.Every.{none-tested, one-more, one-out, all-tested}
+use Rattle.integers.proofs.Tests.{none-tested, one-more, one-out, all-tested}
 use Rattle.board_match.proofs.questions.all_placed.Statement.{statement}
 use Rattle.board_match.proofs.questions.all_placed.Tie as tie
 

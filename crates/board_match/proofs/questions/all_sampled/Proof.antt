@@ -3,9 +3,9 @@ use mathlib.Core.Path.{_≡_, sym, ap, _∙_}
 use mathlib.Core.Bool.{Bool, true}
 use Prim.Native.Nat.{ℕ, _-_, _≤_}
 use native.Mathlib.Omega.{arith}
-use Rattle.refusal.specs.Questions.{every}
+use Rattle.integers.specs.Tests.{every}
 use Rattle.board_match.specs.Entries.{borderAnswer, sampledIn}
-use Rattle.refusal.proofs.Every.{none-tested, one-more, one-out, all-tested}
+use Rattle.integers.proofs.Tests.{none-tested, one-more, one-out, all-tested}
 use Rattle.board_match.proofs.questions.all_sampled.Statement.{statement}
 use Rattle.board_match.proofs.questions.all_sampled.Tie as tie
 

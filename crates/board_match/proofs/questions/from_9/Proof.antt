@@ -7,7 +7,7 @@ use lib.Dec.{leb}
 use lib.ListN.{length}
 use borrow.Author.Needs.{needs}
 use borrow.Author.Tests.{not-true, not-false, lt-leb, le-leb, lt-ltb, le-ltb}
-use Rattle.refusal.specs.Questions.{every}
+use Rattle.integers.specs.Tests.{every}
 use Rattle.shot_record.specs.Fields.{cellCount}
 use Rattle.shot_record.specs.Shots.{Shot, shot}
 use Rattle.shot_record.specs.Answers.{configOf}

@@ -2,11 +2,12 @@
 -- their key. Assumes nothing.
 use mathlib.Core.Path.{sym, subst, _∙_}
 use mathlib.Core.Bool.{Bool}
-use Prim.Native.Nat.{ℕ, _+_, _-_, _≤_, _<_}
+use Prim.Native.Nat.{ℕ, _+_, _-_, _<_}
 use native.Mathlib.Omega.{arith}
 use lib.ListN.{getD}
 use Rattle.link_check.specs.Chains.{linksTo}
-use Rattle.link_check.proofs.Chained.{Walked, walked-first, walked-next, walked-on, any-true, any-false}
+use Rattle.integers.proofs.Tests.{any-true, any-false}
+use Rattle.link_check.proofs.Chained.{Walked, walked-first, walked-next, walked-on}
 use Rattle.link_check.proofs.chains.found_before.Statement.{statement}
 use Rattle.link_check.proofs.chains.found_before.Tie as tie
 

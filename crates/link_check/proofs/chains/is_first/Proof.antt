@@ -3,7 +3,8 @@ use mathlib.Core.Path.{ap, _∙_}
 use mathlib.Core.Bool.{not}
 use Prim.Native.Nat.{ℕ}
 use borrow.Author.Needs.{needs}
-use Rattle.link_check.specs.Links.{anyBelow, names}
+use Rattle.integers.specs.Tests.{anyBelow}
+use Rattle.link_check.specs.Links.{names}
 use Rattle.link_check.proofs.chains.is_first.Statement.{statement}
 use Rattle.link_check.proofs.chains.is_first.Tie as tie
 

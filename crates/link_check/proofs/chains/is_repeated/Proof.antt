@@ -2,7 +2,8 @@
 use mathlib.Core.Path.{ap₂, _∙_}
 use Prim.Native.Nat.{ℕ}
 use borrow.Author.Needs.{needs}
-use Rattle.link_check.specs.Links.{anyBelow, reports}
+use Rattle.integers.specs.Tests.{anyBelow}
+use Rattle.link_check.specs.Links.{reports}
 use Rattle.link_check.proofs.chains.is_repeated.Statement.{statement}
 use Rattle.link_check.proofs.chains.is_repeated.Tie as tie
 

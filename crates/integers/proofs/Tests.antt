@@ -1,15 +1,19 @@
--- A test that each of 0 to n − 1 passes, as a loop asks it. Assumes nothing.
+-- A test of two parts, and a test of the numbers below n: that all pass, as a loop asks it, and that one does. Assumes nothing.
 use mathlib.Core.Path.{_≡_, refl, sym, ap, ap₂, _∙_}
-use mathlib.Core.Bool.{Bool, true, false, false≢true, not, _&&_}
+use mathlib.Core.Bool.{Bool, true, false, false≢true, not, _&&_, _||_, or-true}
 use mathlib.Core.Logic.{_⊎_, inl, inr}
 use Prim.Native.Nat.{ℕ, zero, suc, _+_, _≤_, _<_}
 use native.Mathlib.Nat.{eq-or-lt-of-le, le-of-suc-le-suc}
 use native.Mathlib.Numerals.{add-one}
 use native.Mathlib.Omega.{arith}
 use borrow.Author.Tests.{not-true, not-false}
-use Rattle.refusal.proofs.Questions.{both}
-use Rattle.refusal.specs.Questions.{every}
+use Rattle.integers.specs.Tests.{every, anyBelow}
 
+pub both : (a b : Bool) → (a && b) ≡ true → (a ≡ true) × (b ≡ true)
+both true b e = (refl, e)
+both false b e = absurd (false≢true e)
+
+-- ---- all of 0 to n − 1
 module _ (test : ℕ → Bool) where
   pub each : (n : ℕ) → every test n ≡ true → (k : ℕ) → k < n → test k ≡ true
   unfolding every
@@ -25,7 +29,7 @@ module _ (test : ℕ → Bool) where
   from-each zero h = refl
   from-each (suc n) h = rw (from-each n (λ k l. h k (omega (arith, l))), h n (omega arith))
 
-  -- ---- in a loop: before it, after k that passes, at k that does not, and after the last
+  -- in a loop: before it, after k that passes, at k that does not, and after the last
   pub none-tested : every test 0 ≡ true
   unfolding every
   none-tested = refl
@@ -51,3 +55,29 @@ pub same-answers : (f g : ℕ → Bool) (n : ℕ) → ((k : ℕ) → k < n → f
 unfolding every
 same-answers f g zero e = refl
 same-answers f g (suc n) e = ap₂ _&&_ (same-answers f g n (λ k h. e k (omega (arith, h)))) (e n (omega arith))
+
+-- ---- one of 0 to n − 1
+module _ (test : ℕ → Bool) where
+  pub any-true : (n k : ℕ) → k < n → test k ≡ true → anyBelow test n ≡ true
+  unfolding anyBelow
+  any-true zero k h e = absurd (omega arith)
+  any-true (suc n) k h e =
+      elim (eq-or-lt-of-le {n = k} {m = n} (omega arith)) [
+        | inl q ↦ ap (λ (b : Bool). anyBelow test n || b) (ap test (sym q) ∙ e) ∙ or-true (anyBelow test n)
+        | inr l ↦ ap (λ (b : Bool). b || test n) (any-true n k l e)
+      ]
+
+  pub any-false : (n : ℕ) → ((k : ℕ) → k < n → test k ≡ false) → anyBelow test n ≡ false
+  unfolding anyBelow
+  any-false zero f = refl
+  any-false (suc n) f = ap₂ _||_ (any-false n (λ k h. f k (omega (arith, h)))) (f n (omega arith))
+
+  pub any-passes : (n : ℕ) → anyBelow test n ≡ true → (k : ℕ) × (k < n) × (test k ≡ true)
+  unfolding anyBelow
+  any-passes zero e = absurd (false≢true e)
+  any-passes (suc n) e = go (anyBelow test n) refl (any-passes n) e
+    where
+      go : (b : Bool) → anyBelow test n ≡ b → (anyBelow test n ≡ true → (k : ℕ) × (k < n) × (test k ≡ true)) → (b || test n) ≡ true
+          → (k : ℕ) × (k < suc n) × (test k ≡ true)
+      go true f before h = let x = before f in (x .0, omega (arith, x .1), x .2)
+      go false f before h = (n, omega arith, h)
