@@ -156,7 +156,7 @@ pub extern "C" fn charuco_grid(bytes: &[u8], k: usize, values: &mut [u32]) -> u3
     let part = cells::grid_part(bytes, k);
     match header {
         ReadHeader::Header(_) => {
-            let words = [
+            let words: [u32; 2] = [
                 values::count_word(part.first),
                 values::count_word(part.end - part.first),
             ];

@@ -17,3 +17,4 @@ pub mod CountedCells
 pub mod Turned
 pub mod Summed
 pub mod Best
+pub mod OwnBytes

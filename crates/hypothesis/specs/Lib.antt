@@ -9,3 +9,4 @@ pub mod Capacity
 pub mod Sums
 pub mod Turns
 pub mod Filling
+pub mod OwnBytes

@@ -26,7 +26,7 @@ pub fn put_violation(
         (told marker (kindNumber kind) corner expected (missing .count) (missing .corners)) ⌝ }
 {
     let past = missing.corners;
-    let words = [
+    let words: [u32; 12] = [
         marker,
         kind.number(),
         corner,

@@ -40,7 +40,7 @@ fn cell_at(map: &[u64; 1024], inliers: &[usize], key: u64, here: usize, under: u
     let top_right = corner_map::find(map, inliers, top_left.end, u + 1, v);
     let bottom_left = corner_map::find(map, inliers, under, u, v + 1);
     let bottom_right = corner_map::find(map, inliers, bottom_left.end, u + 1, v + 1);
-    let words = [
+    let words: [i32; 6] = [
         coordinate(u),
         coordinate(v),
         top_left.index,

@@ -1,28 +1,21 @@
 -- A score and a code read depend on the bytes of the grid, not on where in a record it stands. Assumes nothing.
-use mathlib.Core.Path.{_≡_, ap, ap₂, _∙_}
-use mathlib.Core.List.{List, _++_}
+use mathlib.Core.Path.{_≡_, refl, sym, ap, ap₂, _∙_}
+use mathlib.Core.List.{List}
 use mathlib.Core.Bool.{cond}
-use Prim.Native.Nat.{ℕ, zero, suc, _*_, _<_}
+use Prim.Native.Nat.{ℕ, zero, suc, _+_, _*_, _<_}
 use lib.Dec.{ltb}
-use lib.ListN.{length, take}
-use lib.Seq.{take-append-seam, drop-append-seam}
+use lib.ListN.{getD, drop}
+use lib.Seq.{getD-take, getD-drop}
 use lib.Ieee.{Float}
 use Rattle.floats.specs.Units.{sumTo}
 use Rattle.floats.proofs.Folds.{sum-ext}
-use Rattle.matcher.specs.Codes.{bit, fromBits}
+use Rattle.matcher.specs.Codes.{bit, fromBits, bitPlace}
 use Rattle.matcher.proofs.Bits.{from-ext}
+use Rattle.matcher.proofs.Turns.{place-inside}
 use Rattle.score_matrix.specs.Table.{entry}
-use Rattle.score_matrix.specs.Scores.{Samples, samples, bitCount, likelihood, term, score, readBit, readCode}
-use Rattle.score_matrix.specs.Locality.{part, Alike, RecordRule, GreyRule}
-
-alike : {s t : Samples} → s ≡ t → Alike s t
-alike e = record { scores = λ table code. ap (λ (s : Samples). score table s code) e; codes = ap readCode e }
-
-part-is : (before grid after : List ℕ) → part (length before) (length grid) (before ++ (grid ++ after)) ≡ grid
-part-is before grid after = ap (take (length grid)) (drop-append-seam before (grid ++ after)) ∙ take-append-seam grid after
-
-pub by-record : RecordRule
-by-record s before after = alike (ap (λ (g : List ℕ). samples (s .bits) (s .border) (s .threshold) g) (part-is before (s .grid) after))
+use Rattle.score_matrix.specs.Scores.{bitCount, side, gridIndex, likelihood, term, readBit}
+use Rattle.score_matrix.specs.Locality.{part, inRecord, RecordRule, GreyRule}
+use Rattle.score_matrix.proofs.Places.{index-inside}
 
 pub by-greys : GreyRule
 by-greys s t b h same =
@@ -37,3 +30,21 @@ by-greys s t b h same =
     likelihoods : (table : List Float) (k b : ℕ) → k < bitCount s → likelihood table s k b ≡ likelihood table t k b
     likelihoods table k zero l = ap₂ (entry table) (same k l) h
     likelihoods table k (suc b) l = ap₂ (entry table) h (same k l)
+
+-- byte i of a part is a byte of the record
+pub getD-part : (at n : ℕ) (bytes : List ℕ) (i : ℕ) → i < n → getD (part at n bytes) i 0 ≡ getD bytes (at + i) 0
+getD-part at n bytes i l = getD-take n (drop at bytes) i 0 l ∙ getD-drop at bytes i 0
+
+pub by-record : RecordRule
+by-record bits border threshold at to a b same =
+    by-greys (inRecord bits border threshold at a) (inRecord bits border threshold to b) refl refl greys
+  where
+    size : ℕ
+    size = side bits border * side bits border
+
+    greys : (k : ℕ) → k < bits * bits
+        → getD (part at size a) (gridIndex bits border (bitPlace bits k)) 0 ≡ getD (part to size b) (gridIndex bits border (bitPlace bits k)) 0
+    greys k l =
+        let i = gridIndex bits border (bitPlace bits k) in
+        let inside = index-inside bits border (bitPlace bits k) (place-inside bits k l) in
+        getD-part at size a i inside ∙ same i inside ∙ sym (getD-part to size b i inside)

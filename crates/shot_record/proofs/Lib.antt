@@ -13,3 +13,4 @@ pub mod Parts
 pub mod ReadBack
 pub mod WrittenBack
 pub mod Laws
+pub mod Unchanged

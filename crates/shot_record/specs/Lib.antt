@@ -3,3 +3,4 @@ pub mod Shots
 pub mod Answers
 pub mod Index
 pub mod Writing
+pub mod Unchanged

@@ -158,4 +158,4 @@ expected-in-spec =
     tie.close (tie.spec (λ c κs. early (c .before .before)) (λ c. search needs) (λ c. search needs) returns
     (λ c κs. early (c .before .before .before .before .before .before)) (λ c κs. early (c .before .before .before .before .before .before .before))
     (λ c κs. search needs) (λ c κs. search needs) (λ c. search needs) (λ c. search needs) returns-2
-    (λ c. record { fits = omega (arith, early (first c)) }) (λ c κs. small c) (λ c κs. early (first (c .before))) returns-3)
+    (λ c. record { fits = omega (arith, early (first c)) }) (λ c κs. small c) (λ c κs. omega (arith, early (first (c .before)))) returns-3)

@@ -1,0 +1,37 @@
+-- Document 02, 2.4: "for one board, table and threshold, a cell's scores and its code are the same wherever in a record its part starts and whatever
+-- the other grids hold."
+use mathlib.Core.Path.{_≡_}
+use mathlib.Core.List.{List}
+use mathlib.Core.Option.{none, some}
+use Prim.Native.Nat.{ℕ, _+_, _<_}
+use Rattle.matcher.specs.Codes.{turned}
+use Rattle.score_matrix.specs.Scores.{score, readCode}
+use Rattle.score_matrix.specs.Locality.{SameBytes}
+use Rattle.shot_record.specs.Fields.{byte, gridSize, cellAt}
+use Rattle.shot_record.specs.Shots.{Shot, parse}
+use Rattle.hypothesis.specs.Placements.{cellTotal, cell}
+use Rattle.hypothesis.specs.Evidence.{tableOf, samplesOf}
+
+-- a sampled cell of a record that question 21 lets pass, with the shot that the record holds
+pub record SampledCell (bytes : List ℕ) (s : Shot) (k : ℕ) : Type 0 where
+  pub passes : parse bytes ≡ some s
+  pub inside : k < cellTotal s
+  pub sampled : cell s k .sample ≡ none → ⊥
+
+-- Cell j of one record and cell k of another have the same own bytes: side of the code, border, threshold byte and the bytes of the grid, each where it
+-- stands in its record.
+pub record SameOwn (a : List ℕ) (s : Shot) (j : ℕ) (b : List ℕ) (t : Shot) (k : ℕ) : Type 0 where
+  pub bits : s .bits ≡ t .bits
+  pub border : s .border ≡ t .border
+  pub threshold : byte (cellAt a j + 8) a ≡ byte (cellAt b k + 8) b
+  pub greys : SameBytes (gridSize (s .bits) (s .border)) (cellAt a j + 9) a (cellAt b k + 9) b
+
+-- every score, against every code after every turn, and the code that is read
+pub record SameScores (s : Shot) (j : ℕ) (t : Shot) (k : ℕ) : Type 0 where
+  pub scores : (r code : ℕ) → score (tableOf s) (samplesOf s j) (turned (s .bits) r code) ≡ score (tableOf t) (samplesOf t k) (turned (t .bits) r code)
+  pub codes : readCode (samplesOf s j) ≡ readCode (samplesOf t k)
+
+-- Nothing is asked of the other cells, of the codes or of where the grids start.
+abbrev pub OwnBytesRule : Type 0
+OwnBytesRule = (a b : List ℕ) (s t : Shot) (j k : ℕ) → SampledCell a s j → SampledCell b t k → s .table ≡ t .table → SameOwn a s j b t k
+    → SameScores s j t k
