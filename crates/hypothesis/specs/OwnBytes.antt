@@ -18,8 +18,8 @@ pub record SampledCell (bytes : List ℕ) (s : Shot) (k : ℕ) : Type 0 where
   pub inside : k < cellTotal s
   pub sampled : cell s k .sample ≡ none → ⊥
 
--- Cell j of one record and cell k of another have the same own bytes: side of the code, border, threshold byte and the bytes of the grid, each where it
--- stands in its record.
+-- Cell j of one record and cell k of another agree in what is their own: the side of the code and the border, the threshold byte and the bytes of the
+-- grid, each where it stands in its record.
 pub record SameOwn (a : List ℕ) (s : Shot) (j : ℕ) (b : List ℕ) (t : Shot) (k : ℕ) : Type 0 where
   pub bits : s .bits ≡ t .bits
   pub border : s .border ≡ t .border

@@ -98,10 +98,10 @@ part-same a b at n e same =
     let less : i < n = lt-of-lt-of-le l (rw (length-take n (drop at b)) (min-le-left n (length (drop at b)))) in
     getD-part at n b i less ∙ sym (same (at + i) (omega arith) (omega arith)) ∙ sym (getD-part at n a i less))
 
-both : (a b : List ℕ) (k isSampled size at : ℕ) → length a ≡ length b → PartBy a k isSampled size at → PartBy b k isSampled size at
+part-kept : (a b : List ℕ) (k isSampled size at : ℕ) → length a ≡ length b → PartBy a k isSampled size at → PartBy b k isSampled size at
     → SameBetween (partOf a k .first) (partOf a k .end) a b → SamePart a b k
-both a b k zero size at e x y same = record { place = y .part ∙ sym (x .part); grid = y .grid ∙ sym (x .grid) }
-both a b k (suc n) size at e x y same =
+part-kept a b k zero size at e x y same = record { place = y .part ∙ sym (x .part); grid = y .grid ∙ sym (x .grid) }
+part-kept a b k (suc n) size at e x y same =
     record {
       place = y .part ∙ sym (x .part);
       grid =
@@ -117,11 +117,11 @@ unchanged a b o k same = go (wholeRecord a) refl (ltb k (cellCount a)) (ltb→lt
     whole w = sym (whole-same a b o) ∙ w
 
     go : (w : Bool) → wholeRecord a ≡ w → (t : Bool) → (T t → k < cellCount a) → (T (not t) → cellCount a ≤ k) → SamePart a b k
-    go false w t less more = both a b k 0 0 0 (o .size) (of-refused a k 0 0 w) (of-refused b k 0 0 (whole w)) same
+    go false w t less more = part-kept a b k 0 0 0 (o .size) (of-refused a k 0 0 w) (of-refused b k 0 0 (whole w)) same
     go true w true less more =
         let of-b = of-cell b k (whole w) (rw (count-same a b o) at (less tt)) in
-        both a b k (sampled a k) (gridSize (bitsOf a) (borderOf a)) (cellAt a k) (o .size) (of-cell a k w (less tt))
+        part-kept a b k (sampled a k) (gridSize (bitsOf a) (borderOf a)) (cellAt a k) (o .size) (of-cell a k w (less tt))
         (rw (sampled-same a b o k, size-same a b o, start-same a b o k) of-b)
         same
     go true w false less more =
-        both a b k 0 0 0 (o .size) (of-absent a k 0 0 w (more tt)) (of-absent b k 0 0 (whole w) (rw (count-same a b o) at (more tt))) same
+        part-kept a b k 0 0 0 (o .size) (of-absent a k 0 0 w (more tt)) (of-absent b k 0 0 (whole w) (rw (count-same a b o) at (more tt))) same
