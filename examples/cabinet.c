@@ -110,9 +110,10 @@ static size_t make_links(uint32_t n_markers, uint32_t n_corners)
 
 static void print_match(const uint32_t *match)
 {
-    printf("  placed: turn %lu, tx %ld, ty %ld, margin %g, %lu placements\n", (unsigned long)match[CHARUCO_BEST_TURN],
-           (long)signed_of(match[CHARUCO_BEST_TX]), (long)signed_of(match[CHARUCO_BEST_TY]),
-           float_of(match[CHARUCO_MATCH_MARGIN]), (unsigned long)match[CHARUCO_MATCH_PLACEMENTS]);
+    printf("  placed: turn %lu, tx %ld, ty %ld, contributing cells %lu, margin %g, %lu placements\n",
+           (unsigned long)match[CHARUCO_BEST_TURN], (long)signed_of(match[CHARUCO_BEST_TX]), (long)signed_of(match[CHARUCO_BEST_TY]),
+           (unsigned long)match[CHARUCO_BEST_CONTRIBUTING_CELLS], float_of(match[CHARUCO_MATCH_MARGIN]),
+           (unsigned long)match[CHARUCO_MATCH_PLACEMENTS]);
     for (uint32_t m = 0; m < match[CHARUCO_MATCH_MARKERS]; m++) {
         const uint32_t *marker = markers + CHARUCO_MARKER_WORDS * m;
         printf("  marker %lu in cell %lu, %lu bits differ\n", (unsigned long)marker[CHARUCO_MARKER_ID],

@@ -285,6 +285,7 @@ int main(void)
     check(on_main.match[CHARUCO_BEST_TX] == 1 && on_main.match[CHARUCO_BEST_TY] == 0 && on_main.match[CHARUCO_BEST_TURN] == 0,
           "the board is placed elsewhere");
     check(on_main.match[CHARUCO_MATCH_MARKERS] == CHARUCO_MAX_CELLS / 2, "not every marker was found");
+    check(on_main.match[CHARUCO_BEST_CONTRIBUTING_CELLS] == CHARUCO_MAX_CELLS / 2, "not every cell on a marker's square is counted, or another one");
     check(memcmp(&on_main, &on_small, sizeof on_main) == 0, "the answers differ");
     printf("small_stack: the same answers on a stack of %d bytes; record of %lu bytes; stack taken, and at most, by the header:\n", STACK_BYTES,
            (unsigned long)record_length);

@@ -158,7 +158,7 @@ enum {
 #define CHARUCO_CODE_WORDS 3
 #define CHARUCO_CELL_WORDS 5
 #define CHARUCO_GRID_WORDS 2
-#define CHARUCO_MATCH_WORDS 17
+#define CHARUCO_MATCH_WORDS 19
 #define CHARUCO_COUNT_WORDS 1
 #define CHARUCO_REFUSAL_WORDS 2 /* at most */
 
@@ -197,7 +197,7 @@ enum {
 #define CHARUCO_STACK_CELL 216
 #define CHARUCO_STACK_GRID 504
 #define CHARUCO_STACK_BUILD_MARKER_CELLS 22616
-#define CHARUCO_STACK_MATCH_BOARD 21032
+#define CHARUCO_STACK_MATCH_BOARD 20968
 #define CHARUCO_STACK_MAP_CHARUCO_CORNERS 6728
 #define CHARUCO_STACK_VALIDATE_MARKER_CORNER_LINKS 37416
 
@@ -279,15 +279,17 @@ uint32_t charuco_build_marker_cells(const float *scores, size_t scores_len,
 /*
  * Match: where the board lies under the cells of a shot record. Asks 21, 1 to 8, 22, 9 to 12, 23, 13 to 17.
  * Every turn and translation that puts all cells on the board is a placement. Their order is by turn, then tx, then ty, rising.
- * A cell counts in a placement if it then lies on a square with a marker and its weight is above 0; an unsampled cell has weight 0. Its score
+ * A cell counts in a placement if it then lies on a square with a marker and its weight is above 0; an unsampled cell has weight 0. The cells
+ * that count are the placement's contributing cells, and a match tells of the best and of the runner-up how many there are. A cell's score
  * sums what the likelihood table gives for each bit of the marker's turned code, and its evidence is score + bits^2 * ln 2, in natural
  * logarithms: a guess has 0, and a marker that is read clearly has the most, bits^2 * ln 2 (11.09 for 4 by 4 bits). The evidence of a
- * placement is the sum of weight * evidence over the cells that count, and its capacity that of weight * bits^2 * ln 2. If no cell counts its
- * evidence is no number, and less than every number.
+ * placement is the sum of weight * evidence over the cells that count, and its capacity that of weight * bits^2 * ln 2. Its evidence is no number
+ * exactly where it has 0 contributing cells, and is then less than every number.
  * The best placement is the first with the greatest evidence, the runner-up the first greatest of the rest. The margin is the difference of their
  * evidence divided by the best's capacity, or by 2^-23 if that is more. It is 0 if the best's evidence is not above 0, else 1 if the
  * runner-up's is no number, and above 1 where the runner-up's is far enough below 0. So it compares placements with each other, and says
- * nothing about the strength of the best, for which look at its evidence and its markers.
+ * nothing about the strength of the best, for which look at its evidence, its contributing cells and its markers: a best placement of one or two
+ * contributing cells can be wrong with a wide margin. They are counted whatever their weights.
  * A marker is emitted for each cell that counts in the best placement and has an evidence above 0: rounding apart, a quotient above -ln 2.
  * markers, lent: the words of enum charuco_marker_word for each marker, in the order of their cells. No two of them have the
  * same id. 14 asks for CHARUCO_MARKER_WORDS words for each cell of the record, emitted or not; CHARUCO_MAX_CELLS * CHARUCO_MARKER_WORDS are
@@ -315,7 +317,9 @@ enum charuco_match_word {
     CHARUCO_CORNERS_TURN = 13,       /* the alignment of the corners, for charuco_map_charuco_corners */
     CHARUCO_CORNERS_TX = 14,
     CHARUCO_CORNERS_TY = 15,
-    CHARUCO_MATCH_MARKERS = 16       /* how many markers were emitted */
+    CHARUCO_MATCH_MARKERS = 16,      /* how many markers were emitted */
+    CHARUCO_BEST_CONTRIBUTING_CELLS = 17,  /* how many cells count in the best placement; an emitted marker's cell does, so at least 1 */
+    CHARUCO_NEXT_CONTRIBUTING_CELLS = 18   /* how many cells count in the runner-up; 0 exactly where word 9 is 0 */
 };
 
 enum charuco_marker_word {

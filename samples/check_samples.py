@@ -161,15 +161,15 @@ class Match:
         return self.ids.get((u + tx, v + ty))
 
     def placement(self, turn, tx, ty):
-        """Evidence, None where no cell contributes, and capacity."""
-        evidence, capacity, contributing = f32(0), f32(0), 0
+        """Evidence, None where no cell contributes, capacity, and how many cells contribute."""
+        evidence, capacity, contributing_cells = f32(0), f32(0), 0
         for cell, weight in enumerate(self.weights):
             id = self.expected(cell, turn, tx, ty)
             if id is not None and weight > 0:
                 evidence = evidence + weight * (self.score(cell, id, turn) - self.null)
                 capacity = capacity + weight * -self.null
-                contributing += 1
-        return (evidence if contributing else None), capacity
+                contributing_cells += 1
+        return (evidence if contributing_cells else None), capacity, contributing_cells
 
     def placements(self):
         for turn in range(4):
@@ -217,7 +217,7 @@ class Match:
         markers = list(self.emitted(turn, tx, ty))
         ask(17, markers)
         dx, dy = [(0, 0), (0, 1), (1, 1), (1, 0)][turn]
-        shown = lambda p: f"{p[0]} {p[1]} {p[2]} {'none' if p[3] is None else hex_bits(p[3])}"
+        shown = lambda p: f"{p[0]} {p[1]} {p[2]} {'none' if p[3] is None else hex_bits(p[3])} {p[5]}"
         return ("placed\n"
                 + f"best {shown(best)}\n"
                 + f"next {shown(runner_up) if runner_up else 'absent'}\n"
@@ -234,15 +234,15 @@ def model(data, changed=lambda shot: shot):
         return str(refusal)
 
 
-# ---------------------------------------------------------------- document 01's own example
+# ---------------------------------------------------------------- document 01's own example, with document 02's counts
 
 EXAMPLE = (b"\x08" + struct.pack("<511f", *[-1.0] * 256, *[0.0] * 255) + bytes([2, 2, 2, 1]) + struct.pack("<ff", 1.0, 0.5)
            + struct.pack("<HQQ", 2, 1, 15) + struct.pack("<HB", 1, 1) + struct.pack("<hhfB", 0, 0, 1.0, 128)
            + bytes.fromhex("00000000 0000FF00 00FFFF00 00000000"))
 
 EXAMPLE_TEXT = """placed
-best 0 1 0 40317218
-next 1 1 0 3F45C860
+best 0 1 0 40317218 1
+next 1 1 0 3F45C860 1
 margin 3F38AA3B
 placements 16
 corners 0 1 0

@@ -1,9 +1,10 @@
 #!/usr/bin/env python3
-"""Writes the stored test of the program `place`: document 01's example.
+"""Writes the stored test of the program `place`: document 01's example, with the counts of document 02.
 
     python3 samples/make_example.py SCOPE
 
-SCOPE is document 01. crates/place/stdin is the record that its sentence describes, crates/place/stdout the lines that it prints.
+SCOPE is document 01. crates/place/stdin is the record that its sentence describes, crates/place/stdout the lines that it prints, with 1
+appended to `best` and `next`, as document 02 says.
 """
 import pathlib
 import re
@@ -23,6 +24,7 @@ record += struct.pack("<2hfB", 0, 0, 1.0, 128)  # at (0, 0), fraction 1.0, thres
 record += bytes.fromhex("00000000 0000FF00 00FFFF00 00000000")  # grid rows
 
 printed = re.search(r"It prints\n\n```\n(.*?)```", paper, re.S).group(1)
+printed = re.sub(r"^(best|next) .*$", r"\g<0> 1", printed, flags=re.M)  # document 02, 2.5
 
 (folder / "stdin").write_bytes(record)
 (folder / "stdout").write_text(printed, encoding="ascii", newline="\n")

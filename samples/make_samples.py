@@ -208,8 +208,9 @@ def truth(shot, cells):
 # A sheet with one cell of another one filed a second time, as its last: its name, the other sheet, and the cell, counted from 0.
 REPEATED, SOURCE, CELL = "repeated", "narrow", 7
 
-# The study's sheet is not made here. Its truth is the board's place in the study's picture.
-STUDY = "glare-two-squares\t0\t-33\t21\twrong\n"
+# The study's sheets are not made here. Their truth is the board's place in the study's pictures.
+STUDY = ["glare-two-squares\t0\t-33\t21\twrong\n",
+         "splash-one-cell\t2\t-12\t44\twrong\n"]
 
 UPRIGHT = View(0, [(196, 34), (459, 52), (478, 440), (169, 425)], (-1, -1))
 
@@ -262,7 +263,7 @@ def main():
         cv2.imwrite(str(directory / f"{shot.name}.png"), small(shot.picture), [cv2.IMWRITE_PNG_COMPRESSION, 9])
         if full:
             cv2.imwrite(str(directory / f"{shot.name}-full.png"), shot.picture)
-    rows.append(STUDY)
+    rows += STUDY
     (directory / "truth.tsv").write_text("".join(rows))
 
 

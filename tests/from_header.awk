@@ -16,9 +16,13 @@ function float(digits,   x, sign) {
     return sprintf("%.9g", sign * (8388608 + x % 8388608) * 2 ^ (int(x / 8388608) - 150))   # normal
 }
 
+function placement() { return sprintf("turn %d tx %d ty %d evidence %s contributing cells %s", $2, $3, $4, $5 == "none" ? $5 : float($5), $6) }
+
 /^refused 16/ { print "match refused 16 margin " float($3); next }
 /^refused/ { print "match refused " $2 }
-/^best/ { printf "turn %d tx %d ty %d evidence %s\n", $2, $3, $4, $5 == "none" ? $5 : float($5) }
+/^best/ { print placement() }
+/^next absent/ { print; next }
+/^next/ { print "next " placement() }
 /^margin/ { print "margin " float($2) }
 /^placements/ { print; placed = 1 }
 /^marker/ { markers[++n] = "marker cell " $2 " id " $3 " differing " $7 }

@@ -45,6 +45,15 @@ static void print_refusal(const char *what, uint32_t number, const uint32_t *val
     printf("\n");
 }
 
+static void print_strength(uint32_t is_number, uint32_t evidence, uint32_t contributing_cells)
+{
+    if (is_number)
+        printf(" evidence %.9g", (double)word_float(evidence));
+    else
+        printf(" evidence none");
+    printf(" contributing cells %" PRIu32 "\n", contributing_cells);
+}
+
 /* 0, or -1 and a message on stderr. */
 static int read_file(const char *name, size_t *len)
 {
@@ -174,10 +183,14 @@ static void show(size_t len)
     }
     printf("turn %" PRIu32 " tx %" PRId32 " ty %" PRId32, match[CHARUCO_BEST_TURN], word_int(match[CHARUCO_BEST_TX]),
            word_int(match[CHARUCO_BEST_TY]));
-    if (match[CHARUCO_BEST_IS_NUMBER])
-        printf(" evidence %.9g\n", (double)word_float(match[CHARUCO_BEST_EVIDENCE]));
-    else
-        printf(" evidence none\n");
+    print_strength(match[CHARUCO_BEST_IS_NUMBER], match[CHARUCO_BEST_EVIDENCE], match[CHARUCO_BEST_CONTRIBUTING_CELLS]);
+    if (match[CHARUCO_NEXT_PRESENT]) {
+        printf("next turn %" PRIu32 " tx %" PRId32 " ty %" PRId32, match[CHARUCO_NEXT_TURN], word_int(match[CHARUCO_NEXT_TX]),
+               word_int(match[CHARUCO_NEXT_TY]));
+        print_strength(match[CHARUCO_NEXT_IS_NUMBER], match[CHARUCO_NEXT_EVIDENCE], match[CHARUCO_NEXT_CONTRIBUTING_CELLS]);
+    } else {
+        printf("next absent\n");
+    }
     printf("margin %.9g\n", (double)word_float(match[CHARUCO_MATCH_MARGIN]));
     printf("placements %" PRIu32 "\n", match[CHARUCO_MATCH_PLACEMENTS]);
     printf("markers %" PRIu32 "\n", match[CHARUCO_MATCH_MARKERS]);

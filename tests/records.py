@@ -7,6 +7,7 @@ seven.shot    samples/lane4.shot with a board of 32 x 32 squares, for which its 
 neighbours.shot   samples/lane4.shot with a minimum margin that is the next float above its margin
 high.shot     samples/glare.shot with a minimum margin of 100
 unsampled.shot    samples/lane4.shot with an unsampled cell more, at the point of its last cell
+none.shot     a board of 2 x 3 squares, in two turns alone; in one of them no cell contributes
 """
 
 import struct
@@ -83,6 +84,13 @@ def sheet(settings, bits, border, code_count, squares, turn, tx, ty, numbers):
     return record(settings, bits, border, codes, cells)
 
 
+def half_turn():
+    """2 rows, 3 columns. Markers are on (1, 0), (0, 1), (2, 1): cell (1, 0) is on one in turn 0, and on none in turn 2. The others are unsampled."""
+    out = struct.pack("<5B2f", 0, 2, 3, 2, 1, 1.0, 0.5) + struct.pack("<H3Q", 3, 1, 15, 7) + struct.pack("<HB", 3, 0b010)
+    out += struct.pack("<2h", 0, 0) + struct.pack("<2hfB", 1, 0, 1.0, 128) + grid(1, 2, 1, Numbers(3))
+    return out + struct.pack("<2h", 2, 1)
+
+
 def main(out):
     markers = [(i, j) for j in range(32) for i in range(32) if (i + j) % 2 == 1]
     full = sheet((None, None, None), 8, 1, 512, markers[128:384], 2, -3900, -3890, Numbers(1))
@@ -92,6 +100,8 @@ def main(out):
     (out / "full.shot").write_bytes(full)
     (out / "whole.shot").write_bytes(whole)
     (out / "longer.shot").write_bytes(whole + b"\0")
+
+    (out / "none.shot").write_bytes(half_turn())
 
     lane4 = (SAMPLES / "lane4.shot").read_bytes()
     glare = (SAMPLES / "glare.shot").read_bytes()

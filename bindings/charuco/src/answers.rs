@@ -106,18 +106,21 @@ impl MarkerCell {
     }
 }
 
-/// A placement of the cells. Its evidence is none where no cell contributes.
+/// A placement of the cells.
 #[derive(Clone, Copy, Debug, PartialEq)]
 pub struct Hypothesis {
     pub alignment: Alignment,
     pub evidence: Option<f32>,
+    /// How many cells contribute: those with weight above 0 that lie on a marker's square. It is 0 exactly where the evidence is none.
+    pub contributing_cells: usize,
 }
 
 impl Hypothesis {
-    fn new([turn, tx, ty, is_number, bits]: [u32; 5]) -> Self {
+    fn new([turn, tx, ty, is_number, bits]: [u32; 5], contributing_cells: u32) -> Self {
         Self {
             alignment: Alignment::new([turn, tx, ty]),
             evidence: (is_number == 1).then(|| f32::from_bits(bits)),
+            contributing_cells: contributing_cells as usize,
         }
     }
 }
@@ -171,7 +174,7 @@ pub struct Match {
     pub markers: Vec<Marker>,
 }
 
-pub(crate) const MATCH_WORDS: usize = 17;
+pub(crate) const MATCH_WORDS: usize = 19;
 
 impl Match {
     /// How many markers there are.
@@ -181,8 +184,8 @@ impl Match {
 
     pub(crate) fn new(w: [u32; MATCH_WORDS], markers: Vec<Marker>) -> Self {
         Self {
-            best: Hypothesis::new([w[0], w[1], w[2], w[3], w[4]]),
-            runner_up: (w[5] == 1).then(|| Hypothesis::new([w[6], w[7], w[8], w[9], w[10]])),
+            best: Hypothesis::new([w[0], w[1], w[2], w[3], w[4]], w[17]),
+            runner_up: (w[5] == 1).then(|| Hypothesis::new([w[6], w[7], w[8], w[9], w[10]], w[18])),
             margin: f32::from_bits(w[11]),
             placements: w[12] as usize,
             corners: Alignment::new([w[13], w[14], w[15]]),

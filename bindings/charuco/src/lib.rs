@@ -73,9 +73,9 @@ const MOST_CORNERS: usize = 31 * 31;
 const MOST_LINKS: usize = 4096;
 const VIOLATIONS_PER_LINK: usize = 3;
 
-/// The words of an answer, if it is no refusal.
+/// The words of an answer, if it is no refusal. None has more words than a match.
 fn told<const N: usize>(ask: impl FnOnce(&mut [u32]) -> u32) -> Result<[u32; N], Refusal> {
-    let mut values = [0; 17];
+    let mut values = [0; MATCH_WORDS];
     match ask(&mut values) {
         0 => Ok(std::array::from_fn(|k| values[k])),
         number => Err(Refusal::new(number, [values[0], values[1]])),

@@ -43,6 +43,7 @@ fn example_is_placed() {
     let hypothesis = |alignment, bits| Hypothesis {
         alignment,
         evidence: Some(f32::from_bits(bits)),
+        contributing_cells: 1, // document 02, 2.5
     };
     assert_eq!(placed.best, hypothesis(at(0, 1, 0), 0x4031_7218));
     assert_eq!(placed.runner_up, Some(hypothesis(at(1, 1, 0), 0x3F45_C860)));
@@ -111,23 +112,23 @@ fn cut_record_is_refused() {
 #[test]
 fn short_lists_get_what_fits() {
     let record = example();
-    let mut whole = [7; 20];
+    let mut whole = [7; 22];
     let mut markers = [9; 20];
     assert_eq!(words::match_board(&record, &mut markers, &mut whole), 0);
-    assert_eq!(whole[17..], [7; 3]);
+    assert_eq!(whole[19..], [7; 3]);
     assert_eq!(markers[18..], [9; 2]);
-    for length in 0..17 {
+    for length in 0..19 {
         let mut values = vec![7; length];
         assert_eq!(words::match_board(&record, &mut markers, &mut values), 0);
         assert_eq!(values, whole[..length]);
     }
     let mut too_short = [9; 17];
-    let mut values = [7; 17];
+    let mut values = [7; 19];
     assert_eq!(
         words::match_board(&record, &mut too_short, &mut values),
         Refusal::ListTooShort.number()
     );
-    assert_eq!((too_short, values), ([9; 17], [7; 17]));
+    assert_eq!((too_short, values), ([9; 17], [7; 19]));
 }
 
 /// Questions 7 and 16 give values.

@@ -1,8 +1,8 @@
 //! What document 02 says of single requests, asked through the wrapper.
 
 use charuco::{
-    BoardSpec, LinkCheckMode, Refusal, cell, grid, match_board, read_header,
-    validate_marker_corner_links,
+    BoardSpec, Hypothesis, LinkCheckMode, Refusal, cell, grid, match_board, read_header,
+    validate_marker_corner_links, words,
 };
 
 const BOARD: BoardSpec = BoardSpec {
@@ -153,4 +153,73 @@ fn points_beside_are_not_repeated() {
         }
         assert_eq!(refused, others.len());
     }
+}
+
+/// A cell of the records below: unsampled, or its fraction and the code that it shows.
+type Seen = Option<(f32, u64)>;
+
+/// A record of a board of 2 rows and 3 columns, codes of side 2 and a border of 1, with a cell at every (u, v), row by row.
+fn whole_board(cells: [Seen; 6]) -> Vec<u8> {
+    let mut record = vec![0, 2, 3, 2, 1];
+    for size in [1.0_f32, 0.5] {
+        record.extend(size.to_le_bytes());
+    }
+    record.extend([3, 0]);
+    for code in [1_u64, 15, 7] {
+        record.extend(code.to_le_bytes());
+    }
+    let sampled = (0..6).filter(|&k| cells[k].is_some());
+    record.extend([6, 0, sampled.map(|k| 1 << k).sum()]);
+    for (k, seen) in (0_i16..).zip(cells) {
+        record.extend((k % 3).to_le_bytes());
+        record.extend((k / 3).to_le_bytes());
+        if let Some((fraction, code)) = seen {
+            record.extend(fraction.to_le_bytes());
+            record.push(128);
+            // The border is black, and so is a bit that is set.
+            record.extend((0..16).map(|at| match (at % 4, at / 4) {
+                (x @ 1..=2, y @ 1..=2) if code >> (2 * (y - 1) + x - 1) & 1 == 0 => 255,
+                _ => 0_u8,
+            }));
+        }
+    }
+    record
+}
+
+/// Counts of the best and of the runner-up, and whether the runner-up's evidence is a number. The best is the board as it lies.
+fn counts(cells: [Seen; 6]) -> (usize, usize, bool) {
+    let record = whole_board(cells);
+    let placed = match_board(&record).expect("a placed shot");
+    let at = |hypothesis: Hypothesis| {
+        let alignment = hypothesis.alignment;
+        (alignment.turn, alignment.tx, alignment.ty)
+    };
+    let next = placed.runner_up.expect("a runner-up");
+    assert_eq!(placed.placements, 2);
+    assert_eq!((at(placed.best), at(next)), ((0, 0, 0), (2, 2, 1)));
+    assert!(placed.best.evidence.is_some());
+    let counts = [placed.best.contributing_cells, next.contributing_cells];
+    let mut values = [0; 19];
+    words::match_board(&record, &mut [0; 6 * 18], &mut values);
+    assert_eq!([values[17], values[18]].map(|word| word as usize), counts);
+    (counts[0], counts[1], next.evidence.is_some())
+}
+
+/// 2.5: the cells with weight above 0 that land on a marker square are counted, and the evidence is none exactly where there are none.
+///
+/// On a board of 2 rows and 3 columns the markers 0, 1, 2 are on (1, 0), (0, 1), (2, 1). Six cells fit in turns 0 and 2 alone. In turn 0 cell k is on square
+/// (k mod 3, k / 3): cells 1, 3, 5 are on markers' squares. Turn 2 takes (u, v) to (2 - u, 1 - v): cells 0, 2, 4 are, on those of markers 2, 1, 0.
+#[test]
+fn contributing_cells_are_counted() {
+    let (first, second, black) = (Some((1.0, 1)), Some((0.25, 15)), Some((1.0, 15)));
+    let weightless = Some((0.0, 7));
+    // In turn 0 cells 1 and 3 count, the second with weight 0.5, and cell 5 has weight 0. In turn 2 cells 0 and 4 are unsampled, cell 2 has weight 0.
+    let none = [None, first, weightless, second, None, weightless];
+    assert_eq!(counts(none), (2, 0, false));
+    // Cell 4, which shows another code than marker 0's, counts in turn 2.
+    let one = [None, first, weightless, second, black, weightless];
+    assert_eq!(counts(one), (2, 1, true));
+    // So do cells 0 and 2; cell 3 is unsampled.
+    let three = [black, first, Some((0.125, 7)), None, black, weightless];
+    assert_eq!(counts(three), (1, 3, true));
 }

@@ -57,7 +57,7 @@ struct Question {
     markers: [u32; 256 * 18],
     corners: [u32; 961 * 6],
     numbers: [u32; 2],
-    values: [u32; 17],
+    values: [u32; 19],
     count: [u32; 1],
 }
 
@@ -79,7 +79,7 @@ impl Question {
             markers: [0; 256 * 18],
             corners: [0; 961 * 6],
             numbers: [0; 2],
-            values: [0; 17],
+            values: [0; 19],
             count: [0; 1],
         }
     }

@@ -22,7 +22,7 @@ one-is : (b : Bool) → 0 < asOne b → T b
 one-is true h = tt
 one-is false h = absurd (omega arith)
 
-one-small : (b : Bool) → asOne b ≤ 1
+pub one-small : (b : Bool) → asOne b ≤ 1
 one-small true = omega arith
 one-small false = omega arith
 
@@ -37,6 +37,11 @@ module _ (q : ℕ → Bool) where
   pub count-suc : (n : ℕ) → countPassing q (suc n) ≡ countPassing q n + asOne (q n)
   unfolding countPassing
   count-suc n = refl
+
+  pub count-at-most : (n : ℕ) → countPassing q n ≤ n
+  unfolding countPassing
+  count-at-most zero = omega arith
+  count-at-most (suc n) = omega (arith, count-at-most n, one-small (q n))
 
   -- the count never falls, and has risen past a place that passes
   pub count-mono : (a b : ℕ) → a ≤ b → countPassing q a ≤ countPassing q b

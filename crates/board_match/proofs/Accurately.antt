@@ -16,6 +16,7 @@ use Rattle.ranking.specs.declared.Choice.{Choice}
 use Rattle.ranking.specs.declared.Choice.the-variants as choice
 use Rattle.hypothesis.specs.Search.{best}
 use Rattle.hypothesis.specs.Inputs.{PassedShot}
+use Rattle.hypothesis.proofs.Contributing.{count-rule}
 use Rattle.hypothesis.proofs.Accuracy.{accuracy}
 use Rattle.hypothesis.proofs.Placements.{count-is}
 use Rattle.hypothesis.proofs.Best.{best-placed, runner-up-placed}
@@ -39,9 +40,11 @@ module _ (s : Shot) (p : PassedShot s) (b : Hypothesis) (is : best s ≡ choice.
       let n = emitted-number s (b .alignment) some-marker in
       record {
         accurate = accuracy s (p .checked);
+        counts = count-rule s;
         best-is = is;
         best-placed = q .placement;
         best-reported = q .evidence-is;
+        best-count = q .count-is;
         number = n .0;
         best-number = q .evidence-is ∙ n .1;
         runner-up = λ g next. runner-up-placed s (p .checked) b g is next;

@@ -14,15 +14,17 @@ use Rattle.ranking.specs.declared.Choice.{Choice}
 use Rattle.ranking.specs.declared.Choice.the-variants as choice
 use Rattle.ranking.specs.Ranking.{rankingOf}
 use Rattle.hypothesis.specs.Placements.{cellTotal, withTurnsBelow, placements}
+use Rattle.hypothesis.specs.Evidence.{contributingCells}
 use Rattle.hypothesis.specs.Search.{hypothesis, best, runnerUp}
 use Rattle.hypothesis.specs.Accuracy.{Placement}
 use Rattle.hypothesis.specs.Inputs.{PassedShot}
+use Rattle.hypothesis.proofs.Contributing.{count-rule}
 use Rattle.hypothesis.proofs.Best.{small-translation, best-placed, runner-up-placed}
 use Rattle.hypothesis.proofs.Places.{stands}
 use Rattle.hypothesis.proofs.Turned.{total-small}
 use Rattle.emit.proofs.Laws.{one-per-cell}
 use Rattle.board_match.specs.Match.{matchOf}
-use Rattle.board_match.specs.Sizes.{SmallAlignment, SmallRunnerUp, SmallMatch, SmallAnswer, SizesRule}
+use Rattle.board_match.specs.Sizes.{SmallAlignment, SmallHypothesis, SmallRunnerUp, SmallMatch, SmallAnswer, SizesRule}
 use Rattle.board_match.proofs.Accurately.{of-answer}
 
 module _ (s : Shot) (p : PassedShot s) where
@@ -33,6 +35,12 @@ module _ (s : Shot) (p : PassedShot s) where
       let t = small-translation s p k q o in
       record { turn = omega (arith, ap (λ (a : GridAlignment). a .turn) (o .is), o .turn); tx = t .0; ty = t .1 }
 
+  -- a placement of the shot, with its own count
+  small-hypothesis : (h : Hypothesis) → Placement s (h .alignment) → h .«contributing_cells» ≡ contributingCells s (h .alignment)
+      → SmallHypothesis (cellTotal s) h
+  small-hypothesis h placed e =
+      record { alignment = small-placement (h .alignment) placed; contributing = rw e (count-rule s (h .alignment) .at-most) }
+
   few-placements : length (placements s) ≤ 4096
   unfolding placements
   few-placements =
@@ -40,18 +48,19 @@ module _ (s : Shot) (p : PassedShot s) where
       omega (arith, t, length-map (withTurnsBelow s 4) (hypothesis s))
 
   module _ (b : Hypothesis) (is : best s ≡ choice.Placement b) where
-    small-next : (c : Choice) → runnerUp s ≡ c → SmallRunnerUp c
+    small-next : (c : Choice) → runnerUp s ≡ c → SmallRunnerUp (cellTotal s) c
     small-next choice.Absent e = tt
-    small-next (choice.Placement g) e = small-placement (g .alignment) (runner-up-placed s (p .checked) b g is e .placed)
+    small-next (choice.Placement g) e = let r = runner-up-placed s (p .checked) b g is e in small-hypothesis g (r .placed) (r .count-is)
 
     small-match : SmallMatch (cellTotal s) (matchOf s b)
     small-match =
         let a = b .alignment in
         let low = lowestPoint 1 (a .turn) in
         let l = lowest-small (a .turn) in
-        let small = small-placement a (best-placed s p b is .placement) in
+        let placed = best-placed s p b is in
+        let small = small-placement a (placed .placement) in
         record {
-          best = small;
+          best = small-hypothesis b (placed .placement) (placed .count-is);
           runner-up = small-next (runnerUp s) refl;
           corners =
               record {

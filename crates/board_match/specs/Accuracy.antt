@@ -1,4 +1,5 @@
--- Demand 3 of an answer of Match: of every placement of a placed shot, and of those that the answer shows. And what question 16 lets pass.
+-- Demand 3 of an answer of Match: of every placement of a placed shot, and of those that the answer shows; the counts of contributing cells
+-- (document 02, 2.5) likewise. And what question 16 lets pass.
 use mathlib.Core.Path.{_≡_}
 use mathlib.Core.List.{List}
 use mathlib.Core.Option.{none, some}
@@ -8,14 +9,15 @@ use lib.Dec.{T}
 use lib.ListN.{length, getD}
 use lib.Ieee.{Float, lt, isNan}
 use Rattle.refusal.specs.declared.Refusal.the-variants as refusal
+use Rattle.grid_alignment.specs.declared.GridAlignment.{GridAlignment}
 use Rattle.shot_record.specs.Shots.{Shot, shot, wholeRecord}
 use Rattle.ranking.specs.declared.Evidence.the-variants as evidence
 use Rattle.ranking.specs.declared.Hypothesis.{Hypothesis}
 use Rattle.ranking.specs.declared.Choice.the-variants as choice
 use Rattle.hypothesis.specs.Placements.{placements}
-use Rattle.hypothesis.specs.Evidence.{reported}
+use Rattle.hypothesis.specs.Evidence.{contributingCells, reported}
 use Rattle.hypothesis.specs.Search.{best}
-use Rattle.hypothesis.specs.Rules.{countOf}
+use Rattle.hypothesis.specs.Rules.{countOf, CountsCells}
 use Rattle.hypothesis.specs.Accuracy.{Placement, AccurateEvidence, RunsUp}
 use Rattle.board_match.specs.declared.Match.{Match}
 use Rattle.board_match.specs.declared.Matched.{Matched}
@@ -26,10 +28,13 @@ use Rattle.board_match.specs.Match.{marginOf, minimum, refusedBy}
 pub record PlacedAccurately (s : Shot) (m : Match) : Type 0 where
   -- of every placement: reported none exactly when exact none, finite and within the bound, and a true lead
   pub accurate : AccurateEvidence s
-  -- the best is that of the search: a placement, with the evidence reported for it, which is a number
+  -- of every alignment: what the count of its contributing cells is, and that its evidence is none exactly when that is 0
+  pub counts : (p : GridAlignment) → CountsCells s p
+  -- the best is that of the search: a placement, with its count and the evidence reported for it, which is a number
   pub best-is : best s ≡ choice.Placement (m .best)
   pub best-placed : Placement s (m .best .alignment)
   pub best-reported : m .best .evidence ≡ reported s (m .best .alignment)
+  pub best-count : m .best .«contributing_cells» ≡ contributingCells s (m .best .alignment)
   pub number : Float
   pub best-number : m .best .evidence ≡ evidence.Number number
   -- the runner-up, where there is one

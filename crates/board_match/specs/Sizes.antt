@@ -5,6 +5,7 @@ use lib.IntN.{natAbs}
 use lib.ListN.{getD}
 use Rattle.grid_alignment.specs.declared.GridAlignment.{GridAlignment}
 use Rattle.shot_record.specs.Shots.{shot}
+use Rattle.ranking.specs.declared.Hypothesis.{Hypothesis}
 use Rattle.ranking.specs.declared.Choice.{Choice}
 use Rattle.ranking.specs.declared.Choice.the-variants as choice
 use Rattle.hypothesis.specs.Placements.{cellTotal}
@@ -19,14 +20,19 @@ pub record SmallAlignment (n : ℕ) (a : GridAlignment) : Type 0 where
   pub tx : natAbs (a .tx) ≤ n
   pub ty : natAbs (a .ty) ≤ n
 
-abbrev pub SmallRunnerUp : Choice → Type 0
-SmallRunnerUp (choice.Placement h) = SmallAlignment 4127 (h .alignment)
-SmallRunnerUp choice.Absent = Unit {0}
+-- with a small translation, and with at most so many contributing cells
+pub record SmallHypothesis (cells : ℕ) (h : Hypothesis) : Type 0 where
+  pub alignment : SmallAlignment 4127 (h .alignment)
+  pub contributing : h .«contributing_cells» ≤ cells
+
+abbrev pub SmallRunnerUp : ℕ → Choice → Type 0
+SmallRunnerUp cells (choice.Placement h) = SmallHypothesis cells h
+SmallRunnerUp cells choice.Absent = Unit {0}
 
 -- at most one marker for each of at most 256 cells
 pub record SmallMatch (cells : ℕ) (m : Match) : Type 0 where
-  pub best : SmallAlignment 4127 (m .best .alignment)
-  pub runner-up : SmallRunnerUp (m .«runner_up»)
+  pub best : SmallHypothesis cells (m .best)
+  pub runner-up : SmallRunnerUp cells (m .«runner_up»)
   pub corners : SmallAlignment 4128 (m .corners)
   pub placements : m .placements ≤ 4096
   pub markers : m .markers ≤ cells

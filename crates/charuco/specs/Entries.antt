@@ -32,8 +32,9 @@ abbrev pub cellsTold : MarkerCells → Answer
 cellsTold (found.Found count) = counted count
 cellsTold (found.Refused r) = refused r
 
--- Match: the best placement, whether there is a next one and which, the margin, the count of placements, the corners' alignment and the
--- count of markers. An alignment is turn, tx, ty; evidence is whether it is a number, and its bits.
+-- Match: the best placement, whether there is a next one and which, the margin, the count of placements, the corners' alignment, the
+-- count of markers, and how many cells contribute to the best placement and to the next. An alignment is turn, tx, ty; evidence is whether it is a
+-- number, and its bits.
 abbrev pub alignmentWords : GridAlignment → List ℕ
 alignmentWords a = a .turn ∷ ofZ w32 (a .tx) ∷ ofZ w32 (a .ty) ∷ []
 
@@ -48,13 +49,18 @@ abbrev pub choiceWords : Choice → List ℕ
 choiceWords (choice.Placement h) = 1 ∷ placementWords h
 choiceWords choice.Absent = 0 ∷ 0 ∷ 0 ∷ 0 ∷ 0 ∷ 0 ∷ []
 
+-- without a placement no cell contributes
+abbrev pub contributingTo : Choice → ℕ
+contributingTo (choice.Placement h) = h .«contributing_cells»
+contributingTo choice.Absent = 0
+
 abbrev pub matchWords : Match → List ℕ
 matchWords m =
     placementWords (m .best)
     ++ choiceWords (m .«runner_up»)
     ++ (toBits binary32 (m .margin) ∷ countWord (m .placements) ∷ [])
     ++ alignmentWords (m .corners)
-    ++ (countWord (m .markers) ∷ [])
+    ++ (countWord (m .markers) ∷ countWord (m .best .«contributing_cells») ∷ countWord (contributingTo (m .«runner_up»)) ∷ [])
 
 abbrev pub matchTold : Matched → Answer
 matchTold (matched.Placed m) = worked (matchWords m)

@@ -3,7 +3,7 @@ ghost use mathlib.Core.Path.{_≡_};
 ghost use Rattle.board_match.specs.Match.{matchAnswer, matchList};
 ghost use Rattle.board_match.specs.Accuracy.{Accuracy};
 ghost use Rattle.charuco.specs.Answers.{Tells};
-ghost use Rattle.charuco.specs.Entries.{alignmentWords, evidenceWords, placementWords, choiceWords, matchWords, matchTold};
+ghost use Rattle.charuco.specs.Entries.{alignmentWords, evidenceWords, placementWords, choiceWords, contributingTo, matchWords, matchTold};
 use super::values;
 use board_match::Match;
 use board_match::Matched;
@@ -52,13 +52,25 @@ fn choice_words(choice: Choice) -> [u32; 6]
     }
 }
 
-fn match_words(m: Match) -> [u32; 17]
+// Without a placement no cell contributes.
+fn contributing_to(choice: Choice) -> usize
+    ensures { λ r. ⌜ r ≡ contributingTo choice ⌝ }
+{
+    match choice {
+        Choice::Placement(h) => h.contributing_cells,
+        Choice::Absent => 0,
+    }
+}
+
+fn match_words(m: Match) -> [u32; 19]
     ensures { λ r. ⌜ r ≡ matchWords m ⌝ }
 {
     let runner_up = m.runner_up;
     let best = placement_words(m.best);
     let next = choice_words(runner_up);
     let corners = alignment_words(m.corners);
+    let best_cells = m.best.contributing_cells;
+    let next_cells = contributing_to(runner_up);
     [
         best[0],
         best[1],
@@ -77,6 +89,8 @@ fn match_words(m: Match) -> [u32; 17]
         corners[1],
         corners[2],
         values::count_word(m.markers),
+        values::count_word(best_cells),
+        values::count_word(next_cells),
     ]
 }
 

@@ -20,7 +20,7 @@ use Rattle.ranking.proofs.Greatest.{empty, greatest-rule}
 use Rattle.hypothesis.specs.declared.Selection.{Selection}
 use Rattle.hypothesis.specs.declared.Enumerated.the-variants as enumerated
 use Rattle.hypothesis.specs.Placements.{frame, movesAcross, movesDown, placements}
-use Rattle.hypothesis.specs.Evidence.{reported}
+use Rattle.hypothesis.specs.Evidence.{contributingCells, reported}
 use Rattle.hypothesis.specs.Search.{hypothesis, hypotheses, best, runnerUp, selection, selected, enumerate}
 use Rattle.hypothesis.specs.Accuracy.{Placement, RunsUp, Checked}
 use Rattle.hypothesis.specs.Inputs.{PassedShot}
@@ -36,14 +36,18 @@ pub record BestPlaced (s : Shot) (b : Hypothesis) : Type 0 where
   pub tx : natAbs (b .alignment .tx) ≤ 4127
   pub ty : natAbs (b .alignment .ty) ≤ 4127
   pub evidence-is : b .evidence ≡ reported s (b .alignment)
+  pub count-is : b .«contributing_cells» ≡ contributingCells s (b .alignment)
 
 -- a hypothesis of the list: its placement stands at the same place
 mapped : (s : Shot) (ps : List GridAlignment) (k : ℕ) (h : Hypothesis) → getElem? (map (hypothesis s) ps) k ≡ some h → (getElem? ps k ≡ some (h .alignment))
-    × (h .evidence ≡ reported s (h .alignment))
+    × (h .evidence ≡ reported s (h .alignment)) × (h .«contributing_cells» ≡ contributingCells s (h .alignment))
 mapped s [] k h e = absurd (let z : _≡_ {A = ℕ} 0 1 = cc in omega arith)
 mapped s (p ∷ ps) zero h e =
-    let q : hypothesis s p ≡ h = cc in
-    (ap (λ (x : Hypothesis). some (x .alignment)) q, sym (ap (λ (x : Hypothesis). x .evidence) q) ∙ ap (λ (x : Hypothesis). reported s (x .alignment)) q)
+    let q : hypothesis s p ≡ h = cc in (
+      ap (λ (x : Hypothesis). some (x .alignment)) q,
+      sym (ap (λ (x : Hypothesis). x .evidence) q) ∙ ap (λ (x : Hypothesis). reported s (x .alignment)) q,
+      sym (ap (λ (x : Hypothesis). x .«contributing_cells») q) ∙ ap (λ (x : Hypothesis). contributingCells s (x .alignment)) q,
+    )
 mapped s (p ∷ ps) (suc k) h e = mapped s ps k h e
 
 small-move : (a n : ℕ) (least : ℤ) → a < n → n ≤ 32 → natAbs least ≤ 4096 → natAbs (pos a -ℤ least) ≤ 4127
@@ -72,6 +76,7 @@ module _ (s : Shot) (p : PassedShot s) where
         tx = small .0;
         ty = small .1;
         evidence-is = m .1;
+        count-is = m .2;
       }
 
 -- ---- the runner-up
@@ -100,6 +105,7 @@ module _ (s : Shot) (c : Checked s) where
         placed = (r .0, n .0);
         other = λ e. r .1 (distinct s (r .0) (f .place) (b .alignment) (n .0 ∙ ap some e) (m .0));
         evidence-is = n .1;
+        count-is = n .2;
         not-above = f .greatest (r .0) g (r .2);
       }
 

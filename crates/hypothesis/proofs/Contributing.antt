@@ -1,27 +1,33 @@
--- The contributing cells of a placement: what stands in their list comes from a cell that contributes, and each such cell stands in it. So
--- evidence is none exactly if no cell contributes. Assumes nothing.
+-- The contributing cells of a placement: how many they are, that what stands in their list comes from a cell that contributes, and that each such
+-- cell stands in it. So evidence is none exactly if no cell contributes, and exactly if their count is 0. Assumes nothing.
 use mathlib.Core.Path.{_≡_, refl, sym, ap, ap₂, subst, _∙_}
 use mathlib.Core.Logic.{_⊎_, inl, inr}
-use mathlib.Core.Bool.{Bool, true, false, cond}
+use mathlib.Core.Bool.{Bool, true, false, _&&_, cond, and-true, and-false}
 use mathlib.Core.List.{List, [], _∷_, _++_, List·Memᴰ, List·Memᴰ·head, List·Memᴰ·not-nil, List·Memᴰ·append-cases, Memᴰ·append-left, Memᴰ·append-right}
 use mathlib.Core.Option.{none, Option·some-ne-none}
-use Prim.Native.Nat.{ℕ, zero, suc, _≤_, _<_}
+use Prim.Native.Nat.{ℕ, zero, suc, _+_, _≤_, _<_}
 use native.Mathlib.Nat.{eq-or-lt-of-le, le-of-suc-le-suc, le-step}
 use native.Mathlib.Omega.{arith}
 use lib.ListN.{length, length-append}
+use lib.IntN.{ℤ, pos, negsuc}
 use lib.Ieee.{Float, lt}
 use Rattle.floats.specs.Units.{nought}
 use Rattle.grid_alignment.specs.declared.GridAlignment.{GridAlignment}
+use Rattle.grid_alignment.specs.Alignment.{applied}
 use Rattle.board.specs.declared.Numbered.{Numbered}
 use Rattle.board.specs.declared.Numbered.the-variants as numbered
+use Rattle.board.specs.declared.Board.{Board}
+use Rattle.board.specs.Numbering.{asOne, countPassing, numberIf, numberAt, numberAtℤ}
+use Rattle.board.specs.Layout.{markerOn}
+use Rattle.board.proofs.Counting.{count-at-most}
 use Rattle.score_matrix.specs.Scores.{Samples}
 use Rattle.lent_list.specs.Front.{upTo}
 use Rattle.shot_record.specs.Shots.{Shot}
 use Rattle.ranking.specs.declared.Evidence.the-variants as evidence
-use Rattle.hypothesis.specs.Placements.{cellTotal}
-use Rattle.hypothesis.specs.Evidence.{weightOf, samplesOf, expected, Contribution, contributedWith, contributed, contributionsTo, contributions}
+use Rattle.hypothesis.specs.Placements.{cellTotal, cellPoint}
+use Rattle.hypothesis.specs.Evidence.{boardIn, weightOf, samplesOf, expected, Contribution, contributedWith, contributed, contributionsTo, contributions}
 use Rattle.hypothesis.specs.Evidence.{reportedOver, reported, exactOver, exact}
-use Rattle.hypothesis.specs.Rules.{Contributes, NoneRule}
+use Rattle.hypothesis.specs.Rules.{Contributes, NoneRule, isMarkerSquare, isContributing, CountRule}
 
 -- ---- what f gives for 0 to n − 1
 module _ {A : Type 0} (f : ℕ → List A) (x : A) where
@@ -44,26 +50,33 @@ module _ {A : Type 0} (f : ℕ → List A) (x : A) where
       go earlier (inl e) = Memᴰ·append-right (upTo f n) (subst (λ (j : ℕ). List·Memᴰ x (f j)) e i)
       go earlier (inr m) = Memᴰ·append-left (f n) (earlier m)
 
--- ---- a cell contributes at most once
-at-most-one : (w : Float) (x : Samples) (m : Numbered) → length (contributedWith w x m) ≤ 1
-at-most-one w x numbered.Absent = omega arith
-at-most-one w x (numbered.Id m) = go (lt nought w)
-  where
-    go : (t : Bool) → length {A = Contribution} (cond t (record { weight = w; samples = x; id = m } ∷ []) []) ≤ 1
-    go true = omega arith
-    go false = omega arith
+-- ---- how many they are: a cell contributes once if it weighs more than 0 and lands on a marker square, else not
+pub one-if : (t : Bool) (c : Contribution) → length {A = Contribution} (cond t (c ∷ []) []) ≡ asOne t
+one-if true c = refl
+one-if false c = refl
+
+module _ (w : Float) (x : Samples) where
+  by-marker : (t : Bool) (id : ℕ) → length (contributedWith w x (numberIf t id)) ≡ asOne (lt nought w && t)
+  by-marker true id = one-if (lt nought w) (record { weight = w; samples = x; id = id }) ∙ ap asOne (sym (and-true (lt nought w)))
+  by-marker false id = ap asOne (sym (and-false (lt nought w)))
+
+  by-square : (b : Board) (u v : ℤ) → length (contributedWith w x (markerOn b u v)) ≡ asOne (lt nought w && isMarkerSquare b u v)
+  unfolding numberAtℤ numberAt
+  by-square b (pos i) (pos j) = by-marker _ _
+  by-square b (pos i) (negsuc j) = by-marker false 0
+  by-square b (negsuc i) j = by-marker false 0
 
 module _ (s : Shot) (p : GridAlignment) where
+  count-is : (n : ℕ) → length (contributionsTo s p n) ≡ countPassing (isContributing s p) n
+  unfolding upTo countPassing contributed expected
+  count-is zero = refl
+  count-is (suc n) =
+      let q = applied p (cellPoint s n) in
+      length-append (contributionsTo s p n) (contributed s p n)
+      ∙ ap₂ _+_ (count-is n) (by-square (weightOf s n) (samplesOf s n) (boardIn s) (q .u) (q .v))
+
   pub at-most : (n : ℕ) → length (contributionsTo s p n) ≤ n
-  unfolding upTo contributed
-  at-most zero = omega arith
-  at-most (suc n) = omega (
-    arith,
-    at-most n,
-    at-most-one (weightOf s n) (samplesOf s n) (expected s p n),
-    length-append (contributionsTo s p n)
-        (contributed s p n),
-  )
+  at-most n = rw (count-is n) (count-at-most (isContributing s p) n)
 
   -- ---- a cell that contributes, and what stands in the list
   pub of-some-cell : (c : Contribution) → List·Memᴰ c (contributions s p) → (k : ℕ) × (k < cellTotal s) × List·Memᴰ c (contributed s p k)
@@ -112,3 +125,22 @@ none-rule s p =
     exact-none : (cs : List Contribution) → exactOver s (p .turn) cs ≡ none → (c : Contribution) × List·Memᴰ c cs → ⊥
     exact-none [] e c = List·Memᴰ·not-nil (c .1)
     exact-none (d ∷ cs) e c = Option·some-ne-none _ e
+
+-- ---- and exactly if their count is 0
+pub count-rule : CountRule
+unfolding reported
+count-rule s p =
+    record {
+      number = count-is s p (cellTotal s);
+      at-most = at-most s p (cellTotal s);
+      none-if = none-if (contributions s p);
+      none-only-if = none-only-if (contributions s p);
+    }
+  where
+    none-if : (cs : List Contribution) → length cs ≡ 0 → reportedOver s (p .turn) cs ≡ evidence.Absent
+    none-if [] e = refl
+    none-if (c ∷ cs) e = absurd (omega (arith, e))
+
+    none-only-if : (cs : List Contribution) → reportedOver s (p .turn) cs ≡ evidence.Absent → length cs ≡ 0
+    none-only-if [] e = refl
+    none-only-if (c ∷ cs) e = absurd (let z : _≡_ {A = ℕ} 0 1 = cc in omega arith)

@@ -23,13 +23,13 @@ use Rattle.shot_record.specs.Shots.{Sample, Shot, shot}
 use Rattle.shot_record.specs.Answers.{gridWith}
 use Rattle.shot_record.proofs.Lists.{getD-list}
 use Rattle.hypothesis.specs.declared.sums.Counted.{Counted}
-use Rattle.hypothesis.specs.declared.turns.Seen.{Seen}
+use Rattle.hypothesis.specs.declared.turns.Contributing.{Contributing}
 use Rattle.hypothesis.specs.declared.fill.Turn.{Turn}
 use Rattle.hypothesis.specs.Placements.{cellTotal, cell as cellAt, cellPoint, frame, movesAcross, movesDown}
 use Rattle.hypothesis.specs.Evidence.{boardIn, tableOf, weightWith, weightOf, samplesOf}
 use Rattle.hypothesis.specs.Inputs.{firstCodes, PassedShot, Ready}
 use Rattle.hypothesis.specs.Sums.{Stays, Small, Added, codeScore}
-use Rattle.hypothesis.specs.Filling.{Turning, countedOf, SumsTo, seenWith, Counts, CellScores}
+use Rattle.hypothesis.specs.Filling.{Turning, countedOf, SumsTo, withCounted, Counts, CellScores}
 use Rattle.hypothesis.proofs.Frames.{framed}
 use Rattle.hypothesis.proofs.IndexedCells.{bits-are, point-is, weight-is}
 use Rattle.hypothesis.proofs.Contributions.{countedCell, stays, light}
@@ -128,21 +128,22 @@ module _ (bytes index : List ℕ) (table : List Float) (codes sources : List ℕ
   -- the sums with it
   pub sums-with : (l : List Float)
       → (lt nought (c .weight) ≡ true → HoldsLikelihoods (tableOf s) (samplesOf s k) (t .inputs .board .bits * t .inputs .board .bits) l)
-      → (sums then : List Float) (seen seen' : Seen) → Counts c (codeScore (c .board .bits) l sources codes) (t .across) (t .down) sums then seen seen'
-      → SumsTo s r k sums seen → SumsTo s r (k + 1) then seen'
-  sums-with l held sums then seen seen' counts before = go (lt nought (weightOf s k)) refl
+      → (sums then : List Float) (contributing contributing' : Contributing)
+      → Counts c (codeScore (c .board .bits) l sources codes) (t .across) (t .down) sums then contributing contributing'
+      → SumsTo s r k sums contributing → SumsTo s r (k + 1) then contributing'
+  sums-with l held sums then contributing contributing' counts before = go (lt nought (weightOf s k)) refl
     where
-      go : (b : Bool) → lt nought (weightOf s k) ≡ b → SumsTo s r (k + 1) then seen'
+      go : (b : Bool) → lt nought (weightOf s k) ≡ b → SumsTo s r (k + 1) then contributing'
       go true heavy =
           let light-not = ap (lt nought) its-weight ∙ heavy in
           let scores = code-scores s r k l sources (rw bits-is at (held light-not)) sources-are in
           let added : Added (countedCell s r k) (codeScore (s .bits) l sources (firstCodes s)) (movesAcross s r) (movesDown s r) sums then =
           rw (counted, turning .loaded .codes-are, across-is, down-is) at (counts .heavy light-not .0) in
           let p = ready .passed in
-          let after = with-cell s r k sums seen before inside (p .cols) (p .rows) heavy (codeScore (s .bits) l sources (firstCodes s)) scores then
+          let after = with-cell s r k sums contributing before inside (p .cols) (p .rows) heavy (codeScore (s .bits) l sources (firstCodes s)) scores then
           (counts .size) added in
-          subst (SumsTo s r (k + 1) then) (sym (counts .heavy light-not .1 ∙ ap (seenWith seen) counted)) after
+          subst (SumsTo s r (k + 1) then) (sym (counts .heavy light-not .1 ∙ ap (withCounted contributing) counted)) after
       go false light-is =
           let nothing = counts .light (ap (lt nought) its-weight ∙ light-is) in
-          let after = passed-over s r k sums seen before (λ p. light s p k light-is) in
+          let after = passed-over s r k sums contributing before (λ p. light s p k light-is) in
           rw (nothing .0, nothing .1) after

@@ -1,46 +1,52 @@
--- The sums of a turn: nought before the first cell, and after all cells the evidence of its placements. Assumes nothing.
+-- The sums and counts of a turn: nought before the first cell, and after all cells those of its placements. Assumes nothing.
 use mathlib.Core.Path.{_≡_, refl}
 use Prim.Native.Nat.{ℕ, _+_, _*_, _%_, _<_}
 use native.Mathlib.Nat.{mul-le-mul, le-refl, add-mul}
 use native.Mathlib.Omega.{arith}
 use mathlib.Core.Bool.{Bool, true, false, cond}
 use mathlib.Core.List.{List, [], _∷_}
-use lib.Dec.{eqb}
-use lib.ListN.{getD}
+use lib.Dec.{eqb, ltb}
+use lib.ListN.{length, getD}
 use lib.Ieee.{Float, nan}
+use borrow.Author.Tests.{lt-ltb}
 use Rattle.lent_list.specs.Front.{upTo}
 use Rattle.shot_record.specs.Shots.{Shot}
 use Rattle.ranking.specs.declared.Evidence.the-variants as evidence
-use Rattle.hypothesis.specs.declared.turns.Seen.{Seen}
+use Rattle.hypothesis.specs.declared.turns.Contributing.{Contributing}
 use Rattle.hypothesis.specs.Placements.{cellTotal, movesAcross, movesDown, shifted}
 use Rattle.hypothesis.specs.Evidence.{Contribution, contributions, reportedSum, reportedOver, reported}
-use Rattle.hypothesis.specs.Turns.{seenAt, Summed}
-use Rattle.hypothesis.specs.Filling.{nonempty, SumsTo, noneSeen, Cleared}
+use Rattle.hypothesis.specs.Turns.{countAt, Summed}
+use Rattle.hypothesis.specs.Filling.{SumsTo, noneContributing, Cleared}
 
 -- ---- no cell yet
-neither : (t : Bool) → cond t false false ≡ false
+neither : (t : Bool) → _≡_ {A = ℕ} (cond t 0 0) 0
 neither true = refl
 neither false = refl
 
 inside : (n d a b : ℕ) → a < n → b < d → a * d + b < n * d
 inside n d a b l m = omega (arith, m, mul-le-mul {n₁ = a + 1} {m₁ = d} {n₂ = n} {m₂ = d} (omega (arith, l)) (le-refl d), add-mul a 1 d)
 
-pub no-cells : (s : Shot) (r : ℕ) (sums : List Float) → Cleared (movesAcross s r * movesDown s r) sums → SumsTo s r 0 sums noneSeen
+pub no-cells : (s : Shot) (r : ℕ) (sums : List Float) → Cleared (movesAcross s r * movesDown s r) sums → SumsTo s r 0 sums noneContributing
 unfolding upTo
 no-cells s r sums clear =
     record {
       size = clear .0;
       value = λ a b l m. clear .1 (a * movesDown s r + b) (inside (movesAcross s r) (movesDown s r) a b l m);
-      told = λ a b l m. neither (eqb ((a + b) % 2) 0);
+      count = λ a b l m. neither (eqb ((a + b) % 2) 0);
+      few = (omega arith, omega arith);
     }
 
 -- ---- all cells
-evidence-is : (s : Shot) (r : ℕ) (cs : List Contribution) (x : Float) (t : Bool) → x ≡ reportedSum s r cs → t ≡ nonempty cs
-    → cond t (evidence.Number x) evidence.Absent ≡ reportedOver s r cs
-evidence-is s r [] x t e f = rw f
-evidence-is s r (c ∷ cs) x t e f = rw (f, e)
+evidence-is : (s : Shot) (r : ℕ) (cs : List Contribution) (x : Float) (n : ℕ) → x ≡ reportedSum s r cs → n ≡ length cs
+    → cond (ltb 0 n) (evidence.Number x) evidence.Absent ≡ reportedOver s r cs
+evidence-is s r [] x n e f = rw f
+evidence-is s r (c ∷ cs) x n e f = rw (f, e, lt-ltb 0 (length (c ∷ cs)) (omega arith))
 
-pub summed : (s : Shot) (r : ℕ) (sums : List Float) (seen : Seen) → SumsTo s r (cellTotal s) sums seen → Summed s r sums seen
+pub summed : (s : Shot) (r : ℕ) (sums : List Float) (contributing : Contributing) → SumsTo s r (cellTotal s) sums contributing → Summed s r sums contributing
 unfolding reported
-summed s r sums seen h a b l m =
-    evidence-is s r (contributions s (shifted s r a b)) (getD sums (a * movesDown s r + b) nan) (seenAt seen (a + b)) (h .value a b l m) (h .told a b l m)
+summed s r sums contributing h =
+    record {
+      evidence-is = λ a b l m. evidence-is s r (contributions s (shifted s r a b)) (getD sums (a * movesDown s r + b) nan) (countAt contributing (a + b))
+          (h .value a b l m) (h .count a b l m);
+      count-is = h .count;
+    }

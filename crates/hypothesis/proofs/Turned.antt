@@ -1,6 +1,6 @@
 -- A ranking after all placements of a turn, from their sums, is that of the list with them at its end; and the answer of the search is what
 -- the ranking of all placements makes. Assumes nothing.
-use mathlib.Core.Path.{_≡_, refl, sym, ap, _∙_}
+use mathlib.Core.Path.{_≡_, refl, sym, ap, ap₂, _∙_}
 use Prim.Native.Nat.{ℕ, zero, suc, _+_, _*_, _/_, _%_, _≤_, _<_}
 use native.Mathlib.Nat.{div-lt-iff-lt-mul, mod-lt, mul-le-mul}
 use native.Mathlib.Omega.{arith}
@@ -22,7 +22,7 @@ use Rattle.ranking.proofs.RankedTo.{ranked-same}
 use Rattle.hypothesis.specs.declared.Enumerated.{Enumerated}
 use Rattle.hypothesis.specs.declared.Enumerated.the-variants as enumerated
 use Rattle.hypothesis.specs.declared.Frame.{Frame}
-use Rattle.hypothesis.specs.declared.turns.Seen.{Seen}
+use Rattle.hypothesis.specs.declared.turns.Contributing.{Contributing}
 use Rattle.hypothesis.specs.Placements.{frame, movesAcross, movesDown, placementAt, withTurnsBelow, placements}
 use Rattle.hypothesis.specs.Evidence.{capacity}
 use Rattle.hypothesis.specs.Search.{hypothesis, best, runnerUp, selected, enumerate}
@@ -64,22 +64,26 @@ module _ (s : Shot) (c : Checked s) where
       (append-assoc ps (list f n) (f n ∷ []) ∙ ap (λ (qs : List GridAlignment). ps ++ qs) (sym (last-listed f n)))
 
   -- a turn more
-  module _ (r : ℕ) (sums : List Float) (seen : Seen) (h : Summed s r sums seen) where
-    moved-is : (j : ℕ) → j < many s r → movedTo sums seen (frame s r) r (movesDown s r) (j / movesDown s r) (j % movesDown s r)
+  module _ (r : ℕ) (sums : List Float) (contributing : Contributing) (h : Summed s r sums contributing) where
+    moved-is : (j : ℕ) → j < many s r → movedTo sums contributing (frame s r) r (movesDown s r) (j / movesDown s r) (j % movesDown s r)
         ≡ hypothesis s (placementAt s r j)
     moved-is j l =
         let d₀ = positive (movesAcross s r) (movesDown s r) j l in
-        ap (λ (e : Evidence). record { alignment = placementAt s r j; evidence = e })
-        (h (j / movesDown s r) (j % movesDown s r) (div-lt-iff-lt-mul d₀ .1 l) (mod-lt j d₀))
+        let a = j / movesDown s r in
+        let b = j % movesDown s r in
+        let l₁ : a < movesAcross s r = div-lt-iff-lt-mul d₀ .1 l in
+        let l₂ : b < movesDown s r = mod-lt j d₀ in
+        ap₂ (λ (e : Evidence) (n : ℕ). record { alignment = placementAt s r j; evidence = e; «contributing_cells» = n })
+        (h .evidence-is a b l₁ l₂) (h .count-is a b l₁ l₂)
 
     pub turn-ranked : (k : Ranking) (f : Frame) (n d : ℕ) → f ≡ frame s r → n ≡ movesAcross s r → d ≡ movesDown s r
-        → k ≡ rankingOf (map (hypothesis s) (withTurnsBelow s r)) → rankedTurn k sums seen f r n d ≡ rankingOf (map (hypothesis s) (withTurnsBelow s (r + 1)))
+        → k ≡ rankingOf (map (hypothesis s) (withTurnsBelow s r)) → rankedTurn k sums contributing f r n d ≡ rankingOf (map (hypothesis s) (withTurnsBelow s (r + 1)))
     unfolding withTurnsBelow
     turn-ranked k f n d ef en ed ek =
         let e : suc r ≡ r + 1 = omega arith in
         rw (ef, en, ed, ek)
         (ranked-same (rankingOf (map (hypothesis s) (withTurnsBelow s r)))
-        (λ (j : ℕ). movedTo sums seen (frame s r) r (movesDown s r) (j / movesDown s r) (j % movesDown s r))
+        (λ (j : ℕ). movedTo sums contributing (frame s r) r (movesDown s r) (j / movesDown s r) (j % movesDown s r))
         (λ (j : ℕ). hypothesis s (placementAt s r j)) (many s r)
         moved-is
         ∙ listed-ranked (withTurnsBelow s r) (placementAt s r) (many s r)

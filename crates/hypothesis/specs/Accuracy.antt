@@ -19,7 +19,7 @@ use Rattle.ranking.specs.declared.Hypothesis.{Hypothesis}
 use Rattle.ranking.specs.declared.Choice.the-variants as choice
 use Rattle.ranking.specs.Greatest.{liesBelow}
 use Rattle.hypothesis.specs.Placements.{cellTotal, cell, placements}
-use Rattle.hypothesis.specs.Evidence.{tableOf, reported, exact}
+use Rattle.hypothesis.specs.Evidence.{tableOf, contributingCells, reported, exact}
 use Rattle.hypothesis.specs.Search.{best}
 
 -- N × (N + 67) / 65,536, in units of 2⁻²⁹⁸
@@ -50,11 +50,12 @@ pub record AccurateEvidence (s : Shot) : Type 0 where
       → ((q : GridAlignment) → Placement s q → (q ≡ b .alignment → ⊥) → Leads s x q)
       → (q : GridAlignment) → Placement s q → (q ≡ b .alignment → ⊥) → (z : ℤ) → exact s q ≡ some z → z <ℤ e
 
--- g as runner-up of b: a placement other than b's, with the evidence reported for it, that does not lie above b
+-- g as runner-up of b: a placement other than b's, with the evidence reported for it and its count, that does not lie above b
 pub record RunsUp (s : Shot) (b g : Hypothesis) : Type 0 where
   pub placed : Placement s (g .alignment)
   pub other : g .alignment ≡ b .alignment → ⊥
   pub evidence-is : g .evidence ≡ reported s (g .alignment)
+  pub count-is : g .«contributing_cells» ≡ contributingCells s (g .alignment)
   pub not-above : liesBelow (b .evidence) (g .evidence) ≡ false
 
 -- ---- what the questions let pass

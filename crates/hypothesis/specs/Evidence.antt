@@ -1,9 +1,9 @@
--- Document 01, Search: the contributing cells of a placement, its evidence, reported and exact, and its capacity.
+-- Document 01, Search: the contributing cells of a placement, how many they are (document 02, 2.5), its evidence, reported and exact, and its capacity.
 use Prim.Native.Nat.{ℕ}
 use mathlib.Core.Bool.{cond}
 use mathlib.Core.List.{List, [], _∷_, map, foldl}
 use mathlib.Core.Option.{Option, none, some}
-use lib.ListN.{getD}
+use lib.ListN.{length, getD}
 use lib.IntN.{ℤ, pos, _+ℤ_}
 use lib.Ieee.{Float, binary32, add, mul, neg, lt}
 use Rattle.floats.specs.Units.{nought}
@@ -71,6 +71,9 @@ contributionsTo s p n = upTo (contributed s p) n
 
 abbrev pub contributions : Shot → GridAlignment → List Contribution
 contributions s p = contributionsTo s p (cellTotal s)
+
+abbrev pub contributingCells : Shot → GridAlignment → ℕ
+contributingCells s p = length (contributions s p)
 
 -- what a contributing cell adds after r quarter turns: weight × evidence, as f32 multiplies and exactly; and to the capacity weight × −null
 abbrev pub reportedTerm : Shot → ℕ → Contribution → Float

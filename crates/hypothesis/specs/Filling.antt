@@ -1,13 +1,14 @@
 -- The sums of all placements of a turn after the first n cells, as the search keeps them.
 use mathlib.Core.Path.{_≡_}
-use mathlib.Core.Bool.{Bool, true, false, _||_}
-use mathlib.Core.List.{List, [], _∷_}
+use mathlib.Core.Bool.{true, false}
+use mathlib.Core.List.{List}
 use Prim.Native.Nat.{ℕ, _+_, _-_, _*_, _≤_, _<_}
 use lib.ListN.{length, getD}
 use lib.IntN.{natAbs, _-ℤ_}
 use lib.Ieee.{Float, nan, lt}
 use Rattle.floats.specs.Units.{nought}
 use Rattle.grid_alignment.specs.Alignment.{point, sends}
+use Rattle.board.specs.Numbering.{asOne}
 use Rattle.board.specs.Layout.{parityOf, holdsMarker}
 use Rattle.score_matrix.specs.Scores.{nullScore, score}
 use Rattle.score_matrix.specs.Weights.{weight}
@@ -18,32 +19,29 @@ use Rattle.hypothesis.specs.declared.Inputs.{Inputs}
 use Rattle.hypothesis.specs.declared.Frame.{Frame}
 use Rattle.hypothesis.specs.declared.sums.Counted.{Counted}
 use Rattle.hypothesis.specs.declared.fill.Turn.{Turn}
-use Rattle.hypothesis.specs.declared.turns.Seen.{Seen}
+use Rattle.hypothesis.specs.declared.turns.Contributing.{Contributing}
 use Rattle.hypothesis.specs.Placements.{frame, movesAcross, movesDown, shifted}
 use Rattle.hypothesis.specs.Evidence.{tableOf, codeOf, samplesOf, contributionsTo, reportedSum}
 use Rattle.hypothesis.specs.Inputs.{Loaded}
 use Rattle.hypothesis.specs.Sums.{Added}
-use Rattle.hypothesis.specs.Turns.{seenAt}
+use Rattle.hypothesis.specs.Turns.{countAt}
 
-abbrev pub nonempty : {A : Type 0} → List A → Bool
-nonempty [] = false
-nonempty (x ∷ xs) = true
-
--- each sum, and whether some cell contributes to it
-pub record SumsTo (s : Shot) (r n : ℕ) (sums : List Float) (seen : Seen) : Type 0 where
+-- each sum, and how many cells contribute to it
+pub record SumsTo (s : Shot) (r n : ℕ) (sums : List Float) (contributing : Contributing) : Type 0 where
   pub size : length sums ≡ 1024
   pub value : (a b : ℕ) → a < movesAcross s r → b < movesDown s r
       → getD sums (a * movesDown s r + b) nan ≡ reportedSum s r (contributionsTo s (shifted s r a b) n)
-  pub told : (a b : ℕ) → a < movesAcross s r → b < movesDown s r → seenAt seen (a + b) ≡ nonempty (contributionsTo s (shifted s r a b) n)
+  pub count : (a b : ℕ) → a < movesAcross s r → b < movesDown s r → countAt contributing (a + b) ≡ length (contributionsTo s (shifted s r a b) n)
+  pub few : (contributing .even ≤ n) × (contributing .odd ≤ n)
 
-abbrev pub noneSeen : Seen
-noneSeen = record { even = false; odd = false }
+abbrev pub noneContributing : Contributing
+noneContributing = record { even = 0; odd = 0 }
 
--- what is seen once a cell counts: whether its square in the frame holds a marker where the frame is moved by (0, 0), and by (1, 0)
-abbrev pub seenWith : Seen → Counted → Seen
-seenWith seen c =
+-- one cell more, which contributes if its square in the frame holds a marker: where the frame is moved by (0, 0), and by (1, 0)
+abbrev pub withCounted : Contributing → Counted → Contributing
+withCounted contributing c =
     let p = parityOf (c .board) in
-    record { even = seen .even || holdsMarker p (c .i) (c .j); odd = seen .odd || holdsMarker p (c .i + 1) (c .j) }
+    record { even = contributing .even + asOne (holdsMarker p (c .i) (c .j)); odd = contributing .odd + asOne (holdsMarker p (c .i + 1) (c .j)) }
 
 -- so many sums are nought
 abbrev pub Cleared : ℕ → List Float → Type 0
@@ -79,11 +77,11 @@ countedOf t index k =
       board = i .board;
     }
 
--- what a cell makes of the sums and of what is seen: nothing, unless it weighs more than 0
-pub record Counts (c : Counted) (score : ℕ → Float) (across down : ℕ) (before after : List Float) (seen seen' : Seen) : Type 0 where
+-- what a cell makes of the sums and of the counts: nothing, unless it weighs more than 0
+pub record Counts (c : Counted) (score : ℕ → Float) (across down : ℕ) (before after : List Float) (contributing contributing' : Contributing) : Type 0 where
   pub size : length after ≡ 1024
-  pub heavy : lt nought (c .weight) ≡ true → Added c score across down before after × (seen' ≡ seenWith seen c)
-  pub light : lt nought (c .weight) ≡ false → (after ≡ before) × (seen' ≡ seen)
+  pub heavy : lt nought (c .weight) ≡ true → Added c score across down before after × (contributing' ≡ withCounted contributing c)
+  pub light : lt nought (c .weight) ≡ false → (after ≡ before) × (contributing' ≡ contributing)
 
 -- the scores of cell n after r quarter turns, by the marker's id
 abbrev pub CellScores : Shot → ℕ → ℕ → (ℕ → Float) → Type 0

@@ -1,12 +1,12 @@
--- What `proofs/` shows of the placements, and of their evidence.
-use Prim.Native.Nat.{ℕ, _+_, _-_, _*_, _<_}
+-- What `proofs/` shows of the placements, of their evidence and of the counts of their contributing cells.
+use Prim.Native.Nat.{ℕ, _+_, _-_, _*_, _≤_, _<_}
 use mathlib.Core.Path.{_≡_}
 use mathlib.Core.Logic.{_⊎_}
-use mathlib.Core.Bool.{true, _&&_, cond}
+use mathlib.Core.Bool.{Bool, true, false, _&&_, cond}
 use mathlib.Core.Option.{none, some}
-use lib.Dec.{leb}
+use lib.Dec.{leb, ltb}
 use lib.ListN.{length, getElem?}
-use lib.IntN.{pos}
+use lib.IntN.{ℤ, pos, negsuc}
 use lib.Signed.{_<ℤ_}
 use lib.Ieee.{lt}
 use Rattle.floats.specs.Units.{nought}
@@ -14,10 +14,13 @@ use Rattle.grid_alignment.specs.declared.Coord.{Coord}
 use Rattle.grid_alignment.specs.declared.GridAlignment.{GridAlignment}
 use Rattle.grid_alignment.specs.Alignment.{applied}
 use Rattle.board.specs.declared.Numbered.the-variants as numbered
+use Rattle.board.specs.declared.Board.{Board}
+use Rattle.board.specs.Numbering.{countPassing}
+use Rattle.board.specs.Layout.{parityOf, holdsMarker}
 use Rattle.shot_record.specs.Shots.{Shot}
 use Rattle.ranking.specs.declared.Evidence.the-variants as evidence
 use Rattle.hypothesis.specs.Placements.{cellTotal, cellPoint, frame, placements}
-use Rattle.hypothesis.specs.Evidence.{weightOf, expected, reported, exact}
+use Rattle.hypothesis.specs.Evidence.{boardIn, weightOf, expected, contributingCells, reported, exact}
 
 -- a point on a square of the board
 pub record OnBoard (s : Shot) (p : Coord) : Type 0 where
@@ -70,3 +73,25 @@ pub record NoneExactly (s : Shot) (p : GridAlignment) : Type 0 where
 
 abbrev pub NoneRule : Type 0
 NoneRule = (s : Shot) (p : GridAlignment) → NoneExactly s p
+
+-- ---- document 02, 2.5: "the number of cells with weight above 0 that land on a marker square"
+abbrev pub isMarkerSquare : Board → ℤ → ℤ → Bool
+isMarkerSquare b (pos i) (pos j) = ltb i (b .cols) && (ltb j (b .rows) && holdsMarker (parityOf b) i j)
+isMarkerSquare b (pos i) (negsuc j) = false
+isMarkerSquare b (negsuc i) j = false
+
+abbrev pub landsOnMarker : Shot → GridAlignment → ℕ → Bool
+landsOnMarker s p k = let q = applied p (cellPoint s k) in isMarkerSquare (boardIn s) (q .u) (q .v)
+
+abbrev pub isContributing : Shot → GridAlignment → ℕ → Bool
+isContributing s p k = lt nought (weightOf s k) && landsOnMarker s p k
+
+-- the count is that number, of N cells at most N, and evidence is none exactly when it is 0
+pub record CountsCells (s : Shot) (p : GridAlignment) : Type 0 where
+  pub number : contributingCells s p ≡ countPassing (isContributing s p) (cellTotal s)
+  pub at-most : contributingCells s p ≤ cellTotal s
+  pub none-if : contributingCells s p ≡ 0 → reported s p ≡ evidence.Absent
+  pub none-only-if : reported s p ≡ evidence.Absent → contributingCells s p ≡ 0
+
+abbrev pub CountRule : Type 0
+CountRule = (s : Shot) (p : GridAlignment) → CountsCells s p

@@ -12,11 +12,11 @@ use Rattle.hypothesis.specs.declared.Selection.{Selection}
 use Rattle.hypothesis.specs.declared.Enumerated.{Enumerated}
 use Rattle.hypothesis.specs.declared.Enumerated.the-variants as enumerated
 use Rattle.hypothesis.specs.Placements.{placements}
-use Rattle.hypothesis.specs.Evidence.{reported, capacity}
+use Rattle.hypothesis.specs.Evidence.{contributingCells, reported, capacity}
 
--- a placement with its evidence, and all of them in order
+-- a placement with its evidence and the count of its contributing cells, and all of them in order
 abbrev pub hypothesis : Shot → GridAlignment → Hypothesis
-hypothesis s p = record { alignment = p; evidence = reported s p }
+hypothesis s p = record { alignment = p; evidence = reported s p; «contributing_cells» = contributingCells s p }
 
 abbrev pub hypotheses : Shot → List Hypothesis
 hypotheses s = map (hypothesis s) (placements s)

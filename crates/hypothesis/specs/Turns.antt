@@ -1,9 +1,9 @@
 -- The placements of one turn as the search ranks them, from their sums, and the answer that it makes of the last ranking.
 use mathlib.Core.Path.{_≡_}
-use mathlib.Core.Bool.{Bool, cond}
+use mathlib.Core.Bool.{cond}
 use mathlib.Core.List.{List}
 use Prim.Native.Nat.{ℕ, _+_, _*_, _/_, _%_, _≤_, _<_}
-use lib.Dec.{eqb}
+use lib.Dec.{eqb, ltb}
 use lib.ListN.{getD}
 use lib.IntN.{pos, _-ℤ_}
 use lib.Ieee.{Float, nan}
@@ -16,38 +16,43 @@ use Rattle.ranking.specs.Margin.{margin}
 use Rattle.ranking.specs.Ranking.{rankedTo, Held}
 use Rattle.hypothesis.specs.declared.Frame.{Frame}
 use Rattle.hypothesis.specs.declared.Selection.{Selection}
-use Rattle.hypothesis.specs.declared.turns.Seen.{Seen}
+use Rattle.hypothesis.specs.declared.turns.Contributing.{Contributing}
 use Rattle.hypothesis.specs.Placements.{movesAcross, movesDown, shifted}
-use Rattle.hypothesis.specs.Evidence.{reported}
+use Rattle.hypothesis.specs.Evidence.{contributingCells, reported}
 
--- Whether some cell contributes, of the placements that move the frame by n squares in all.
-abbrev pub seenAt : Seen → ℕ → Bool
-seenAt seen n = cond (eqb (n % 2) 0) (seen .even) (seen .odd)
+-- How many cells contribute to the placements that move the frame by n squares in all.
+abbrev pub countAt : Contributing → ℕ → ℕ
+countAt contributing n = cond (eqb (n % 2) 0) (contributing .even) (contributing .odd)
 
 -- The evidence of the placement with its frame moved by (a, b), where there are d moves down: its sum stands at place a × d + b.
-abbrev pub evidenceAt : List Float → Seen → ℕ → ℕ → ℕ → Evidence
-evidenceAt sums seen d a b = cond (seenAt seen (a + b)) (evidence.Number (getD sums (a * d + b) nan)) evidence.Absent
+abbrev pub evidenceAt : List Float → Contributing → ℕ → ℕ → ℕ → Evidence
+evidenceAt sums contributing d a b = cond (ltb 0 (countAt contributing (a + b))) (evidence.Number (getD sums (a * d + b) nan)) evidence.Absent
 
--- the sums and what was seen are those of all placements of turn r
-abbrev pub Summed : Shot → ℕ → List Float → Seen → Type 0
-Summed s r sums seen = (a b : ℕ) → a < movesAcross s r → b < movesDown s r → evidenceAt sums seen (movesDown s r) a b ≡ reported s (shifted s r a b)
+-- the sums and the counts are those of all placements of turn r
+pub record Summed (s : Shot) (r : ℕ) (sums : List Float) (contributing : Contributing) : Type 0 where
+  pub evidence-is : (a b : ℕ) → a < movesAcross s r → b < movesDown s r → evidenceAt sums contributing (movesDown s r) a b ≡ reported s (shifted s r a b)
+  pub count-is : (a b : ℕ) → a < movesAcross s r → b < movesDown s r → countAt contributing (a + b) ≡ contributingCells s (shifted s r a b)
 
--- the placement with its frame moved by (a, b), with its evidence
-abbrev pub movedTo : List Float → Seen → Frame → ℕ → ℕ → ℕ → ℕ → Hypothesis
-movedTo sums seen frame r d a b =
-    record { alignment = record { turn = r; tx = pos a -ℤ frame .u; ty = pos b -ℤ frame .v }; evidence = evidenceAt sums seen d a b }
+-- the placement with its frame moved by (a, b), with its evidence and its count
+abbrev pub movedTo : List Float → Contributing → Frame → ℕ → ℕ → ℕ → ℕ → Hypothesis
+movedTo sums contributing frame r d a b =
+    record {
+      alignment = record { turn = r; tx = pos a -ℤ frame .u; ty = pos b -ℤ frame .v };
+      evidence = evidenceAt sums contributing d a b;
+      «contributing_cells» = countAt contributing (a + b);
+    }
 
 -- from row m to row n of column a no placement takes a place of the ranking h
-abbrev pub PassesOver : List Float → Seen → ℕ → ℕ → Ranking → ℕ → ℕ → Type 0
-PassesOver sums seen d a h m n =
-    (m ≤ n) × (n ≤ d) × ((k : Ranking) (frame : Frame) (r : ℕ) → Held k (movedTo sums seen frame r d a) m h → Held k (movedTo sums seen frame r d a) n h)
+abbrev pub PassesOver : List Float → Contributing → ℕ → ℕ → Ranking → ℕ → ℕ → Type 0
+PassesOver sums contributing d a h m n =
+    (m ≤ n) × (n ≤ d) × ((k : Ranking) (frame : Frame) (r : ℕ) → Held k (movedTo sums contributing frame r d a) m h → Held k (movedTo sums contributing frame r d a) n h)
 
 -- after column a of a turn, and after the columns 0 to n − 1
-abbrev pub rankedColumn : Ranking → List Float → Seen → Frame → ℕ → ℕ → ℕ → Ranking
-rankedColumn k sums seen frame r d a = rankedTo k (movedTo sums seen frame r d a) d
+abbrev pub rankedColumn : Ranking → List Float → Contributing → Frame → ℕ → ℕ → ℕ → Ranking
+rankedColumn k sums contributing frame r d a = rankedTo k (movedTo sums contributing frame r d a) d
 
-abbrev pub rankedTurn : Ranking → List Float → Seen → Frame → ℕ → ℕ → ℕ → Ranking
-rankedTurn k sums seen frame r n d = rankedTo k (λ (j : ℕ). movedTo sums seen frame r d (j / d) (j % d)) (n * d)
+abbrev pub rankedTurn : Ranking → List Float → Contributing → Frame → ℕ → ℕ → ℕ → Ranking
+rankedTurn k sums contributing frame r n d = rankedTo k (λ (j : ℕ). movedTo sums contributing frame r d (j / d) (j % d)) (n * d)
 
 -- the answer, from the ranking of all placements
 abbrev pub selectionOf : Ranking → Hypothesis → Float → Selection

@@ -14,11 +14,11 @@ ghost use Rattle.hypothesis.specs.Evidence.{tableOf, weightOf, samplesOf
 ghost use Rattle.hypothesis.specs.Inputs.{Ready};
 ghost use Rattle.hypothesis.specs.Sums.{codeScore, Stays, Small};
 ghost use Rattle.hypothesis.specs.Turns.{Summed};
-ghost use Rattle.hypothesis.specs.Filling.{Turning, countedOf, noneSeen, SumsTo, seenWith, Counts};
+ghost use Rattle.hypothesis.specs.Filling.{Turning, countedOf, noneContributing, SumsTo, withCounted, Counts};
 use super::Inputs;
 use super::sums;
 use super::sums::Counted;
-use super::turns::Seen;
+use super::turns::Contributing;
 use score_matrix::cell;
 use shot_record::index;
 
@@ -34,19 +34,20 @@ pub struct Turn {
 
 // A cell lands on markers in the placements that move the frame by an even number of squares if its square in the frame holds one. In the others
 // it does if the square beside that one does, so if that one does not.
-fn seen_with(seen: Seen, cell: Counted) -> Seen
-    ensures { λ r. ⌜ r ≡ seenWith seen cell ⌝ }
+fn with_counted(contributing: Contributing, cell: Counted) -> Contributing
+    requires { ⌜ (contributing .even < 256) × (contributing .odd < 256) ⌝ }
+    ensures { λ r. ⌜ r ≡ withCounted contributing cell ⌝ }
 {
     let board = cell.board;
     if board.holds_marker(cell.i, cell.j) {
-        return Seen {
-            even: true,
-            odd: seen.odd,
+        return Contributing {
+            even: contributing.even + 1,
+            odd: contributing.odd,
         };
     }
-    Seen {
-        even: seen.even,
-        odd: true,
+    Contributing {
+        even: contributing.even,
+        odd: contributing.odd + 1,
     }
 }
 
@@ -95,26 +96,27 @@ fn likelihoods(
 // Adds a cell, if it weighs more than 0.
 fn add_counted(
     sums: &mut [f32; 1024],
-    seen: Seen,
+    contributing: Contributing,
     cell: Counted,
     across: usize,
     down: usize,
     adds: &[f32; 128],
     sources: &[u8; 64],
     codes: &[u64; 512],
-) -> Seen
-    requires { ⌜ Stays cell across down × Small (cell .board .bits * cell .board .bits) (now sources) × (across * down ≤ 1024) × (length (now sums) ≡ 1024) ⌝ }
+) -> Contributing
+    requires { ⌜ Stays cell across down × Small (cell .board .bits * cell .board .bits) (now sources) × (across * down ≤ 1024) × (length (now sums) ≡ 1024)
+        × (contributing .even < 256) × (contributing .odd < 256) ⌝ }
     ensures { λ r. ⌜ Counts cell (codeScore (cell .board .bits) (now (adds .entry)) (now (sources .entry)) (now (codes .entry))) across down
-        (now (sums .entry)) (now (sums .exit)) seen r ⌝ }
+        (now (sums .entry)) (now (sums .exit)) contributing r ⌝ }
 {
     if !(0.0 < cell.weight) {
-        return seen;
+        return contributing;
     }
     sums::add_cell(sums, cell, across, down, adds, sources, codes);
-    seen_with(seen, cell)
+    with_counted(contributing, cell)
 }
 
-// The sums of a turn over all cells, in their order.
+// The sums of a turn over all cells, in their order, and how many contribute.
 pub fn fill(
     sums: &mut [f32; 1024],
     bytes: &[u8],
@@ -123,24 +125,30 @@ pub fn fill(
     codes: &[u64; 512],
     sources: &[u8; 64],
     t: Turn,
-) -> Seen
-    requires { ⌜ Turning (now bytes) (now index) (now table) (now codes) (now sources) t × SumsTo (shot (now bytes)) (t .turn) 0 (now sums) noneSeen ⌝ }
+) -> Contributing
+    requires { ⌜ Turning (now bytes) (now index) (now table) (now codes) (now sources) t × SumsTo (shot (now bytes)) (t .turn) 0 (now sums) noneContributing ⌝ }
     ensures size { λ _. ⌜ length (now (sums .exit)) ≡ 1024 ⌝ }
     ensures summed { λ r. ⌜ Summed (shot (now (bytes .entry))) (t .turn) (now (sums .exit)) r ⌝ }
 {
     let inputs = t.inputs;
     let count = inputs.fields.cell_count;
     let mut adds: [f32; 128] = [0.0; 128];
-    let mut seen = Seen {
-        even: false,
-        odd: false,
-    };
+    let mut contributing = Contributing { even: 0, odd: 0 };
     let mut k = 0;
     while k < count {
         let cell = counted(t, index, k);
         likelihoods(&mut adds, bytes, inputs, index, table, k, cell.weight);
-        seen = add_counted(sums, seen, cell, t.across, t.down, &adds, sources, codes);
+        contributing = add_counted(
+            sums,
+            contributing,
+            cell,
+            t.across,
+            t.down,
+            &adds,
+            sources,
+            codes,
+        );
         k += 1;
     }
-    seen
+    contributing
 }

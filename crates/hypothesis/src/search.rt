@@ -88,8 +88,8 @@ fn search_turn(
     }
     clear(sums, t.across * t.down);
     let sources = turned::source_bits(t.inputs.board.bits, t.turn);
-    let seen = fill::fill(sums, bytes, index, table, codes, &sources, t);
-    turns::rank_turn(ranking, sums, seen, frame, t.turn, t.across, t.down)
+    let contributing = fill::fill(sums, bytes, index, table, codes, &sources, t);
+    turns::rank_turn(ranking, sums, contributing, frame, t.turn, t.across, t.down)
 }
 
 // Ranks all placements.

@@ -3,7 +3,7 @@
 ghost use mathlib.Core.Path.{_≡_};
 ghost use Prim.Native.Nat.{_<_, _≤_};
 ghost use lib.IntN.{pos, natAbs, _-ℤ_};
-ghost use Rattle.hypothesis.specs.Turns.{seenAt, evidenceAt, movedTo, PassesOver, rankedColumn, rankedTurn, selectionOf};
+ghost use Rattle.hypothesis.specs.Turns.{countAt, evidenceAt, movedTo, PassesOver, rankedColumn, rankedTurn, selectionOf};
 use super::Frame;
 use super::Selection;
 use grid_alignment::GridAlignment;
@@ -11,34 +11,34 @@ use ranking::Evidence;
 use ranking::Hypothesis;
 use ranking::Ranking;
 
-// Whether some cell contributes: a square holds a marker or not by parity, so all placements with the same parity of a + b agree on it.
-pub struct Seen {
-    pub even: bool,
-    pub odd: bool,
+// How many cells contribute: a square holds a marker or not by parity, so all placements with the same parity of a + b have the same count.
+pub struct Contributing {
+    pub even: usize,
+    pub odd: usize,
 }
 
-// By what was seen first: that stays in a loop over the rows, the parity does not.
-fn seen_at(seen: Seen, n: usize) -> bool
-    ensures { λ r. ⌜ r ≡ seenAt seen n ⌝ }
+// Of the placements that move the frame by n squares in all.
+fn count_at(contributing: Contributing, n: usize) -> usize
+    ensures { λ r. ⌜ r ≡ countAt contributing n ⌝ }
 {
-    if seen.even {
-        if seen.odd {
-            return true;
-        }
-        return n % 2 == 0;
+    if n % 2 == 0 {
+        return contributing.even;
     }
-    if seen.odd {
-        return n % 2 != 0;
-    }
-    false
+    contributing.odd
 }
 
-// The evidence of the placement moved by (a, b).
-pub fn placement_sum(sums: &[f32; 1024], seen: Seen, down: usize, a: usize, b: usize) -> Evidence
+// The evidence of the placement moved by (a, b): none where no cell contributes.
+pub fn placement_sum(
+    sums: &[f32; 1024],
+    contributing: Contributing,
+    down: usize,
+    a: usize,
+    b: usize,
+) -> Evidence
     requires { ⌜ (a < 32) × (b < 32) × (down ≤ 32) ⌝ }
-    ensures { λ r. ⌜ r ≡ evidenceAt (now (sums .entry)) seen down a b ⌝ }
+    ensures { λ r. ⌜ r ≡ evidenceAt (now (sums .entry)) contributing down a b ⌝ }
 {
-    if seen_at(seen, a + b) {
+    if 0 < count_at(contributing, a + b) {
         let at = a * down + b;
         let sum = sums[at];
         Evidence::Number(sum)
@@ -55,10 +55,10 @@ fn translation(a: usize, least: i32) -> i32
     a as i32 - least
 }
 
-// The placement moved by (a, b), with its evidence.
+// The placement moved by (a, b), with its evidence and its count.
 fn moved_to(
     sums: &[f32; 1024],
-    seen: Seen,
+    contributing: Contributing,
     frame: Frame,
     turn: u8,
     down: usize,
@@ -66,9 +66,9 @@ fn moved_to(
     b: usize,
 ) -> Hypothesis
     requires { ⌜ (a < 32) × (b < 32) × (down ≤ 32) × (natAbs (frame .u) ≤ 8192) × (natAbs (frame .v) ≤ 8192) ⌝ }
-    ensures { λ r. ⌜ r ≡ movedTo (now (sums .entry)) seen frame turn down a b ⌝ }
+    ensures { λ r. ⌜ r ≡ movedTo (now (sums .entry)) contributing frame turn down a b ⌝ }
 {
-    let evidence = placement_sum(sums, seen, down, a, b);
+    let evidence = placement_sum(sums, contributing, down, a, b);
     let alignment = GridAlignment {
         turn,
         tx: translation(a, frame.u),
@@ -77,6 +77,7 @@ fn moved_to(
     Hypothesis {
         alignment,
         evidence,
+        contributing_cells: count_at(contributing, a + b),
     }
 }
 
@@ -85,19 +86,19 @@ fn moved_to(
 fn next_change(
     held: Ranking,
     sums: &[f32; 1024],
-    seen: Seen,
+    contributing: Contributing,
     down: usize,
     a: usize,
     from: usize,
 ) -> usize
     requires { ⌜ (a < 32) × (down ≤ 32) × (from ≤ down) ⌝ }
-    ensures { λ r. ⌜ PassesOver (now (sums .entry)) seen down a held from r ⌝ }
+    ensures { λ r. ⌜ PassesOver (now (sums .entry)) contributing down a held from r ⌝ }
 {
     let best = held.best;
     let runner_up = held.runner_up;
     let mut b = from;
     while b < down {
-        let evidence = placement_sum(sums, seen, down, a, b);
+        let evidence = placement_sum(sums, contributing, down, a, b);
         if !ranking::changes_nothing(best, runner_up, evidence) {
             break;
         }
@@ -110,20 +111,20 @@ fn next_change(
 fn rank_column(
     ranking: Ranking,
     sums: &[f32; 1024],
-    seen: Seen,
+    contributing: Contributing,
     frame: Frame,
     turn: u8,
     down: usize,
     a: usize,
 ) -> Ranking
     requires { ⌜ (a < 32) × (down ≤ 32) × (natAbs (frame .u) ≤ 8192) × (natAbs (frame .v) ≤ 8192) × (ranking .total ≤ 4096) ⌝ }
-    ensures { λ r. ⌜ r ≡ rankedColumn ranking (now (sums .entry)) seen frame turn down a ⌝ }
+    ensures { λ r. ⌜ r ≡ rankedColumn ranking (now (sums .entry)) contributing frame turn down a ⌝ }
 {
     let mut held = ranking;
-    let mut b = next_change(held, sums, seen, down, a, 0);
+    let mut b = next_change(held, sums, contributing, down, a, 0);
     while b < down {
-        held = ranking::ranked(held, moved_to(sums, seen, frame, turn, down, a, b));
-        b = next_change(held, sums, seen, down, a, b + 1);
+        held = ranking::ranked(held, moved_to(sums, contributing, frame, turn, down, a, b));
+        b = next_change(held, sums, contributing, down, a, b + 1);
     }
     let best = held.best;
     let runner_up = held.runner_up;
@@ -138,19 +139,19 @@ fn rank_column(
 pub fn rank_turn(
     ranking: Ranking,
     sums: &[f32; 1024],
-    seen: Seen,
+    contributing: Contributing,
     frame: Frame,
     turn: u8,
     across: usize,
     down: usize,
 ) -> Ranking
     requires { ⌜ (across ≤ 32) × (down ≤ 32) × (natAbs (frame .u) ≤ 8192) × (natAbs (frame .v) ≤ 8192) × (ranking .total ≤ 3072) ⌝ }
-    ensures { λ r. ⌜ r ≡ rankedTurn ranking (now (sums .entry)) seen frame turn across down ⌝ }
+    ensures { λ r. ⌜ r ≡ rankedTurn ranking (now (sums .entry)) contributing frame turn across down ⌝ }
 {
     let mut held = ranking;
     let mut a = 0;
     while a < across {
-        held = rank_column(held, sums, seen, frame, turn, down, a);
+        held = rank_column(held, sums, contributing, frame, turn, down, a);
         a += 1;
     }
     held

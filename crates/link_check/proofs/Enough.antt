@@ -10,6 +10,7 @@ use borrow.Author.Tests.{eqb-true, eq-eqb}
 use Rattle.lent_list.specs.Front.{upTo}
 use Rattle.lent_list.proofs.Front.{up-to-most}
 use Rattle.board.specs.Numbering.{asOne, countPassing}
+use Rattle.board.proofs.Counting.{count-at-most}
 use Rattle.link_check.specs.declared.LinkViolationKind.the-variants.{DuplicateCorner}
 use Rattle.link_check.specs.declared.LinkCheckMode.{LinkCheckMode}
 use Rattle.link_check.specs.declared.LinkCheckMode.the-variants as mode
@@ -26,15 +27,6 @@ module _ {A : Type 0} (f : ℕ → List A) (t : ℕ → Bool) (few : (k : ℕ) �
   unfolding upTo countPassing
   counted zero = omega arith
   counted (suc n) = omega (arith, counted n, few n, length-append (upTo f n) (f n))
-
-at-most : (t : ℕ → Bool) (n : ℕ) → countPassing t n ≤ n
-unfolding countPassing
-at-most t zero = omega arith
-at-most t (suc n) = omega (arith, at-most t n, bit (t n))
-  where
-    bit : (b : Bool) → asOne b ≤ 1
-    bit true = omega arith
-    bit false = omega arith
 
 apart : (p q r : ℕ → Bool) → ((k : ℕ) → asOne (p k) + asOne (q k) ≤ asOne (r k)) → (n : ℕ) → countPassing p n + countPassing q n ≤ countPassing r n
 unfolding countPassing
@@ -132,4 +124,4 @@ module _ (links : List ℕ) (n : ℕ) (mode : LinkCheckMode) (expected : ℕ →
   pub enough : length (violations links n mode expected) ≤ 3 * n
   enough =
       omega
-      (arith, length-append (upTo (own links expected) n) (upTo (ofFirst links n mode expected) n), own-few links expected n, firsts n, at-most (seen n) n)
+      (arith, length-append (upTo (own links expected) n) (upTo (ofFirst links n mode expected) n), own-few links expected n, firsts n, count-at-most (seen n) n)

@@ -24,7 +24,7 @@ use Rattle.board_match.specs.declared.Match.{Match}
 use Rattle.board_match.specs.declared.Matched.{Matched}
 use Rattle.board_match.specs.declared.Matched.the-variants as matched
 use Rattle.board_match.specs.Match.{matchAnswer, matchList}
-use Rattle.board_match.specs.Sizes.{SmallAlignment, SmallRunnerUp, SmallMatch, SmallAnswer}
+use Rattle.board_match.specs.Sizes.{SmallAlignment, SmallHypothesis, SmallRunnerUp, SmallMatch, SmallAnswer}
 use Rattle.board_match.proofs.Sizes.{small-answer}
 use Rattle.place_text.specs.Numerals.{digit, hex2, hex4, hex8, decimal, signedDecimal, signedWord}
 use Rattle.place_text.specs.Text.{line, andWords, floatWord, the-placed, the-best, the-next, the-margin, the-placements, the-refused, evidenceWord}
@@ -65,23 +65,24 @@ evidence-room : (e : Evidence) → length (evidenceWord e) ≤ 8
 evidence-room (evidence.Number x) = omega (arith, hex8-room (toBits binary32 x))
 evidence-room evidence.Absent = omega arith
 
-hypothesis-room : (first : List ℕ) (h : Hypothesis) → SmallAlignment 4127 (h .alignment) → length (hypothesisLine first h) ≤ length first + 38
-hypothesis-room first h s =
+hypothesis-room : (cells : ℕ) (first : List ℕ) (h : Hypothesis) → cells ≤ 256 → SmallHypothesis cells h → length (hypothesisLine first h) ≤ length first + 28
+hypothesis-room cells first h few s =
     let a = h .alignment in
-    let t = signed-room (a .tx) (omega (arith, s .tx)) in
-    let v = signed-room (a .ty) (omega (arith, s .ty)) in
-    simp length-append (omega (arith, turn-room (a .turn) (s .turn), t, v, evidence-room (h .evidence)))
+    let t = signed-room (a .tx) (omega (arith, s .alignment .tx)) in
+    let v = signed-room (a .ty) (omega (arith, s .alignment .ty)) in
+    let n = decimal-room 2 (h .«contributing_cells») (omega (arith, s .contributing, few)) in
+    simp length-append (omega (arith, turn-room (a .turn) (s .alignment .turn), t, v, evidence-room (h .evidence), n))
 
-next-room : (r : Choice) → SmallRunnerUp r → length (nextLine r) ≤ 42
-next-room (choice.Placement h) s = hypothesis-room the-next h s
-next-room choice.Absent s = omega arith
+next-room : (cells : ℕ) (r : Choice) → cells ≤ 256 → SmallRunnerUp cells r → length (nextLine r) ≤ 32
+next-room cells (choice.Placement h) few s = hypothesis-room cells the-next h few s
+next-room cells choice.Absent few s = omega arith
 
 corners-room : (a : GridAlignment) → SmallAlignment 4128 a → length (cornersLine a) ≤ 36
 corners-room a s =
     simp length-append (omega (arith, turn-room (a .turn) (s .turn), signed-room (a .tx) (s .tx), signed-room (a .ty) (s .ty)))
 
 -- the lines of a match, one after the other
-seven : (a b c d e f g : List ℕ) → length a ≤ 7 → length b ≤ 42 → length c ≤ 42 → length d ≤ 16 → length e ≤ 32 → length f ≤ 36
+seven : (a b c d e f g : List ℕ) → length a ≤ 7 → length b ≤ 32 → length c ≤ 32 → length d ≤ 16 → length e ≤ 32 → length f ≤ 36
     → length g ≤ 101 * 256 → length (a ++ (b ++ (c ++ (d ++ (e ++ (f ++ g)))))) ≤ 32768
 seven a b c d e f g ha hb hc hd he hf hg = simp length-append (omega arith)
 
@@ -117,8 +118,8 @@ module _ (words : List ℕ) (sizes : (k : ℕ) → getD words k 0 < 2 ^ 32) wher
       (cornersLine (m .corners))
       (markerLines words (m .markers))
       (omega arith)
-      (hypothesis-room the-best (m .best) (s .best))
-      (next-room (m .«runner_up») (s .runner-up))
+      (hypothesis-room cells the-best (m .best) (s .few-cells) (s .best))
+      (next-room cells (m .«runner_up») (s .few-cells) (s .runner-up))
       (simp length-append (omega (arith, x)))
       (simp length-append (omega (arith, p)))
       (corners-room (m .corners) (s .corners))

@@ -75,10 +75,16 @@ abbrev pub evidenceWord : Evidence → List ℕ
 evidenceWord (evidence.Number x) = floatWord x
 evidenceWord evidence.Absent = the-none
 
--- best and next: turn, tx, ty, evidence
+-- best and next: turn, tx, ty, evidence, and the count of contributing cells (document 02, 2.5)
 abbrev pub hypothesisLine : List ℕ → Hypothesis → List ℕ
 hypothesisLine first h =
-    line first (decimal (h .alignment .turn) ∷ signedDecimal (h .alignment .tx) ∷ signedDecimal (h .alignment .ty) ∷ evidenceWord (h .evidence) ∷ [])
+    line first
+    (decimal (h .alignment .turn)
+    ∷ signedDecimal (h .alignment .tx)
+    ∷ signedDecimal (h .alignment .ty)
+    ∷ evidenceWord (h .evidence)
+    ∷ decimal (h .«contributing_cells»)
+    ∷ [])
 
 -- `next absent` without a runner-up
 abbrev pub nextLine : Choice → List ℕ

@@ -21,24 +21,14 @@ fn put_match(text: &mut [u8], at: usize, found: Match, markers: &[u32]) -> usize
     ensures { λ r. ⌜ Printed (matchLines found (now (markers .entry))) at r (now (text .entry)) (now (text .exit)) ⌝ }
 {
     let best = found.best;
-    let placed = best.alignment;
-    let evidence = best.evidence;
     let runner_up = found.runner_up;
     let corners = found.corners;
     let mut next = writer::put_all(text, at, b"placed\n");
-    next = lines::put_hypothesis(
-        text,
-        next,
-        b"best",
-        placed.turn,
-        placed.tx,
-        placed.ty,
-        evidence,
-    );
+    next = lines::put_hypothesis(text, next, b"best", best);
     next = lines::put_next(text, next, runner_up);
     next = lines::put_float(text, next, b"margin", found.margin);
     next = lines::put_number(text, next, b"placements", found.placements as u64);
-    next = lines::put_alignment(text, next, b"corners", corners.turn, corners.tx, corners.ty);
+    next = lines::put_corners(text, next, corners);
     markers::put_markers(text, next, markers, found.markers)
 }
 

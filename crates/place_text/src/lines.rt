@@ -1,31 +1,26 @@
 // The lines of an answer but those of its markers.
 ghost use mathlib.Core.List.{[], _∷_};
-ghost use Rattle.place_text.specs.Numerals.{decimal, signedDecimal};
-ghost use Rattle.place_text.specs.Text.{line, floatWord, evidenceWord, nextLine, refusalLine};
+ghost use Rattle.place_text.specs.Numerals.{decimal};
+ghost use Rattle.place_text.specs.Text.{line, floatWord, hypothesisLine, nextLine, cornersLine, refusalLine};
 ghost use Rattle.place_text.specs.Writing.{Printed};
 use super::words;
 use super::writer;
+use grid_alignment::GridAlignment;
 use ranking::Choice;
-use ranking::Evidence;
+use ranking::Hypothesis;
 use refusal::Refusal;
 
-pub fn put_hypothesis(
-    text: &mut [u8],
-    at: usize,
-    first: &[u8],
-    turn: u8,
-    tx: i32,
-    ty: i32,
-    evidence: Evidence,
-) -> usize
-    ensures { λ r. ⌜ Printed (line (now (first .entry)) (decimal turn ∷ signedDecimal tx ∷ signedDecimal ty ∷ evidenceWord evidence ∷ [])) at r
-        (now (text .entry)) (now (text .exit)) ⌝ }
+pub fn put_hypothesis(text: &mut [u8], at: usize, first: &[u8], h: Hypothesis) -> usize
+    ensures { λ r. ⌜ Printed (hypothesisLine (now (first .entry)) h) at r (now (text .entry)) (now (text .exit)) ⌝ }
 {
+    let a = h.alignment;
+    let evidence = h.evidence;
     let mut next = writer::put_all(text, at, first);
-    next = words::and_decimal(text, next, turn as u64);
-    next = words::and_signed(text, next, tx);
-    next = words::and_signed(text, next, ty);
+    next = words::and_decimal(text, next, a.turn as u64);
+    next = words::and_signed(text, next, a.tx);
+    next = words::and_signed(text, next, a.ty);
     next = words::and_evidence(text, next, evidence);
+    next = words::and_decimal(text, next, h.contributing_cells as u64);
     writer::put(text, next, b'\n')
 }
 
@@ -33,23 +28,18 @@ pub fn put_next(text: &mut [u8], at: usize, runner_up: Choice) -> usize
     ensures { λ r. ⌜ Printed (nextLine «runner_up») at r (now (text .entry)) (now (text .exit)) ⌝ }
 {
     match runner_up {
-        Choice::Placement(h) => {
-            let a = h.alignment;
-            let evidence = h.evidence;
-            put_hypothesis(text, at, b"next", a.turn, a.tx, a.ty, evidence)
-        }
+        Choice::Placement(h) => put_hypothesis(text, at, b"next", h),
         Choice::Absent => writer::put_all(text, at, b"next absent\n"),
     }
 }
 
-pub fn put_alignment(text: &mut [u8], at: usize, first: &[u8], turn: u8, tx: i32, ty: i32) -> usize
-    ensures { λ r. ⌜ Printed (line (now (first .entry)) (decimal turn ∷ signedDecimal tx ∷ signedDecimal ty ∷ [])) at r (now (text .entry))
-        (now (text .exit)) ⌝ }
+pub fn put_corners(text: &mut [u8], at: usize, a: GridAlignment) -> usize
+    ensures { λ r. ⌜ Printed (cornersLine a) at r (now (text .entry)) (now (text .exit)) ⌝ }
 {
-    let mut next = writer::put_all(text, at, first);
-    next = words::and_decimal(text, next, turn as u64);
-    next = words::and_signed(text, next, tx);
-    next = words::and_signed(text, next, ty);
+    let mut next = writer::put_all(text, at, b"corners");
+    next = words::and_decimal(text, next, a.turn as u64);
+    next = words::and_signed(text, next, a.tx);
+    next = words::and_signed(text, next, a.ty);
     writer::put(text, next, b'\n')
 }
 

@@ -14,10 +14,11 @@ pub enum Evidence {
     Absent,
 }
 
-// A placement, as an alignment of cells, and its evidence.
+// A placement, as an alignment of cells, with its evidence and the count of its contributing cells, by which no placement is ranked.
 pub struct Hypothesis {
     pub alignment: GridAlignment,
     pub evidence: Evidence,
+    pub contributing_cells: usize,
 }
 
 pub enum Choice {

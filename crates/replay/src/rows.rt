@@ -31,7 +31,7 @@ fn shape_of(kind: u64) -> Shape {
         0x7 => shape(1, 3),
         0x8 => shape(1, 5),
         0x9 => shape(1, 2),
-        0xA => shape(1, 17),
+        0xA => shape(1, 19),
         0xB => shape(0, 1),
         0xC => shape(3, 1),
         0xD => shape(14, 2),

@@ -1,4 +1,4 @@
-// Kind F: the text of an answer that a record need not have. The words are the 17 of a match, then those of its markers.
+// Kind F: the text of an answer that a record need not have. The words are the 19 of a match, then those of its markers.
 use board_match::Match;
 use board_match::Matched;
 use grid_alignment::GridAlignment;
@@ -26,8 +26,8 @@ fn evidence(is_number: u64, bits: u64) -> Evidence {
     Evidence::Number(floats::from_bits(numbers::low(bits)))
 }
 
-// The five words of a placement from place `at` on.
-fn hypothesis(words: &[u64], at: u8) -> Hypothesis {
+// The five words of a placement from place `at` on, and its count of contributing cells at `count_at`.
+fn hypothesis(words: &[u64], at: u8, count_at: u8) -> Hypothesis {
     let first = at as usize;
     Hypothesis {
         alignment: alignment(
@@ -39,6 +39,7 @@ fn hypothesis(words: &[u64], at: u8) -> Hypothesis {
             lists::given(words, first + 3),
             lists::given(words, first + 4),
         ),
+        contributing_cells: lists::given(words, count_at as usize) as usize,
     }
 }
 
@@ -46,12 +47,12 @@ fn runner_up(words: &[u64]) -> Choice {
     if lists::given(words, 5) == 0 {
         return Choice::Absent;
     }
-    Choice::Placement(hypothesis(words, 6))
+    Choice::Placement(hypothesis(words, 6, 18))
 }
 
 fn match_of(words: &[u64]) -> Match {
     Match {
-        best: hypothesis(words, 0),
+        best: hypothesis(words, 0, 17),
         runner_up: runner_up(words),
         margin: floats::from_bits(numbers::low(lists::given(words, 11))),
         placements: lists::given(words, 12) as usize,
@@ -65,7 +66,7 @@ fn match_of(words: &[u64]) -> Match {
 }
 
 fn put_text(words: &[u64], text: &mut [u8]) -> usize {
-    let markers = lists::short_words(words, 17);
+    let markers = lists::short_words(words, 19);
     place_text::format(Matched::Placed(match_of(words)), &markers, text)
 }
 

@@ -4,12 +4,12 @@ use super::numbers;
 // What an entry answered, the words that it told, and the digest of the list that it was lent.
 pub struct Answer {
     pub number: u32,
-    pub words: [u32; 17],
+    pub words: [u32; 19],
     pub digest: u32,
 }
 
 // What stands in the list for words before: 7 × i + 3 at place i.
-pub const BEFORE: [u32; 17] = [
+pub const BEFORE: [u32; 19] = [
     3,
     10,
     17,
@@ -27,6 +27,8 @@ pub const BEFORE: [u32; 17] = [
     101,
     108,
     115,
+    122,
+    129,
 ];
 
 // How many arguments and words a row of a kind has.
@@ -41,7 +43,7 @@ pub fn row_length(shape: Shape) -> usize {
 }
 
 // The answer of what is no entry: it never refuses and is lent no list.
-pub fn of_part(words: [u32; 17]) -> Answer {
+pub fn of_part(words: [u32; 19]) -> Answer {
     Answer {
         number: 0,
         words,
@@ -49,15 +51,15 @@ pub fn of_part(words: [u32; 17]) -> Answer {
     }
 }
 
-fn told(words: [u32; 17], k: usize) -> u64 {
-    if k < 17 {
+fn told(words: [u32; 19], k: usize) -> u64 {
+    if k < 19 {
         return words[k] as u64;
     }
     0
 }
 
 // Are the first n words those of the row behind its kind, so many arguments and the number?
-fn same_words(words: [u32; 17], row: [u64; 32], arguments: u8, n: u8) -> bool {
+fn same_words(words: [u32; 19], row: [u64; 32], arguments: u8, n: u8) -> bool {
     let mut k: u8 = 0;
     while k < n {
         if told(words, k as usize) != numbers::word_at(row, arguments as usize + 2 + k as usize) {

@@ -97,7 +97,7 @@ fn ids(rows: u8, cols: u8, legacy: u32, cell_size: f32) -> u32 {
     h
 }
 
-pub fn words_of(row: [u64; 32]) -> [u32; 17] {
+pub fn words_of(row: [u64; 32]) -> [u32; 19] {
     let rows = numbers::byte(row[1]);
     let cols = numbers::byte(row[2]);
     let legacy = numbers::legacy(row[0]);

@@ -4,40 +4,40 @@ use super::layout;
 use super::numbers;
 use score_matrix::table;
 
-fn two(first: u32, second: u32) -> [u32; 17] {
+fn two(first: u32, second: u32) -> [u32; 19] {
     let mut words = BEFORE;
     words[0] = first;
     words[1] = second;
     words
 }
 
-fn one(x: f32) -> [u32; 17] {
+fn one(x: f32) -> [u32; 19] {
     let mut words = BEFORE;
     words[0] = floats::to_bits(x);
     words
 }
 
-fn turned_code(row: [u64; 32]) -> [u32; 17] {
+fn turned_code(row: [u64; 32]) -> [u32; 19] {
     let side = numbers::byte(row[2]);
     let code = oracle_exports::oracle_rotate_code_u64(row[1], side, numbers::byte(row[3]));
     two(numbers::low(code), numbers::high(code))
 }
 
-fn corner_translation(turn: u8, tx: i16, ty: i16) -> [u32; 17] {
+fn corner_translation(turn: u8, tx: i16, ty: i16) -> [u32; 19] {
     two(
         integers::word(oracle_exports::oracle_corner_translation(turn, tx, ty, 0)),
         integers::word(oracle_exports::oracle_corner_translation(turn, tx, ty, 1)),
     )
 }
 
-fn turned_point(turn: u8, u: i16, v: i16) -> [u32; 17] {
+fn turned_point(turn: u8, u: i16, v: i16) -> [u32; 19] {
     two(
         integers::word(oracle_exports::oracle_turned(turn, u, v, 0)),
         integers::word(oracle_exports::oracle_turned(turn, u, v, 1)),
     )
 }
 
-fn cell_corners(u: i16, v: i16, px: f32) -> [u32; 17] {
+fn cell_corners(u: i16, v: i16, px: f32) -> [u32; 19] {
     let mut words = BEFORE;
     let mut k: u8 = 0;
     while k < 8 {
@@ -49,7 +49,7 @@ fn cell_corners(u: i16, v: i16, px: f32) -> [u32; 17] {
 }
 
 // 16 entries from one on.
-fn table_entries(first: u8) -> [u32; 17] {
+fn table_entries(first: u8) -> [u32; 19] {
     let mut words = BEFORE;
     let mut k = 0;
     while k < 16 {
@@ -59,7 +59,7 @@ fn table_entries(first: u8) -> [u32; 17] {
     words
 }
 
-fn weight(row: [u64; 32]) -> [u32; 17] {
+fn weight(row: [u64; 32]) -> [u32; 19] {
     one(oracle_exports::oracle_cell_weight(
         floats::from_bits(numbers::low(row[1])),
         row[2] == 1,
@@ -68,7 +68,7 @@ fn weight(row: [u64; 32]) -> [u32; 17] {
 }
 
 // The score of a grid, its evidence, and the code that is read.
-fn score(grid: &[u8], row: [u64; 32]) -> [u32; 17] {
+fn score(grid: &[u8], row: [u64; 32]) -> [u32; 19] {
     let bits = numbers::byte(row[1]);
     let border = numbers::byte(row[2]);
     let threshold = numbers::byte(row[3]);
@@ -85,7 +85,7 @@ fn score(grid: &[u8], row: [u64; 32]) -> [u32; 17] {
 }
 
 // Kinds 12 to 14 take two signed numbers of 16 bits.
-fn by_point(kind: u64, bits: [u32; 32]) -> [u32; 17] {
+fn by_point(kind: u64, bits: [u32; 32]) -> [u32; 19] {
     let turn = numbers::byte(bits[1] as u64);
     match kind {
         0x12 => corner_translation(turn, numbers::short(bits[2]), numbers::short(bits[3])),
@@ -99,7 +99,7 @@ fn by_point(kind: u64, bits: [u32; 32]) -> [u32; 17] {
 }
 
 // The words for a row; those of a score for the last kind.
-pub fn words_of(bytes: &[u8], row: [u64; 32]) -> [u32; 17] {
+pub fn words_of(bytes: &[u8], row: [u64; 32]) -> [u32; 19] {
     match numbers::kind(row[0]) {
         0x10 => turned_code(row),
         0x11 => layout::words_of(row),

@@ -1,7 +1,7 @@
 -- Document 01, "Proved table": its rows P1 to P12, as statements about the definitions.
 use mathlib.Core.Path.{_≡_}
 use Prim.Native.Nat.{ℕ, _≤_}
-use mathlib.Core.Bool.{true, false}
+use mathlib.Core.Bool.{false}
 use mathlib.Core.List.{List, [], _∷_}
 use mathlib.Core.Option.{Option, none, some}
 use lib.ListN.{length}
@@ -74,9 +74,9 @@ abbrev pub overThreshold : BoardMatchConfig → Float → BoardMatchConfig
 overThreshold c threshold =
     record { «px_per_square» = c .«px_per_square»; «alignment_min_margin» = c .«alignment_min_margin»; «cell_weight_border_threshold» = threshold }
 
--- a placement with its evidence
-abbrev pub evident : GridAlignment → Float → Hypothesis
-evident p x = record { alignment = p; evidence = evidence.Number x }
+-- a placement with its evidence, to which n cells contribute
+abbrev pub evident : GridAlignment → ℕ → Float → Hypothesis
+evident p n x = record { alignment = p; evidence = evidence.Number x; «contributing_cells» = n }
 
 -- a shot with P3's board and the cells (0, 0) and (u, 0), sampled or not, the rest of it as in s
 abbrev pub twoCells : ℕ → Option Sample → Option Sample → List Cell
@@ -168,7 +168,7 @@ pub record Table : Type 0 where
   pub P9 :
       ((capacity : Float) (next : Choice) → margin (evidence.Number zeroFloat) capacity next ≡ zeroFloat)
       × ((capacity : Float) → margin (evidence.Number twoFloat) capacity choice.Absent ≡ oneFloat)
-      × ((p : GridAlignment) → margin (evidence.Number twoFloat) four (choice.Placement (evident p minusSix)) ≡ twoFloat)
+      × ((p : GridAlignment) (n : ℕ) → margin (evidence.Number twoFloat) four (choice.Placement (evident p n minusSix)) ≡ twoFloat)
   -- null score, side 4: bits C1317218
   pub P10 : toBits binary32 (nullScore 4) ≡ 0xC1317218
   -- P3's board: cells (0, 0), (2, 0) give 44 placements, by the list and by the formula; (0, 0), (4, 0) give 8; (0, 0), (5, 0) is refused 15,

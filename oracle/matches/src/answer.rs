@@ -15,6 +15,8 @@ pub struct Alignment {
 pub struct Hypothesis {
     pub alignment: Alignment,
     pub evidence: Option<f32>,
+    /// How many cells contribute (document 02, 2.5).
+    pub contributing_cells: usize,
 }
 
 #[derive(Clone, Debug)]
@@ -58,7 +60,7 @@ pub type Matched = Result<Placed, Answer>;
 pub const MARKER_WORDS: usize = 18;
 
 /// Words of an answer.
-pub const ANSWER_WORDS: usize = 17;
+pub const ANSWER_WORDS: usize = 19;
 
 /// Words of a lent list with a place for each of 256 cells.
 pub const MOST_PLACES: usize = 256 * MARKER_WORDS;
@@ -83,6 +85,14 @@ pub fn told(matched: &Matched) -> Answer {
 }
 
 impl Alignment {
+    pub const fn of_words([turn, tx, ty]: [u32; 3]) -> Self {
+        Self {
+            turn: turn as u8,
+            tx: tx.cast_signed(),
+            ty: ty.cast_signed(),
+        }
+    }
+
     pub const fn words(self) -> [u32; 3] {
         [
             self.turn as u32,
@@ -93,7 +103,7 @@ impl Alignment {
 }
 
 impl Hypothesis {
-    /// The alignment, whether there is a number, and its bits.
+    /// The alignment, whether there is a number, and its bits. The counts of contributing cells stand at the end of the answer.
     fn words(&self) -> [u32; 5] {
         let [turn, tx, ty] = self.alignment.words();
         let bits = self.evidence.map_or(0, f32::to_bits);
@@ -119,6 +129,12 @@ impl Placed {
         }
     }
 
+    /// Of the best and of the runner-up, 0 where there is none.
+    fn contributing_cells(&self) -> [usize; 2] {
+        let next = self.runner_up.map_or(0, |next| next.contributing_cells);
+        [self.best.contributing_cells, next]
+    }
+
     fn words(&self) -> Vec<u32> {
         let next = self.runner_up.as_ref();
         let words = [
@@ -128,6 +144,7 @@ impl Placed {
             &[self.margin.to_bits(), self.placements as u32],
             &self.corners.words(),
             &[self.markers.len() as u32],
+            &self.contributing_cells().map(|count| count as u32),
         ];
         words.concat()
     }

@@ -1,5 +1,6 @@
 //! Records to ask about, by kinds. All are random, each kind from a seed of its own.
 
+mod counts;
 mod faults;
 mod look_alikes;
 mod numbers;
@@ -12,6 +13,7 @@ mod ties;
 use crate::answer::MARKER_WORDS;
 use cases::prng::Prng;
 use records::{Shot, damage, settings, write};
+use std::ops::Range;
 
 pub use scene::{Look, Scene};
 
@@ -31,7 +33,7 @@ pub struct Kind {
 }
 
 /// No two cells of a shot that passes question 12 are at one point, but in the kind that means it, and by damage.
-pub const KINDS: [Kind; 17] = [
+pub const KINDS: [Kind; 18] = [
     shots("true placements", 18_000, numbers::shown),
     shots("ties", 15_000, ties::shot),
     shots("tiny boards", 12_000, ties::tiny_board),
@@ -57,10 +59,12 @@ pub const KINDS: [Kind; 17] = [
     kind("damaged records", 8_000, Make::Given(damaged)),
     kind("cells at one point", 60_000, Make::Given(repeats::given)),
     shots("points nearly alike", 12_000, repeats::nearly),
+    shots("counts of contributing cells", 10_000, counts::shot),
 ];
 
-/// So many of the kinds, the last, are about cells at one point.
-pub const OF_REPEATS: usize = 2;
+/// The places of the kinds that are about cells at one point, and of the one that is about counts.
+pub const OF_REPEATS: Range<usize> = 15..17;
+pub const OF_COUNTS: usize = 17;
 
 /// The same kinds of legacy boards, half as many records of each.
 pub const LEGACY_KINDS: [Kind; KINDS.len()] = {

@@ -2,6 +2,7 @@
 //! exact evidence, to which the accuracy rule holds the reported one.
 
 mod answer;
+pub mod counts;
 pub mod exact;
 pub mod given;
 mod model;
@@ -21,5 +22,5 @@ pub use questions::{
 };
 pub use rust::{Matching, Samples};
 pub use text::text;
-pub use turned::{Compared, TurnedShot};
+pub use turned::{Compared, Placement, TurnedShot};
 pub use wide::Wide;

@@ -97,6 +97,11 @@ impl<'a> Model<'a> {
         is_on_board.then_some((j * cols + i) as usize)
     }
 
+    pub fn is_on_marker(&self, cell: &Cell, at: Alignment) -> bool {
+        let square = self.square(cell, at);
+        square.is_some_and(|square| self.markers[square].is_some())
+    }
+
     /// For each turn, every translation that puts all cells on the board, tx outer, ty inner, rising. Only those that put
     /// the first cell there are tried.
     pub fn alignments(&self) -> Vec<Alignment> {
@@ -135,11 +140,14 @@ impl<'a> Model<'a> {
     }
 
     fn hypothesis(&self, at: Alignment) -> Hypothesis {
-        let weighted = |(cell, id)| self.weight(cell) * self.evidence(cell, id, at.turn);
-        let all = self.contributing(at).into_iter().map(weighted);
+        let contributing = self.contributing(at);
+        let weighted = contributing
+            .iter()
+            .map(|&(cell, id)| self.weight(cell) * self.evidence(cell, id, at.turn));
         Hypothesis {
             alignment: at,
-            evidence: all.fold(None, |sum, part| Some(sum.unwrap_or(0.0) + part)),
+            evidence: weighted.fold(None, |sum, part| Some(sum.unwrap_or(0.0) + part)),
+            contributing_cells: contributing.len(),
         }
     }
 
@@ -212,10 +220,15 @@ impl<'a> Model<'a> {
         (evidence - next) / capacity
     }
 
-    fn markers(&self, at: Alignment) -> Vec<Marker> {
+    /// Of the contributing cells those whose markers are emitted.
+    pub fn emitted(&self, at: Alignment) -> Vec<(usize, usize)> {
         let mut emitted = self.contributing(at);
         emitted.retain(|&(cell, id)| self.evidence(cell, id, at.turn) > 0.0);
-        let emitted = emitted.into_iter();
+        emitted
+    }
+
+    fn markers(&self, at: Alignment) -> Vec<Marker> {
+        let emitted = self.emitted(at).into_iter();
         emitted
             .map(|(cell, id)| self.marker(cell, id, at.turn))
             .collect()

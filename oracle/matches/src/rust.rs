@@ -82,30 +82,35 @@ impl Matching {
     }
 
     /// Every placement of a shot that has cells. The search tells the best alone, so it is asked about one placement at a time:
-    /// two cells that are not sampled, on opposite squares of the board, leave one translation in each turn, and the scores of
-    /// the other turns are taken away. Only translations that put the first cell on the board are tried.
+    /// two cells that are not sampled, on opposite squares of the board, leave one translation in each turn, and of the scores
+    /// only those of one turn are left. The cells are turned before and these scores are those of turn 0, which the search comes
+    /// to first: so it tells that placement also where no cell contributes and all are minus infinity. Only translations that put
+    /// the first cell on the board are tried.
     pub fn hypotheses(&self) -> Vec<Hypothesis> {
         let [cols, rows] = [self.board.spec().cols, self.board.spec().rows].map(|n| n as i32);
         let samples = [&self.samples[..], &[None, None]].concat();
         let mut all = Vec::new();
         for turn in 0..4 {
             let transform = GRID_TRANSFORMS_C4[usize::from(turn)];
-            let back = GRID_TRANSFORMS_C4[usize::from((4 - turn) % 4)];
+            let cell_at = |point| MarkerCell::new(point, Default::default());
+            let turned = self.cells.iter().map(|cell| transform.apply(cell.gc));
+            let turned: Vec<MarkerCell> = turned.map(cell_at).collect();
             let scores = ScoredCells::new(&self.board, &samples, self.settings);
             let mut scores = scores.expect("a board that is made has markers");
-            scores.keep_turn(turn);
-            let first = transform.apply(self.cells[0].gc);
+            scores.keep_as_turn_0(turn);
+            let first = turned[0].gc;
             for tx in -first.u..cols - first.u {
                 for ty in -first.v..rows - first.v {
-                    let opposite = [[0, 0], [cols - 1, rows - 1]].map(|[i, j]| {
-                        let point = back.apply(Coord::new(i - tx, j - ty));
-                        MarkerCell::new(point, Default::default())
-                    });
-                    let cells = [&self.cells[..], &opposite].concat();
+                    let opposite = [[0, 0], [cols - 1, rows - 1]];
+                    let opposite = opposite.map(|[i, j]| cell_at(Coord::new(i - tx, j - ty)));
+                    let cells = [&turned[..], &opposite].concat();
                     let best = scores.best(&self.board, &cells);
-                    all.extend(best.map(|best| Hypothesis {
-                        alignment: Alignment { turn, tx, ty },
-                        evidence: evidence(&best),
+                    all.extend(best.map(|best| {
+                        assert_eq!((best.rotation, best.translation), (0, [tx, ty]));
+                        Hypothesis {
+                            alignment: Alignment { turn, tx, ty },
+                            ..hypothesis(&best)
+                        }
                     }));
                 }
             }
@@ -120,11 +125,7 @@ fn placed(selected: Selected, run: MatchRun) -> Placed {
     Placed::new(selected, alignment(&corners), markers.collect())
 }
 
-/// The Rust's minus infinity is none.
-fn evidence(found: &DiagHypothesis) -> Option<f32> {
-    (found.score != f32::NEG_INFINITY).then_some(found.score)
-}
-
+/// The Rust's minus infinity is none. The count is its own, told by the feature `diagnostics`.
 fn hypothesis(found: &DiagHypothesis) -> Hypothesis {
     let [tx, ty] = found.translation;
     Hypothesis {
@@ -133,7 +134,8 @@ fn hypothesis(found: &DiagHypothesis) -> Hypothesis {
             tx,
             ty,
         },
-        evidence: evidence(found),
+        evidence: (found.score != f32::NEG_INFINITY).then_some(found.score),
+        contributing_cells: found.contributing_cells,
     }
 }
 

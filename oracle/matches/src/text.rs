@@ -34,9 +34,10 @@ impl Display for Hypothesis {
         let at = self.alignment;
         write!(f, "{} {} {} ", at.turn, at.tx, at.ty)?;
         match self.evidence {
-            None => write!(f, "none"),
-            Some(evidence) => write!(f, "{:08X}", evidence.to_bits()),
+            None => write!(f, "none")?,
+            Some(evidence) => write!(f, "{:08X}", evidence.to_bits())?,
         }
+        write!(f, " {}", self.contributing_cells)
     }
 }
 

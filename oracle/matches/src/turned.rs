@@ -1,5 +1,6 @@
 //! Legacy boards with an even row count, of which the Rust knows nothing, turned by a quarter: then they are unmarked boards
-//! with rows and columns exchanged. Every placement of the shot is one on the turned board, with equal evidence.
+//! with rows and columns exchanged. Every placement of the shot is one on the turned board, with equal evidence and the same
+//! contributing cells.
 
 use crate::answer::{Alignment, Hypothesis, Marker, Matched, Placed, Selected, told};
 use crate::model::{self, Model};
@@ -117,17 +118,29 @@ fn moved(turn: u8, translation: [i32; 2]) -> [i32; 2] {
 /// What is compared of a search and of its match, all on the board as it is.
 #[derive(Clone, Debug, PartialEq, Eq)]
 pub struct Compared {
-    /// The words of each alignment and the bits of its evidence, in the order of the words.
-    pub placements: Vec<([u32; 3], Option<u32>)>,
+    /// In the order of their alignments.
+    pub placements: Vec<Placement>,
     pub chosen: Option<Chosen>,
-    /// Where both sides choose the same best: the answer, but for the alignment of the runner-up.
+    /// Where both sides choose the same best: the answer. Where they choose another runner-up, without its alignment and its count
+    /// of contributing cells.
     pub answer: Option<Answer>,
+    pub is_same_runner_up: bool,
 }
 
-/// Equal evidence may choose another placement, as the turned ones come in another order.
+#[derive(Clone, Copy, Debug, PartialEq, Eq, PartialOrd, Ord)]
+pub struct Placement {
+    /// The words of its alignment.
+    pub alignment: [u32; 3],
+    /// As bits.
+    pub evidence: Option<u32>,
+    pub contributing_cells: usize,
+}
+
+/// Equal evidence may choose another placement, as the turned ones come in another order; and another one may have another count of
+/// contributing cells.
 #[derive(Clone, Copy, Debug, PartialEq, Eq)]
 pub struct Chosen {
-    pub count: usize,
+    pub placements: usize,
     pub best: Option<u32>,
     pub runner_up: Option<Option<u32>>,
     pub margin: u32,
@@ -143,11 +156,16 @@ struct Side {
 /// Of a shot that the questions up to 14 let pass.
 pub fn by_rust_and_model(shot: &Shot, slope_and_floor: [f32; 2]) -> [Compared; 2] {
     let sides = [by_rust(shot, slope_and_floor), by_model(shot)];
-    let [rust, model] = sides.each_ref().map(|side| {
-        let best = side.selected.map(|selected| selected.best);
-        best.map(|best| best.alignment)
-    });
-    sides.map(|side| side.compared(rust == model))
+    let is_same = |chosen: fn(Selected) -> Option<Hypothesis>| {
+        let [rust, model] = sides.each_ref().map(|side| {
+            let chosen = side.selected.and_then(chosen);
+            chosen.map(|chosen| chosen.alignment)
+        });
+        rust == model
+    };
+    let is_same_best = is_same(|selected| Some(selected.best));
+    let is_same_runner_up = is_same(|selected| selected.runner_up);
+    sides.map(|side| side.compared(is_same_best, is_same_runner_up))
 }
 
 fn by_rust(shot: &Shot, slope_and_floor: [f32; 2]) -> Side {
@@ -177,29 +195,39 @@ fn by_model(shot: &Shot) -> Side {
 }
 
 impl Side {
-    fn compared(self, is_same_best: bool) -> Compared {
+    fn compared(self, is_same_best: bool, is_same_runner_up: bool) -> Compared {
         let bits = |found: &Hypothesis| found.evidence.map(f32::to_bits);
-        let placements = self.all.iter();
-        let mut placements: Vec<_> = placements
-            .map(|found| (found.alignment.words(), bits(found)))
-            .collect();
+        let placements = self.all.iter().map(|found| Placement {
+            alignment: found.alignment.words(),
+            evidence: bits(found),
+            contributing_cells: found.contributing_cells,
+        });
+        let mut placements: Vec<_> = placements.collect();
         placements.sort_unstable();
+        let matched = if is_same_runner_up {
+            self.matched
+        } else {
+            self.matched.map(with_any_runner_up)
+        };
         Compared {
             placements,
             chosen: self.selected.map(|selected| Chosen {
-                count: selected.placements,
+                placements: selected.placements,
                 best: bits(&selected.best),
                 runner_up: selected.runner_up.as_ref().map(bits),
                 margin: selected.margin.to_bits(),
             }),
-            answer: is_same_best.then(|| told(&self.matched.map(without_place_of_runner_up))),
+            answer: is_same_best.then(|| told(&matched)),
+            is_same_runner_up,
         }
     }
 }
 
-fn without_place_of_runner_up(mut placed: Placed) -> Placed {
-    if let Some(next) = &mut placed.runner_up {
-        next.alignment = placed.best.alignment;
-    }
+/// As if every runner-up of this evidence were the same.
+fn with_any_runner_up(mut placed: Placed) -> Placed {
+    placed.runner_up = placed.runner_up.map(|next| Hypothesis {
+        evidence: next.evidence,
+        ..placed.best
+    });
     placed
 }

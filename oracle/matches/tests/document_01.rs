@@ -1,4 +1,4 @@
-//! The examples of document 01 for the match: the record of the program `place`, P9 and P11.
+//! The examples of document 01 for the match: the record of the program `place`, with the counts of document 02, 2.5, P9 and P11.
 
 use cases::codes::{all_ones, listed_codes};
 use matches::{MARKER_WORDS, match_record, match_shot, text, told};
@@ -15,8 +15,8 @@ fn what_the_program_prints() {
     assert_eq!(
         text(&matched),
         "placed\n\
-         best 0 1 0 40317218\n\
-         next 1 1 0 3F45C860\n\
+         best 0 1 0 40317218 1\n\
+         next 1 1 0 3F45C860 1\n\
          margin 3F38AA3B\n\
          placements 16\n\
          corners 0 1 0\n\
@@ -55,6 +55,8 @@ fn p9_a_runner_up_that_is_none() {
     assert_eq!(placed.best.alignment.turn, 2);
     let next = placed.runner_up.expect("there are two placements");
     assert!(next.evidence.is_none());
+    assert_eq!(next.contributing_cells, 0);
+    assert_eq!(placed.best.contributing_cells, 1);
 }
 
 /// Best 2, runner-up −6 and capacity 4 give 2: margins are not capped at 1, nor divided by the best.

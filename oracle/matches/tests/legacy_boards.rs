@@ -14,8 +14,8 @@ fn what_the_program_prints() {
     assert_eq!(
         text(&match_shot(&shot, MARKER_WORDS)),
         "placed\n\
-         best 0 0 0 40317218\n\
-         next 1 0 0 3F45C860\n\
+         best 0 0 0 40317218 1\n\
+         next 1 0 0 3F45C860 1\n\
          margin 3F38AA3B\n\
          placements 16\n\
          corners 0 0 0\n\
@@ -93,16 +93,17 @@ fn the_rust_turned_and_the_rules() {
     sample.grid.fill(0);
     let [rust, rules] = by_turned_rust_and_model(&shot).expect("the Rust can be asked");
     assert_eq!(rust, rules);
-    let best = rust
-        .placements
-        .iter()
-        .filter_map(|&(_, bits)| bits)
-        .max_by(|&a, &b| f32::from_bits(a).total_cmp(&f32::from_bits(b)));
-    let tied = rust.placements.iter().filter(|&&(_, bits)| bits == best);
+    let evidence: Vec<Option<u32>> = rust.placements.iter().map(|at| at.evidence).collect();
+    let numbers = evidence.iter().flatten().map(|&bits| f32::from_bits(bits));
+    let best = numbers.clone().max_by(f32::total_cmp);
+    let tied = numbers.clone().filter(|&number| Some(number) == best);
     assert_eq!(tied.count(), 4);
-    assert_eq!(rust.placements.len(), 24);
-    let numbers = rust.placements.iter().filter(|(_, bits)| bits.is_some());
+    assert_eq!(evidence.len(), 24);
     assert_eq!(numbers.count(), 12);
+    // The one cell contributes wherever there is a number.
+    for at in &rust.placements {
+        assert_eq!(at.contributing_cells, usize::from(at.evidence.is_some()));
+    }
 }
 
 /// A shot whose best is alone: both choose it, and all that is told of it agrees. Codes that stay as they are, where they

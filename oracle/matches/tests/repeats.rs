@@ -102,7 +102,7 @@ fn the_order() {
 fn the_kinds() {
     let before = [21, 1, 2, 3, 4, 5, 6, 7, 8, 22, 9, 10, 11, 12, 23];
     for kinds in [KINDS, LEGACY_KINDS] {
-        let [repeats, nearly] = &kinds[kinds.len() - OF_REPEATS..] else {
+        let [repeats, nearly] = &kinds[OF_REPEATS] else {
             unreachable!("there are two")
         };
         let numbers = [repeats, nearly].map(|kind| {
@@ -122,8 +122,8 @@ fn the_rust_places_them() {
     let by_rust = |shot: &Shot| text(&by_rust_without_23(shot).expect("it can be asked"));
     let cell = (true, [0, 0]);
     let once = "placed\n\
-        best 0 1 0 40317218\n\
-        next 1 1 0 C113A37A\n\
+        best 0 1 0 40317218 1\n\
+        next 1 1 0 C113A37A 1\n\
         margin 408A7FAC\n\
         placements 16\n\
         corners 0 1 0\n\
@@ -133,8 +133,8 @@ fn the_rust_places_them() {
     assert_eq!(by_rust(&with_unsampled), once);
     let twice = shot(&[cell; 2]);
     let counted_twice = "placed\n\
-        best 0 1 0 40B17218\n\
-        next 1 1 0 C193A37A\n\
+        best 0 1 0 40B17218 2\n\
+        next 1 1 0 C193A37A 2\n\
         margin 408A7FAC\n\
         placements 16\n\
         corners 0 1 0\n\

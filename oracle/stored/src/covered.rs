@@ -1,9 +1,11 @@
 //! Whether the answers in the file would show that any two words or fields are exchanged, that a word is left out, or that a
-//! kind of line is spelled otherwise; whether every number of a refusal comes up; and whether cells at one point are read.
+//! kind of line is spelled otherwise; whether every number of a refusal comes up; whether cells at one point are read; and whether
+//! wrong counts of contributing cells would show.
 
 use crate::kinds::{self, Kind};
-use crate::script::Asked;
+use crate::script::{Asked, Script};
 use cases::answer::Answer;
+use matches::counts::{PAIRS, Shown, WRONG};
 use std::collections::{BTreeMap, BTreeSet};
 
 /// What no input tells apart.
@@ -44,7 +46,8 @@ fn check_told<T: Ord>(name: &str, answers: &[Vec<T>], alike: &Alike) {
     assert_eq!(equal, alike.equal, "equal words of {name}");
 }
 
-pub fn check(asked: &[Asked]) {
+pub fn check(script: &Script) {
+    let asked = &script.asked;
     for &kind in kinds::ALL {
         let answers = asked.iter().filter(|asked| asked.kind == kind);
         let answers: Vec<&Answer> = answers.map(|asked| &asked.answer).collect();
@@ -65,6 +68,20 @@ pub fn check(asked: &[Asked]) {
     let mut matches = of_repeats().filter(|asked| asked.kind == kinds::MATCH);
     assert!(matches.all(|asked| asked.answer.number != 0));
     check_text(asked);
+    let [without_mark, marked] = &script.counts;
+    check_counts("matches", without_mark);
+    check_counts("matches of legacy boards", marked);
+}
+
+/// Every wrong count would show in the best and in the runner-up, and every pair of counts comes up.
+fn check_counts(name: &str, shown: &Shown) {
+    for (wrong, counts) in WRONG.iter().zip(shown.wrong) {
+        let [best, next] = counts.map(|count| count > 0);
+        assert!(best && next, "{name}, counts that are not {}", wrong.name);
+    }
+    for (pair, count) in PAIRS.iter().zip(shown.pairs) {
+        assert!(count > 0, "{name}, counts: {}", pair.name);
+    }
 }
 
 /// Every number comes up, and no other.
@@ -120,7 +137,7 @@ fn check_text(asked: &[Asked]) {
         let words: Vec<&str> = line.split(' ').collect();
         let kind = match words[..] {
             ["refused", number, ..] => format!("refused {number}"),
-            [line, .., "none"] => format!("{line} none"),
+            [line, .., "none", _] => format!("{line} none"),
             ["next", "absent"] => "next absent".into(),
             _ => words[0].into(),
         };
@@ -133,9 +150,9 @@ fn check_text(asked: &[Asked]) {
     let kinds: BTreeSet<String> = lines.keys().cloned().collect();
     assert_eq!(kinds, expected, "kinds of lines");
     for (kind, lines) in &lines {
-        // The number of a refusal, and the words that say that there is no evidence or no runner-up.
+        // The number of a refusal, and the words that say that there is no evidence, by which no cell contributes, or no runner-up.
         let same: &[usize] = match kind.as_str() {
-            "best none" | "next none" => &[3],
+            "best none" | "next none" => &[3, 4],
             "next absent" => &[0],
             refused if refused.starts_with("refused") => &[0],
             _ => &[],

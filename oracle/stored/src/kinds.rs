@@ -60,7 +60,7 @@ kinds! {
         numbers: &[
             0, 1, 2, 3, 4, 5, 6, 7, 8, 9, 10, 11, 12, 13, 14, 15, 16, 17, 21, 22, 23,
         ],
-        ..part(0xA, "charuco_match_board", 1, 17)
+        ..part(0xA, "charuco_match_board", 1, 19)
     };
     TEXT = part(0xB, "text of place", 0, 1);
     CELLS = Kind {

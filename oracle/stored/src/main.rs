@@ -23,7 +23,8 @@ fn main() -> io::Result<()> {
     entries::ask_corners(&mut script, false);
     entries::ask_links(&mut script, false);
     matches::ask(&mut script);
-    // Legacy boards come after all others, look-alikes after them, and cells at one point last, so that the rows before stay.
+    // Legacy boards come after all others, look-alikes after them, then cells at one point, and counts last, so that the rows before
+    // stay.
     parts::ask_layouts(&mut script, true);
     records::ask_marked(&mut script);
     entries::ask_corners(&mut script, true);
@@ -33,7 +34,9 @@ fn main() -> io::Result<()> {
     entries::ask_look_alikes(&mut script, true);
     matches::ask_repeats(&mut script, false);
     matches::ask_repeats(&mut script, true);
-    covered::check(&script.asked);
+    matches::ask_counts(&mut script, false);
+    matches::ask_counts(&mut script, true);
+    covered::check(&script);
     for &kind in kinds::ALL {
         let rows = script.asked.iter().filter(|asked| asked.kind == kind);
         eprintln!("{:3X} {}: {}", kind.number, kind.name, rows.count());

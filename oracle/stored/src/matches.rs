@@ -6,9 +6,11 @@ use crate::records::{ask_header, ask_place};
 use crate::script::{MOST_CELLS, Script, few, is_marked};
 use cases::answer::Answer;
 use cases::cells::Cell as Grid;
-use cases::codes::listed_codes;
+use cases::codes::{all_ones, listed_codes};
 use cases::corner_lists::rectangle;
-use matches::given::{Given, KINDS, Kind as GivenKind, LEGACY_KINDS, OF_REPEATS};
+use cases::layout::marker_squares;
+use matches::counts::Shown;
+use matches::given::{Given, KINDS, Kind as GivenKind, LEGACY_KINDS, OF_COUNTS, OF_REPEATS};
 use matches::{MARKER_WORDS, MOST_PLACES, Placed, by_turned_rust_and_model, match_record, text};
 use records::telling::Place;
 use records::{Cell, REFUSED, Sample, Shot, built_in_table, read, write};
@@ -43,12 +45,15 @@ const MOST_MARKERS: usize = 6;
 /// The other readers are asked about one record in so many.
 const ONE_IN: usize = 8;
 
+/// So many show each wrong count, and have each pair of counts.
+const OF_EACH_COUNT: usize = 3;
+
 /// Of each kind of legacy boards so many.
 const OF_EACH_LEGACY_KIND: usize = 10;
 
-/// The kinds that are not about cells at one point, and those that are.
-fn parted(kinds: &[GivenKind]) -> (&[GivenKind], &[GivenKind]) {
-    kinds.split_at(kinds.len() - OF_REPEATS)
+/// The kinds that have no rows of their own below.
+fn others(kinds: &[GivenKind]) -> &[GivenKind] {
+    &kinds[..OF_REPEATS.start]
 }
 
 pub fn ask(script: &mut Script) {
@@ -60,7 +65,7 @@ pub fn ask(script: &mut Script) {
 pub fn ask_marked(script: &mut Script) {
     let mut chosen = small_legacy_boards().map(with_places).to_vec();
     chosen.extend(with_every_refusal(&LEGACY_KINDS));
-    for kind in parted(&LEGACY_KINDS).0 {
+    for kind in others(&LEGACY_KINDS) {
         let (longest, most) = lengths(kind);
         chosen.extend(of_kind(kind, longest, most.min(OF_EACH_LEGACY_KIND)));
     }
@@ -85,10 +90,18 @@ pub fn ask_repeats(script: &mut Script, legacy: bool) {
     } else {
         (&KINDS, OF_EACH_KIND)
     };
-    let of_kinds = parted(kinds).1.iter();
-    let chosen: Vec<Given> = of_kinds
+    let chosen: Vec<Given> = kinds[OF_REPEATS]
+        .iter()
         .flat_map(|kind| of_kind(kind, SHORT, most))
         .collect();
+    ask_all(script, &chosen);
+}
+
+/// Counts of contributing cells: few cells, some of them without weight, and 256 that all contribute.
+pub fn ask_counts(script: &mut Script, legacy: bool) {
+    let kinds = if legacy { &LEGACY_KINDS } else { &KINDS };
+    let mut chosen = showing_counts(&kinds[OF_COUNTS]);
+    chosen.push(with_places(most_contributing(legacy)));
     ask_all(script, &chosen);
 }
 
@@ -126,8 +139,8 @@ fn ask_text(script: &mut Script, kind: Kind, text: String) {
 /// Answers that no record has: without a runner-up, which there always is; with a best placement that has no number, of
 /// which no marker is emitted; with numbers as large as their words hold.
 fn ask_answers(script: &mut Script) {
-    let (kinds, _) = parted(&KINDS);
-    let records = kinds.iter().flat_map(|kind| kind.first(ANSWERS));
+    let kinds = others(&KINDS).iter();
+    let records = kinds.flat_map(|kind| kind.first(ANSWERS));
     let records = records.filter(|given| !is_marked(&given.record));
     let placed = records.filter_map(|given| match_record(&given.record, MOST_PLACES).ok());
     let short = placed.filter(|placed| placed.markers.len() <= MOST_MARKERS);
@@ -135,16 +148,24 @@ fn ask_answers(script: &mut Script) {
         let mut changed = placed.clone();
         match number % 4 {
             0 => changed.runner_up = None,
-            1 => changed.best.evidence = None,
+            1 => {
+                changed.best.evidence = None;
+                changed.best.contributing_cells = 0;
+            }
             2 => changed.runner_up.iter_mut().for_each(|next| {
                 next.alignment.tx = i32::MIN;
                 next.alignment.ty = i32::MAX;
                 next.evidence = None;
+                next.contributing_cells = 0;
             }),
             _ => {
                 changed.placements = u32::MAX as usize;
                 changed.corners.tx = i32::MAX;
                 changed.best.alignment.ty = i32::MIN;
+                changed.best.contributing_cells = u32::MAX as usize;
+                changed.runner_up.iter_mut().for_each(|next| {
+                    next.contributing_cells = u32::MAX as usize - 1;
+                });
             }
         }
         ask_answer(script, &placed);
@@ -177,7 +198,7 @@ fn chosen_by(kind: &GivenKind, given: &Given) -> u32 {
 fn chosen() -> Vec<Given> {
     let mut chosen = vec![with_places(Shot::of_document_01())];
     chosen.extend(with_every_refusal(&KINDS));
-    for kind in parted(&KINDS).0 {
+    for kind in others(&KINDS) {
         let (longest, most) = lengths(kind);
         chosen.extend(of_kind(kind, longest, most));
     }
@@ -206,6 +227,22 @@ fn of_kind(kind: &GivenKind, longest: usize, most: usize) -> impl Iterator<Item 
 
 fn fits(given: &Given, longest: usize) -> bool {
     given.record.len() <= longest && given.places <= LONGEST_LIST
+}
+
+/// Each of them shows a wrong count, or has a pair of counts, that few before it do.
+fn showing_counts(kind: &GivenKind) -> Vec<Given> {
+    let mut is_new = few(OF_EACH_COUNT);
+    let looked_through = kind.first(LOOKED_THROUGH.min(kind.count));
+    let showing = looked_through.filter(|given| {
+        let mut shown = Shown::default();
+        let read = read(&given.record).expect("it is not damaged");
+        shown.add(&read.shot, &told(given));
+        let all = [shown.wrong.as_flattened(), &shown.pairs].concat();
+        let of_this = (0..).zip(all).filter(|&(_, count)| count > 0);
+        // All of them are counted.
+        fits(given, SHORT) && of_this.filter(|&(place, _)| is_new(place)).count() > 0
+    });
+    showing.collect()
 }
 
 /// Some of them have a table, which question 10 refuses.
@@ -286,6 +323,33 @@ fn repeats_of_most_cells() -> [Shot; 3] {
         }
         with_cells(cells)
     })
+}
+
+/// A cell on every marker of a board of 16 rows and 32 columns. All are black, as the last marker is, which alone is emitted; no margin is too
+/// small. 256 markers of which no two are alike have 4 by 4 bits or more.
+fn most_contributing(legacy: bool) -> Shot {
+    let [rows, cols, bits] = [16, 32, 4];
+    let mut codes = listed_codes(bits, MOST_CELLS);
+    codes[MOST_CELLS - 1] = all_ones(bits);
+    let mut shot = Shot {
+        rows,
+        cols,
+        bits,
+        codes,
+        ..Shot::default()
+    };
+    let sample = Sample::new(1.0, 128, vec![0; shot.greys()]);
+    let squares = marker_squares(rows.into(), cols.into(), legacy);
+    let points = squares.map(|square| square.map(|x| x as i16));
+    shot.cells = points
+        .map(|[u, v]| Cell {
+            u,
+            v,
+            sample: Some(sample.clone()),
+        })
+        .collect();
+    shot.set_minimum_margin(-1.0);
+    if legacy { shot.marked() } else { shot }
 }
 
 /// The record of document 01 with the mark, and its cell on legacy boards of 4 rows and 5 columns and of 3 by 3: they stand

@@ -1,7 +1,8 @@
 //! The rows of the file in their order: those that build up the two lists, and those that ask.
 
-use crate::kinds::Kind;
+use crate::kinds::{Kind, MATCH};
 use cases::answer::{Answer, after};
+use matches::counts::Shown;
 use records::{read, settings};
 use std::collections::{HashMap, HashSet};
 use std::fmt::Write;
@@ -36,6 +37,8 @@ pub struct Script {
     /// The lines of the file.
     pub lines: String,
     pub asked: Vec<Asked>,
+    /// What the matches show of the counts of contributing cells, without the mark of a legacy board and with it.
+    pub counts: [Shown; 2],
     bytes: Vec<u8>,
     words: Vec<u64>,
 }
@@ -129,6 +132,11 @@ impl Script {
         row.extend(words.into_iter().map(u64::from));
         row.push(digest);
         self.row(&row);
+        if kind == MATCH
+            && let Some(read) = read(&self.bytes)
+        {
+            self.counts[usize::from(is_marked(&self.bytes))].add(&read.shot, &answer);
+        }
         self.asked.push(Asked {
             kind,
             answer,

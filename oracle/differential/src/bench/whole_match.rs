@@ -11,8 +11,9 @@ use records::{Shot, write};
 use std::hint::black_box;
 use theirs::BUILT_IN;
 
-/// The word of an answer that has the count of placements.
+/// The words of an answer that have the count of placements and that of markers.
 const PLACEMENTS: usize = 12;
+const MARKERS: usize = 16;
 
 /// A match that both sides place.
 pub struct WholeMatch {
@@ -101,6 +102,6 @@ impl Case for WholeMatch {
             && theirs.number == 0
             && words[..] == theirs.words
             && list == after(vec![0; self.given.places], &theirs.list)
-            && self.theirs(&self.matching.samples()) == words[ANSWER_WORDS - 1] as usize
+            && self.theirs(&self.matching.samples()) == words[MARKERS] as usize
     }
 }

@@ -1,10 +1,12 @@
 //! The match: its answer, every word of the lent list, and what the program `place` prints.
 
+mod counts;
 mod program;
 mod unknown_to_rust;
 
 use crate::entry::{Both, Entry};
 use crate::subject::{Bytes, Subject};
+use matches::counts::Shown as ShownCounts;
 use matches::given::{Given, KINDS, Kind, LEGACY_KINDS};
 use matches::{Compared, by_rust_and_model, by_turned_rust_and_model, told};
 use records::REFUSED;
@@ -32,6 +34,8 @@ fn compare_kinds(name: &'static str, kinds: &[Kind], turned: &mut Turned) -> Vec
     let mut entry = Entry::new(name, &NUMBERS);
     let mut rules = Subject::new(format!("{name}, the rules against the Rust"));
     let mut unknown = UnknownToRust::all(name);
+    let mut by_rust = 0;
+    let mut counts = ShownCounts::default();
     let mut subjects = Vec::new();
     for kind in kinds {
         let mut of_kind = Subject::new(format!("{name}, {}", kind.name));
@@ -48,8 +52,11 @@ fn compare_kinds(name: &'static str, kinds: &[Kind], turned: &mut Turned) -> Vec
             let Some(read) = records::read(&given.record) else {
                 continue;
             };
+            counts.add(&read.shot, &theirs);
             if let Some(both) = by_rust_and_model(&read.shot) {
                 let [rust, model] = both.map(|matched| told(&matched));
+                // 14, which asks about the lent list, may still refuse it.
+                by_rust += u64::from(rust.number == 0 && theirs.number == 0);
                 rules.check(model, rust, format_args!("{asked}"));
             }
             if let Some(both) = by_turned_rust_and_model(&read.shot) {
@@ -64,29 +71,36 @@ fn compare_kinds(name: &'static str, kinds: &[Kind], turned: &mut Turned) -> Vec
     }
     subjects.extend(entry.subjects());
     subjects.push(rules);
+    let mut up = Subject::new(format!("{name}, {by_rust} matches by the Rust itself"));
+    up.check(by_rust > 0, true, format_args!("one comes up"));
+    subjects.push(up);
+    subjects.extend(counts::subjects(name, &counts));
     subjects.extend(unknown.into_iter().flat_map(UnknownToRust::subjects));
     subjects
 }
 
 /// Marked boards that the Rust knows only turned by a quarter.
 struct Turned {
-    /// The evidence of every placement, as bits, and the placements one to one.
+    /// The evidence of every placement, as bits, and its count of contributing cells; and the placements one to one.
     placements: Subject,
-    /// Count, evidence of the best and of the runner-up, margin.
+    /// Count of placements, evidence of the best and of the runner-up, margin.
     chosen: Subject,
     /// Everything that is told, where both choose the same best.
     answers: Subject,
     count: u64,
+    /// Matches of the same best and runner-up, of which all that is told is compared.
+    whole: u64,
 }
 
 impl Default for Turned {
     fn default() -> Self {
         let subject = |of: &str| Subject::new(format!("marked boards by the Rust, turned: {of}"));
         Self {
-            placements: subject("evidence of every placement"),
+            placements: subject("evidence and contributing cells of every placement"),
             chosen: subject("best, runner-up, margin"),
             answers: subject("answers of the same best"),
             count: 0,
+            whole: 0,
         }
     }
 }
@@ -99,22 +113,19 @@ impl Turned {
         self.placements
             .check(model.placements, rust.placements, asked);
         self.chosen.check(model.chosen, rust.chosen, asked);
-        if rust.answer.is_some() {
+        if let Some(answer) = &rust.answer {
+            self.whole += u64::from(answer.number == 0 && rust.is_same_runner_up);
             self.answers.check(model.answer, rust.answer, asked);
         }
     }
 
     fn subjects(self) -> [Subject; 4] {
         let name = format!(
-            "marked boards by the Rust, turned: {} placements",
-            self.count
+            "marked boards by the Rust, turned: {} placements, {} matches of the same best and runner-up",
+            self.count, self.whole
         );
         let mut up = Subject::new(name);
-        up.check(
-            self.answers.compared > 0,
-            true,
-            format_args!("answers come up"),
-        );
+        up.check(self.whole > 0, true, format_args!("such matches come up"));
         [self.placements, self.chosen, self.answers, up]
     }
 }

@@ -51,11 +51,13 @@ impl BoardMatchDiagnostics {
         self.matrix.evidence(cell, marker, turn)
     }
 
-    /// Takes away the scores of the other turns: their placements are minus infinity and so above none of this turn.
-    pub fn keep_turn(&mut self, turn: u8) {
-        let scores = self.matrix.scores.iter_mut().enumerate();
-        let others = scores.filter(|(place, _)| place % 4 != usize::from(turn));
-        others.for_each(|(_, score)| *score = f32::NEG_INFINITY);
+    /// Makes the scores of this turn those of turn 0 and takes away all others: their placements are minus infinity, so that one
+    /// of turn 0 that comes before them is the best.
+    pub fn keep_as_turn_0(&mut self, turn: u8) {
+        for of_marker in self.matrix.scores.chunks_exact_mut(4) {
+            of_marker.swap(0, turn.into());
+            of_marker[1..].fill(f32::NEG_INFINITY);
+        }
     }
 
     /// The best of `enumerate_hypotheses`; none where no translation puts all cells on the board.

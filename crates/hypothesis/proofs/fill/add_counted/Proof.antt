@@ -16,7 +16,7 @@ returns c =
     }
 
 add-cell-requires : tie.Need-add-cell-requires
-add-cell-requires c κs = c .before .before .before .pre
+add-cell-requires c κs = let p = c .before .before .before .pre in (p .0, p .1, p .2, p .3)
 
 returns-2 : tie.Need-returns-2
 unfolding ofBits ofFields odd
@@ -25,9 +25,9 @@ returns-2 c =
     let e = a .before .before in
     record {
       size = a .add-cell .ensures .0;
-      heavy = λ t. (a .add-cell .ensures .1, c .seen-with .ensures);
+      heavy = λ t. (a .add-cell .ensures .1, c .with-counted .ensures);
       light = λ t. absurd (false≢true (sym t ∙ not-false _ (e .if1 .left)));
     }
 
 pub add-counted-spec : {M : Type 1} → statement M
-add-counted-spec = tie.close (tie.spec returns add-cell-requires (λ c κs. tt) returns-2)
+add-counted-spec = tie.close (tie.spec returns add-cell-requires (λ c κs. let p = c .before .before .before .before .pre in (p .4, p .5)) returns-2)

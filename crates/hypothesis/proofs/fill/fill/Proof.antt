@@ -17,11 +17,11 @@ use Rattle.hypothesis.proofs.fill.fill.Statement.{statement}
 use Rattle.hypothesis.proofs.fill.fill.Tie as tie
 
 abbrev Inv-loop : tie.InvT-loop
-Inv-loop sums₀ bytes index table codes sources t inputs count adds₀ seen₀ k₀ sums adds seen k =
-    (k ≤ count) × SumsTo (shot bytes) (t .turn) k sums seen × (length adds ≡ 128)
+Inv-loop sums₀ bytes index table codes sources t inputs count adds₀ contributing₀ k₀ sums adds contributing k =
+    (k ≤ count) × SumsTo (shot bytes) (t .turn) k sums contributing × (length adds ≡ 128)
 
 abbrev μ-loop : tie.MeasureT-loop
-μ-loop sums₀ bytes index table codes sources t inputs count adds₀ seen₀ k₀ sums adds seen k = count - k
+μ-loop sums₀ bytes index table codes sources t inputs count adds₀ contributing₀ k₀ sums adds contributing k = count - k
 
 loop-holds : tie.Need-loop-holds Inv-loop μ-loop
 loop-holds c = (omega arith, c .before .before .pre .1, refl)
@@ -87,11 +87,15 @@ likelihoods-requires c κs =
 add-counted-requires : tie.Need-add-counted-requires Inv-loop μ-loop
 add-counted-requires c κs =
     let d = c .before .before .before .before in
-    let b = x d in (
+    let b = x d in
+    let sums = l d .before .loop .inv .1 in
+    let below = few (bytes b) (t b .inputs) (index b) (ready b) (k (l d)) (inside (l d)) in (
       stays-on (bytes b) (index b) _ _ _ (t b) (turning b) (k (l d)) (inside (l d)) (cell d) (d .counted .ensures),
       sources-small (bytes b) (index b) _ _ _ (t b) (turning b) (k (l d)) (inside (l d)) (cell d) (d .counted .ensures),
       few-moves (bytes b) (index b) _ _ _ (t b) (turning b) (k (l d)) (inside (l d)) (cell d) (d .counted .ensures),
-      l d .before .loop .inv .1 .size,
+      sums .size,
+      omega (arith, sums .few .0, below),
+      omega (arith, sums .few .1, below),
     )
 
 add-k : tie.Need-add-k Inv-loop μ-loop
@@ -108,7 +112,7 @@ loop-again c =
     let adds = c .before .before .before .likelihoods in (
       omega (arith, i .loop-test .taken),
       sums-with (bytes b) (index b) _ _ _ (t b) (turning b) (k i) (inside i) (cell d) (d .counted .ensures) (adds .last .0) (adds .ensures .1)
-          (i .before .loop .sums) (c .add-counted .last .0) (i .before .loop .seen) (c .add-counted .result) (c .add-counted .ensures)
+          (i .before .loop .sums) (c .add-counted .last .0) (i .before .loop .contributing) (c .add-counted .result) (c .add-counted .ensures)
           (i .before .loop .inv .1),
       adds .ensures .0,
     )
@@ -119,8 +123,8 @@ returns c =
     let e = c .before .loop in
     let last : e .k ≡ cellTotal (shot (bytes b)) = omega (arith, e .inv .0, c .loop-test .left, all b) in (
       e .inv .1 .size,
-      summed (shot (bytes b)) (t b .turn) (e .sums) (e .seen)
-          (subst (λ (n : ℕ). SumsTo (shot (bytes b)) (t b .turn) n (e .sums) (e .seen)) last (e .inv .1)),
+      summed (shot (bytes b)) (t b .turn) (e .sums) (e .contributing)
+          (subst (λ (n : ℕ). SumsTo (shot (bytes b)) (t b .turn) n (e .sums) (e .contributing)) last (e .inv .1)),
     )
 
 pub fill-spec : {M : Type 1} → statement M

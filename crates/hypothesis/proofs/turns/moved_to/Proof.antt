@@ -1,6 +1,6 @@
 -- `hypothesis::turns::moved_to` meets its contract. Assumes nothing.
 use mathlib.Core.Path.{_≡_, refl, ap, _∙_}
-use Prim.Native.Nat.{ℕ, _≤_, _<_}
+use Prim.Native.Nat.{ℕ, _+_, _≤_, _<_}
 use native.Mathlib.Omega.{arith}
 use lib.IntN.{ℤ, pos, natAbs, _-ℤ_}
 use borrow.Author.Needs.{needs}
@@ -8,15 +8,15 @@ use Rattle.integers.proofs.Parts.{abs-sub}
 use Rattle.integers.proofs.Words.{word, word-is}
 use Rattle.ranking.specs.declared.Evidence.{Evidence}
 use Rattle.ranking.specs.declared.Hypothesis.{Hypothesis}
-use Rattle.hypothesis.specs.Turns.{evidenceAt}
+use Rattle.hypothesis.specs.Turns.{countAt, evidenceAt}
 use Rattle.hypothesis.proofs.turns.moved_to.Statement.{statement}
 use Rattle.hypothesis.proofs.turns.moved_to.Tie as tie
 
-abbrev with : ℕ → ℤ → ℤ → Evidence → Hypothesis
-with r x y e = record { alignment = record { turn = r; tx = x; ty = y }; evidence = e }
+abbrev with : ℕ → ℤ → ℤ → Evidence → ℕ → Hypothesis
+with r x y e n = record { alignment = record { turn = r; tx = x; ty = y }; evidence = e; «contributing_cells» = n }
 
-same : (r : ℕ) (x y p q : ℤ) (e f : Evidence) → x ≡ p → y ≡ q → e ≡ f → with r x y e ≡ with r p q f
-same r x y p q e f a b c = cc
+same : (r : ℕ) (x y p q : ℤ) (e f : Evidence) (m n : ℕ) → x ≡ p → y ≡ q → e ≡ f → m ≡ n → with r x y e m ≡ with r p q f n
+same r x y p q e f m n a b c d = cc
 
 -- a translation, read back from the word that holds it, by the word that holds the least coordinate
 reads : (n : ℕ) (least x : ℤ) → n < 32 → natAbs least ≤ 8192 → x ≡ pos n -ℤ word least → word x ≡ pos n -ℤ least
@@ -25,17 +25,17 @@ reads n least x h k e =
 
 returns : tie.Need-returns
 returns c =
-    let s = c .before .before .before .before .before in
+    let s = c .before .before .before .before .before .before in
     let a = s .args in
     let p = s .pre in
-    let e = c .before .before .before .before .placement-sum in
-    let t = c .before .before .translation in
-    let t2 = c .translation2 in
+    let e = c .before .before .before .before .before .placement-sum in
+    let t = c .before .before .before .translation in
+    let t2 = c .before .translation2 in
     same (a .turn) (word (t .result)) (word (t2 .result)) (pos (a .a) -ℤ a .frame .u) (pos (a .b) -ℤ a .frame .v) (e .result)
-    (evidenceAt (a .sums .now) (a .seen) (a .down) (a .a) (a .b))
+    (evidenceAt (a .sums .now) (a .contributing) (a .down) (a .a) (a .b)) (c .count-at .result) (countAt (a .contributing) (a .a + a .b))
     (reads (a .a) (a .frame .u) (t .result) (p .0) (p .3) (t .ensures))
     (reads (a .b) (a .frame .v) (t2 .result) (p .1) (p .4) (t2 .ensures))
-    (e .ensures)
+    (e .ensures) (c .count-at .ensures)
 
 pub moved-to-spec : {M : Type 1} → statement M
-moved-to-spec = tie.close (tie.spec (λ c κs. search needs) (λ c κs. search needs) (λ c κs. search needs) returns)
+moved-to-spec = tie.close (tie.spec (λ c κs. search needs) (λ c κs. search needs) (λ c κs. search needs) (λ c. search needs) (λ c κs. tt) returns)

@@ -11,10 +11,10 @@ use Rattle.hypothesis.proofs.turns.next_change.Statement.{statement}
 use Rattle.hypothesis.proofs.turns.next_change.Tie as tie
 
 abbrev Inv-loop : tie.InvT-loop
-Inv-loop sums seen down a from best runner-up b₀ b = PassesOver sums seen down a (ranking best runner-up 0) from b
+Inv-loop sums contributing down a from best runner-up b₀ b = PassesOver sums contributing down a (ranking best runner-up 0) from b
 
 abbrev μ-loop : tie.MeasureT-loop
-μ-loop sums seen down a from best runner-up b₀ b = down - b
+μ-loop sums contributing down a from best runner-up b₀ b = down - b
 
 loop-holds : tie.Need-loop-holds Inv-loop μ-loop
 loop-holds c = (omega arith, c .pre .2, λ k frame r g. g)
@@ -41,7 +41,7 @@ loop-again c =
     let test = c .before .changes-nothing in (
       omega (arith, i .0),
       omega (arith, l .loop-test .taken),
-      λ k frame r g. held-unchanged k (movedTo (a .sums .now) (a .seen) frame r (a .down) (a .a)) b (a .held) (i .2 k frame r g) (sum .result)
+      λ k frame r g. held-unchanged k (movedTo (a .sums .now) (a .contributing) frame r (a .down) (a .a)) b (a .held) (i .2 k frame r g) (sum .result)
           (sum .ensures) (sym (test .ensures) ∙ not-false (test .result) (c .if1 .left)),
     )
 

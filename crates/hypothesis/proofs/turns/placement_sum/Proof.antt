@@ -1,16 +1,16 @@
 -- `hypothesis::turns::placement_sum` meets its contract. Assumes nothing.
-use mathlib.Core.Path.{_≡_, sym, _∙_}
-use mathlib.Core.Bool.{true, false}
+use mathlib.Core.Path.{_≡_, sym}
 use mathlib.Core.List.{List}
-use Prim.Native.Nat.{ℕ, _+_, _*_, _<_}
+use Prim.Native.Nat.{ℕ, _+_, _*_, _≤_, _<_}
 use native.Mathlib.Nat.{mul-le-mul}
 use native.Mathlib.Omega.{arith}
 use lib.ListN.{getD}
 use lib.Ieee.{Float, nan}
 use borrow.Author.Needs.{needs}
+use borrow.Author.Tests.{lt-ltb, le-ltb}
 use Rattle.ranking.specs.declared.Evidence.the-variants as evidence
-use Rattle.hypothesis.specs.declared.turns.Seen.{Seen}
-use Rattle.hypothesis.specs.Turns.{seenAt, evidenceAt}
+use Rattle.hypothesis.specs.declared.turns.Contributing.{Contributing}
+use Rattle.hypothesis.specs.Turns.{countAt, evidenceAt}
 use Rattle.hypothesis.proofs.Moves.{fits-small}
 use Rattle.hypothesis.proofs.turns.placement_sum.Statement.{statement}
 use Rattle.hypothesis.proofs.turns.placement_sum.Tie as tie
@@ -32,19 +32,20 @@ mul-sum c = record { fits = omega (arith, inside (c .before .before)) }
 element-copy-out-sum : tie.Need-element-copy-out-sum
 element-copy-out-sum c = inside (c .before .before)
 
-module _ (sums : List Float) (seen : Seen) (d a b : ℕ) where
-  told : seenAt seen (a + b) ≡ true → evidence.Number (getD sums (a * d + b) nan) ≡ evidenceAt sums seen d a b
-  told e = rw e
+module _ (sums : List Float) (contributing : Contributing) (d a b : ℕ) where
+  told : 0 < countAt contributing (a + b) → evidence.Number (getD sums (a * d + b) nan) ≡ evidenceAt sums contributing d a b
+  told h = rw (lt-ltb 0 (countAt contributing (a + b)) h)
 
-  not-told : seenAt seen (a + b) ≡ false → evidence.Absent ≡ evidenceAt sums seen d a b
-  not-told e = rw e
+  not-told : countAt contributing (a + b) ≤ 0 → evidence.Absent ≡ evidenceAt sums contributing d a b
+  not-told h = rw (le-ltb 0 (countAt contributing (a + b)) h)
 
 returns : tie.Need-returns
 returns c = let s = c .before .before .before .args in
-    told (s .sums .now) (s .seen) (s .down) (s .a) (s .b) (sym (c .before .before .seen-at .ensures) ∙ c .before .if1 .taken)
+    told (s .sums .now) (s .contributing) (s .down) (s .a) (s .b) (rw (sym (c .before .before .count-at .ensures)) (c .before .if1 .taken))
 
 returns-2 : tie.Need-returns-2
-returns-2 c = let s = c .before .before .args in not-told (s .sums .now) (s .seen) (s .down) (s .a) (s .b) (sym (c .before .seen-at .ensures) ∙ c .if1 .left)
+returns-2 c = let s = c .before .before .args in
+    not-told (s .sums .now) (s .contributing) (s .down) (s .a) (s .b) (rw (sym (c .before .count-at .ensures)) (c .if1 .left))
 
 pub placement-sum-spec : {M : Type 1} → statement M
 placement-sum-spec =

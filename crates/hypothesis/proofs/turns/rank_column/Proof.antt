@@ -14,16 +14,16 @@ use Rattle.hypothesis.proofs.turns.rank_column.Statement.{statement}
 use Rattle.hypothesis.proofs.turns.rank_column.Tie as tie
 
 abbrev Inv-loop : tie.InvT-loop
-Inv-loop ranking sums seen frame turn down a held₀ b₀ held b =
-    (b ≤ down) × (held .total ≤ ranking .total + b) × Held ranking (movedTo sums seen frame turn down a) b held
+Inv-loop ranking sums contributing frame turn down a held₀ b₀ held b =
+    (b ≤ down) × (held .total ≤ ranking .total + b) × Held ranking (movedTo sums contributing frame turn down a) b held
 
 abbrev μ-loop : tie.MeasureT-loop
-μ-loop ranking sums seen frame turn down a held₀ b₀ held b = down - b
+μ-loop ranking sums contributing frame turn down a held₀ b₀ held b = down - b
 
 -- the placements of the column
 module _ (c : tie.Start Inv-loop μ-loop) where
   abbrev row : ℕ → Hypothesis
-  row = let x = c .args in movedTo (x .sums .now) (x .seen) (x .frame) (x .turn) (x .down) (x .a)
+  row = let x = c .args in movedTo (x .sums .now) (x .contributing) (x .frame) (x .turn) (x .down) (x .a)
 
 loop-holds : tie.Need-loop-holds Inv-loop μ-loop
 loop-holds c =

@@ -13,15 +13,15 @@ use Rattle.hypothesis.proofs.turns.rank_turn.Statement.{statement}
 use Rattle.hypothesis.proofs.turns.rank_turn.Tie as tie
 
 abbrev Inv-loop : tie.InvT-loop
-Inv-loop sums seen frame turn across down held₀ a₀ held a = (a ≤ across) × (held ≡ rankedTurn held₀ sums seen frame turn a down)
+Inv-loop sums contributing frame turn across down held₀ a₀ held a = (a ≤ across) × (held ≡ rankedTurn held₀ sums contributing frame turn a down)
 
 abbrev μ-loop : tie.MeasureT-loop
-μ-loop sums seen frame turn across down held₀ a₀ held a = across - a
+μ-loop sums contributing frame turn across down held₀ a₀ held a = across - a
 
 -- the placements of the turn, by their move and in order
 module _ (c : tie.Start Inv-loop μ-loop) where
   abbrev by-move : ℕ → ℕ → Hypothesis
-  by-move = let x = c .args in movedTo (x .sums .now) (x .seen) (x .frame) (x .turn) (x .down)
+  by-move = let x = c .args in movedTo (x .sums .now) (x .contributing) (x .frame) (x .turn) (x .down)
 
   abbrev in-order : ℕ → Hypothesis
   in-order j = by-move (j / c .args .down) (j % c .args .down)

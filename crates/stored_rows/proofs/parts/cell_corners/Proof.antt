@@ -7,7 +7,7 @@ use Rattle.stored_rows.proofs.parts.cell_corners.Statement.{statement}
 use Rattle.stored_rows.proofs.parts.cell_corners.Tie as tie
 
 abbrev Inv-loop : tie.InvT-loop
-Inv-loop u v px words₀ k₀ words k = 17 ≡ length words
+Inv-loop u v px words₀ k₀ words k = 19 ≡ length words
 
 abbrev μ-loop : tie.MeasureT-loop
 μ-loop u v px words₀ k₀ words k = 8 - k

@@ -7,7 +7,7 @@ use Rattle.stored_rows.proofs.parts.table_entries.Statement.{statement}
 use Rattle.stored_rows.proofs.parts.table_entries.Tie as tie
 
 abbrev Inv-loop : tie.InvT-loop
-Inv-loop first words₀ k₀ words k = 17 ≡ length words
+Inv-loop first words₀ k₀ words k = 19 ≡ length words
 
 abbrev μ-loop : tie.MeasureT-loop
 μ-loop first words₀ k₀ words k = 16 - k
