@@ -1,24 +1,9 @@
-# The lines that `minimal` is to print for a shot record that is placed, worked out apart from the library: from the record's bytes, and from
-# the line `best` that the second model prints for it (samples/*.txt).
+# The lines that `minimal` is to print for a shot record that is placed, by a rule of their own: from the board and its cells, as the record's readers tell
+# them, and from the line `best` that the second model prints for it (samples/*.txt).
 #
-#     od -An -v -tu1 FILE | awk -v turn=TURN -v tx=TX -v ty=TY -f expected_corners.awk | sort -k2n
+#     from_header --fields FILE | awk -v turn=TURN -v tx=TX -v ty=TY -f expected_corners.awk | sort -k2n
 #
 # A cell's centre lies on the centre of its square, and its corners lie around it as the turn says. Points are counted in halves of a cell.
-
-{ for (k = 1; k <= NF; k++) byte[count++] = $k }
-
-function number(bytes,   x, k) {
-    for (k = bytes - 1; k >= 0; k--) x = 256 * x + byte[at + k]
-    at += bytes
-    return x
-}
-
-function signed(   x) { x = number(2); return x < 32768 ? x : x - 65536 }
-
-function float(   x) {
-    x = number(4)
-    return (8388608 + x % 8388608) * 2 ^ (int(x / 8388608) - 150)   # above 0 and normal
-}
 
 function turn_x(x, y) { return turn == 0 ? x : turn == 1 ? y : turn == 2 ? -x : -y }
 function turn_y(x, y) { return turn == 0 ? y : turn == 1 ? -x : turn == 2 ? -y : x }
@@ -36,20 +21,6 @@ function corners_of(u, v,   right, down, i, j, id) {
         }
 }
 
-END {
-    given = number(1)
-    at += 4 * (given % 2 + int(given / 2) % 2 + int(given / 4) % 2) + 2044 * (int(given / 8) % 2)
-    rows = number(1); cols = number(1); bits = number(1); border = number(1)
-    size = float(); number(4)
-    codes = number(2)
-    at += 8 * codes
-    cells = number(2)
-    map = at
-    at += int((cells + 7) / 8)
-    for (k = 0; k < cells; k++) {
-        u = signed(); v = signed()
-        if (int(byte[map + int(k / 8)] / 2 ^ (k % 8)) % 2) at += 5 + (bits + 2 * border) ^ 2
-        corners_of(u, v)
-    }
-    if (at != count) print "the record does not end where its last field does"
-}
+$1 == "board" && NF == 4 && NR == 1 { rows = $2; cols = $3; size = $4; next }
+$1 == "cell" && NF == 3 && rows { corners_of($2, $3); next }
+{ print "this is neither a board nor a cell: " $0 }

@@ -3,6 +3,7 @@
  * library's sources: what the header says otherwise than the library does shows in the answers, which examples/run holds to the texts in samples/.
  *
  *     from_header FILE...
+ *     from_header --fields FILE...    rows, columns and cell size of the board, then u and v of each cell, for examples/expected_corners.awk
  *
  * Exit status: 0 every record was answered, 1 a file cannot be read or the answers cannot be written, 2 no file is named.
  */
@@ -94,19 +95,39 @@ static int add_corner(size_t *count, int32_t u, int32_t v)
     return 0;
 }
 
+/* 1 if the record has a header, which is then in head; else the refusal is printed. */
+static int read_header(size_t len, uint32_t *head)
+{
+    const uint32_t saved = charuco_floats_enter();
+    const uint32_t number = charuco_read_header(record, len, head, CHARUCO_HEADER_WORDS);
+
+    charuco_floats_leave(saved);
+    if (number != CHARUCO_OK)
+        print_refusal("header", number, head);
+    return number == CHARUCO_OK;
+}
+
+/* 1 if the record has a cell k, which is then in cell; else a line says what was answered. */
+static int read_cell(size_t len, size_t k, uint32_t *cell)
+{
+    const uint32_t saved = charuco_floats_enter();
+    const uint32_t number = charuco_cell(record, len, k, cell, CHARUCO_CELL_WORDS);
+
+    charuco_floats_leave(saved);
+    if (number == CHARUCO_OK && cell[CHARUCO_CELL_STATE] != CHARUCO_CELL_ABSENT)
+        return 1;
+    printf("cell %zu: number %" PRIu32 ", state %" PRIu32 "\n", k, number, cell[CHARUCO_CELL_STATE]);
+    return 0;
+}
+
 static void map_corners(size_t len, const uint32_t *match)
 {
     uint32_t head[CHARUCO_HEADER_WORDS] = {0}, values[CHARUCO_REFUSAL_WORDS] = {0};
     uint32_t number, saved;
     size_t k, codes_len, cells_len, count = 0;
 
-    saved = charuco_floats_enter();
-    number = charuco_read_header(record, len, head, CHARUCO_HEADER_WORDS);
-    charuco_floats_leave(saved);
-    if (number != CHARUCO_OK) {
-        print_refusal("header", number, head);
+    if (!read_header(len, head))
         return;
-    }
     codes_len = head[CHARUCO_HEADER_CODES];
     cells_len = head[CHARUCO_HEADER_CELLS];
     if (codes_len > CHARUCO_MAX_CODES || cells_len > CHARUCO_MAX_CELLS) {
@@ -127,13 +148,8 @@ static void map_corners(size_t len, const uint32_t *match)
     for (k = 0; k < cells_len; k++) {
         uint32_t cell[CHARUCO_CELL_WORDS] = {0};
         int32_t u, v;
-        saved = charuco_floats_enter();
-        number = charuco_cell(record, len, k, cell, CHARUCO_CELL_WORDS);
-        charuco_floats_leave(saved);
-        if (number != CHARUCO_OK || cell[CHARUCO_CELL_STATE] == CHARUCO_CELL_ABSENT) {
-            printf("cell %zu: number %" PRIu32 ", state %" PRIu32 "\n", k, number, cell[CHARUCO_CELL_STATE]);
+        if (!read_cell(len, k, cell))
             return;
-        }
         u = word_int(cell[CHARUCO_CELL_U]);
         v = word_int(cell[CHARUCO_CELL_V]);
         if (add_corner(&count, u, v) != 0 || add_corner(&count, u + 1, v) != 0 ||
@@ -165,6 +181,22 @@ static void map_corners(size_t len, const uint32_t *match)
         const uint32_t *c = corners + k * CHARUCO_CORNER_WORDS;
         const int32_t *g = grid + (size_t)c[CHARUCO_CORNER_INDEX] * CHARUCO_GRID_POINT_WORDS;
         printf("corner id %" PRIu32 " u %" PRId32 " v %" PRId32 "\n", c[CHARUCO_CORNER_ID], g[1], g[2]);
+    }
+}
+
+static void show_fields(size_t len)
+{
+    uint32_t head[CHARUCO_HEADER_WORDS] = {0}, cell[CHARUCO_CELL_WORDS] = {0};
+    size_t k;
+
+    if (!read_header(len, head))
+        return;
+    printf("board %" PRIu32 " %" PRIu32 " %.17g\n", head[CHARUCO_HEADER_ROWS], head[CHARUCO_HEADER_COLS],
+           (double)word_float(head[CHARUCO_HEADER_CELL_SIZE]));
+    for (k = 0; k < head[CHARUCO_HEADER_CELLS]; k++) {
+        if (!read_cell(len, k, cell))
+            return;
+        printf("cell %" PRId32 " %" PRId32 "\n", word_int(cell[CHARUCO_CELL_U]), word_int(cell[CHARUCO_CELL_V]));
     }
 }
 
@@ -204,18 +236,22 @@ static void show(size_t len)
 
 int main(int argc, char **argv)
 {
+    const int fields = argc > 1 && strcmp(argv[1], "--fields") == 0;
     int k, status = 0;
 
-    if (argc < 2) {
-        fprintf(stderr, "usage: %s FILE...\n", argv[0]);
+    if (argc < 2 + fields) {
+        fprintf(stderr, "usage: %s [--fields] FILE...\n", argv[0]);
         return 2;
     }
-    for (k = 1; k < argc; k++) {
+    for (k = 1 + fields; k < argc; k++) {
         size_t len;
-        printf("%s\n", argv[k]);
+        if (!fields)
+            printf("%s\n", argv[k]);
         if (read_file(argv[k], &len) != 0) {
             printf("not read\n");
             status = 1;
+        } else if (fields) {
+            show_fields(len);
         } else {
             show(len);
         }

@@ -3,6 +3,7 @@
 full.shot     256 cells, each with a marker that is read, on a board of 32 x 32 squares
 whole.shot    65,535 bytes, the longest record that question 21 lets through
 longer.shot   one byte more, which question 21 refuses
+longest.shot  two bytes more
 seven.shot    samples/lane4.shot with a board of 32 x 32 squares, for which its dictionary is too small
 neighbours.shot   samples/lane4.shot with a minimum margin that is the next float above its margin
 high.shot     samples/glare.shot with a minimum margin of 100
@@ -100,6 +101,7 @@ def main(out):
     (out / "full.shot").write_bytes(full)
     (out / "whole.shot").write_bytes(whole)
     (out / "longer.shot").write_bytes(whole + b"\0")
+    (out / "longest.shot").write_bytes(whole + b"\0\0")
 
     (out / "none.shot").write_bytes(half_turn())
 

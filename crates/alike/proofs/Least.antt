@@ -1,14 +1,13 @@
 -- Codes are alike exactly if their least turns are equal. For every side above 0. Assumes nothing.
-use mathlib.Core.Path.{_≡_, refl, sym, ap, subst, _∙_}
-use mathlib.Core.Bool.{Bool, true, false, not, cond}
+use mathlib.Core.Path.{_≡_, sym, ap, subst, _∙_}
 use mathlib.Core.Logic.{_⊎_, inl, inr}
-use Prim.Native.Nat.{ℕ, _+_, _*_, _%_, _≤_, _<_}
-use native.Mathlib.Nat.{le-antisymm, le-trans, zero-add, add-mul-mod-self-right}
+use Prim.Native.Nat.{ℕ, _+_, _*_, _%_, _≤_, _<_, min}
+use native.Mathlib.Nat.{le-antisymm, le-of-lt, zero-add, add-mul-mod-self-right, min-eq-left, min-eq-right}
 use native.Mathlib.Omega.{arith}
-use lib.Dec.{leb, T, leb→le, nleb→lt}
+use Rattle.integers.proofs.Distances.{lt-or-le}
 use Rattle.matcher.specs.Codes.{turned}
 use Rattle.matcher.proofs.Turns.{each-turn, turned-turned, turns-mod, turned-below}
-use Rattle.alike.specs.Quarters.{quarters, lesser, leastTurn}
+use Rattle.alike.specs.Quarters.{quarters, leastTurn}
 use Rattle.alike.proofs.QuarterTurns.{quarters-determine}
 
 -- b is a after some turns
@@ -26,20 +25,10 @@ met-alike n a b i j met = record {
       ∙ ap (λ (k : ℕ). turned n k b) (ap (λ (k : ℕ). k % 4) (omega arith) ∙ add-mul-mod-self-right 0 j 4);
 }
 
--- ---- the lesser of two
-pub record Lesser (a b x : ℕ) : Type 0 where
-  pub one : (x ≡ a) ⊎ (x ≡ b)
-  pub left : x ≤ a
-  pub right : x ≤ b
-
-pub is-lesser : (a b : ℕ) → Lesser a b (lesser a b)
-is-lesser a b = go (leb a b) (leb→le a b) (nleb→lt a b)
-  where
-    go : (t : Bool) → (T t → a ≤ b) → (T (not t) → b < a) → Lesser a b (cond t a b)
-    go true y n = record { one = inl refl; left = omega arith; right = y tt }
-    go false y n = let l = n tt in record { one = inr refl; left = omega arith; right = omega arith }
-
 -- ---- the least of the four turns
+one-of : (a b : ℕ) → (min a b ≡ a) ⊎ (min a b ≡ b)
+one-of a b = elim (lt-or-le b a) [ inl l ↦ inr (min-eq-right (le-of-lt l)) | inr l ↦ inl (min-eq-left l) ]
+
 module _ (n c : ℕ) where
   abbrev after : ℕ → ℕ
   after r = quarters n (turned n r c)
@@ -47,33 +36,18 @@ module _ (n c : ℕ) where
   after-mod : (r : ℕ) → after (r % 4) ≡ after r
   after-mod r = ap (quarters n) (turns-mod n r c)
 
-  abbrev first : Lesser (after 0) (after 1) (lesser (after 0) (after 1))
-  first = is-lesser (after 0) (after 1)
-
-  abbrev second : Lesser (after 2) (after 3) (lesser (after 2) (after 3))
-  second = is-lesser (after 2) (after 3)
-
-  abbrev both : Lesser (lesser (after 0) (after 1)) (lesser (after 2) (after 3)) (leastTurn n c)
-  both = is-lesser (lesser (after 0) (after 1)) (lesser (after 2) (after 3))
-
   -- it is one of them
   reached : (r : ℕ) × (leastTurn n c ≡ after r)
-  reached = go (both .one)
+  reached = elim (one-of (min (after 0) (after 1)) (min (after 2) (after 3))) [ inl e ↦ from 0 1 e | inr e ↦ from 2 3 e ]
     where
-      from : (i j x : ℕ) → (x ≡ after i) ⊎ (x ≡ after j) → leastTurn n c ≡ x → (r : ℕ) × (leastTurn n c ≡ after r)
-      from i j x (inl e) f = (i, f ∙ e)
-      from i j x (inr e) f = (j, f ∙ e)
-
-      go : (leastTurn n c ≡ lesser (after 0) (after 1)) ⊎ (leastTurn n c ≡ lesser (after 2) (after 3)) → (r : ℕ) × (leastTurn n c ≡ after r)
-      go (inl f) = from 0 1 (lesser (after 0) (after 1)) (first .one) f
-      go (inr f) = from 2 3 (lesser (after 2) (after 3)) (second .one) f
+      from : (i j : ℕ) → leastTurn n c ≡ min (after i) (after j) → (r : ℕ) × (leastTurn n c ≡ after r)
+      from i j e = elim (one-of (after i) (after j)) [ inl f ↦ (i, e ∙ f) | inr f ↦ (j, e ∙ f) ]
 
   -- and below all others
   under : (r : ℕ) → leastTurn n c ≤ after r
   under r =
       subst (λ (x : ℕ). leastTurn n c ≤ x) (after-mod r)
-      (each-turn (λ (s : ℕ). leastTurn n c ≤ after s) (le-trans (both .left) (first .left)) (le-trans (both .left) (first .right))
-      (le-trans (both .right) (second .left)) (le-trans (both .right) (second .right)) r)
+      (each-turn (λ (s : ℕ). leastTurn n c ≤ after s) (omega arith) (omega arith) (omega arith) (omega arith) r)
 
 -- turns of b are turns of a
 module _ (n a b : ℕ) (alike : Alike n a b) where

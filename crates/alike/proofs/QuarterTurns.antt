@@ -7,8 +7,8 @@ use native.Mathlib.Omega.{arith}
 use lib.Arith.{digits-lt, digits-div, digits-mod}
 use lib.Pow.{pow-add, pow-pos, pow-mono, split, high, low, shr-lt, shl-exact}
 use Rattle.matcher.specs.declared.Place.{Place}
-use Rattle.matcher.specs.Codes.{bit, fromBits, bitPlace, indexOf, source, sourceBit, turned, turnedBit}
-use Rattle.matcher.proofs.Bits.{Bits, bit-small, from-ext, from-below, bit-from, bits-determine}
+use Rattle.matcher.specs.Codes.{bit, fromBits, bitPlace, indexOf, source, sourceBit, turned}
+use Rattle.matcher.proofs.Bits.{bit-small, from-ext, from-below, bit-from, bits-determine}
 use Rattle.matcher.proofs.Turns.{Inside, place-inside, index-below, place-index, source-inside, sources, bit-turned, turned-turned}
 use Rattle.integers.proofs.Distances.{lt-or-le}
 use Rattle.alike.specs.Quarters.{half, quarter, quarterSource, quarters, movedOn}

@@ -1,10 +1,8 @@
 -- The top left quarter of a code, after 0, 1, 2 and 3 quarter turns, one behind the other. A quarter turn of the code moves these on by one, so
 -- that codes that are alike have the same least number among their four turns.
 use mathlib.Core.Path.{_≡_}
-use Prim.Native.Nat.{ℕ, _+_, _*_, _/_, _%_, _^_, _<_}
-use mathlib.Core.Bool.{cond}
+use Prim.Native.Nat.{ℕ, _+_, _*_, _/_, _%_, _^_, _<_, min}
 use mathlib.Core.List.{List}
-use lib.Dec.{leb}
 use lib.ListN.{getD}
 use Rattle.matcher.specs.Codes.{bit, fromBits, bitPlace, indexOf, source, turned}
 
@@ -26,13 +24,10 @@ quarters n code = fromBits (λ (k : ℕ). bit code (quarterSource n k)) (4 * qua
 abbrev pub movedOn : ℕ → ℕ → ℕ
 movedOn m w = w / 2 ^ m + w % 2 ^ m * 2 ^ (3 * m)
 
-abbrev pub lesser : ℕ → ℕ → ℕ
-lesser a b = cond (leb a b) a b
-
 abbrev pub leastTurn : ℕ → ℕ → ℕ
 leastTurn n code =
     let after : ℕ → ℕ = λ r. quarters n (turned n r code) in
-    lesser (lesser (after 0) (after 1)) (lesser (after 2) (after 3))
+    min (min (after 0) (after 1)) (min (after 2) (after 3))
 
 -- l holds which bit of a code each bit below n of its quarters is
 abbrev pub QuarterSources : ℕ → ℕ → List ℕ → Type 0

@@ -2,10 +2,10 @@
 // definitions and laws `integers`.
 ghost use mathlib.Core.Path.{_≡_};
 ghost use mathlib.Core.Bool.{not};
-ghost use Prim.Native.Nat.{_≤_, _<_};
+ghost use Prim.Native.Nat.{_≤_, _<_, min};
 ghost use lib.ListN.{length, getD};
 ghost use Rattle.alike.specs.Alike.{twoAlike};
-ghost use Rattle.alike.specs.Quarters.{lesser, HasLeast};
+ghost use Rattle.alike.specs.Quarters.{HasLeast};
 
 mod quarters;
 
@@ -35,7 +35,7 @@ fn code_at(codes: &[u64], k: usize) -> u64
 // Are no two of the first `count` codes alike? No board has more than 512 markers, so no more are looked at.
 pub fn none_alike(bits: u8, codes: &[u64], count: usize) -> bool
     requires { ⌜ (1 ≤ bits) × (bits ≤ 8) ⌝ }
-    ensures { λ r. ⌜ r ≡ not (twoAlike bits (now (codes .entry)) (lesser count 512)) ⌝ }
+    ensures { λ r. ⌜ r ≡ not (twoAlike bits (now (codes .entry)) (min count 512)) ⌝ }
 {
     let n = quarters::lesser(count as u64, 512) as usize;
     let mut least: [u64; 512] = [0; 512];

@@ -1,9 +1,9 @@
 // The quarters of a code and the least of its turns.
 ghost use mathlib.Core.Path.{_≡_};
-ghost use Prim.Native.Nat.{ℕ, _*_, _^_, _<_, _≤_};
+ghost use Prim.Native.Nat.{ℕ, _*_, _^_, _<_, _≤_, min};
 ghost use lib.ListN.{getD};
 ghost use Rattle.matcher.specs.Codes.{bit, fromBits};
-ghost use Rattle.alike.specs.Quarters.{quarter as quarterOf, quarterSource, QuarterSources, movedOn, lesser as lesserOf, leastTurn};
+ghost use Rattle.alike.specs.Quarters.{quarter as quarterOf, quarterSource, QuarterSources, movedOn, leastTurn};
 use matcher::Place;
 
 // How many bits a quarter has.
@@ -73,7 +73,7 @@ fn moved_on(m: usize, w: u64) -> u64
 }
 
 pub fn lesser(a: u64, b: u64) -> u64
-    ensures { λ r. ⌜ r ≡ lesserOf a b ⌝ }
+    ensures { λ r. ⌜ r ≡ min a b ⌝ }
 {
     if a <= b {
         return a;

@@ -1,18 +1,17 @@
 -- What the board's questions tell of a specification and its codes, and how an entry's own questions follow them. Assumes nothing.
 use mathlib.Core.Path.{_≡_, refl, sym, ap, ap₂, _∙_}
-use mathlib.Core.Bool.{Bool, true, false, cond, _&&_}
+use mathlib.Core.Bool.{Bool, true, false, _&&_}
 use mathlib.Core.List.{List, [], _∷_}
 use mathlib.Core.Option.{Option, none, some}
-use Prim.Native.Nat.{ℕ, zero, suc, _+_, _*_, _^_, _≤_, _<_}
-use native.Mathlib.Nat.{le-of-suc-le-suc, mul-le-mul}
+use Prim.Native.Nat.{ℕ, zero, suc, _+_, _*_, _^_, _≤_, _<_, min}
+use native.Mathlib.Nat.{le-of-suc-le-suc, mul-le-mul, min-eq-left}
 use native.Mathlib.Numerals.{add-one}
 use native.Mathlib.Omega.{arith}
 use lib.Dec.{leb, ltb, ltb→lt}
 use lib.ListN.{length, getD, drop}
 use lib.Seq.{drop-cons}
-use borrow.Author.Tests.{leb-true, le-leb, not-true}
+use borrow.Author.Tests.{leb-true, not-true}
 use Rattle.alike.specs.Alike.{twoAlike}
-use Rattle.alike.specs.Quarters.{lesser}
 use Rattle.alike.proofs.Laws.{names-one}
 use Rattle.matcher.specs.Codes.{turned}
 use Rattle.refusal.specs.declared.Refusal.{Refusal}
@@ -134,8 +133,8 @@ sized-few s count b e =
     let r = sized s count none (m .0) .0 .in-range in
     rw (m .1) (omega (arith, same-count (boardOf s), mul-le-mul {n₂ = 32} {m₂ = 32} (r .rows) (r .cols)))
 
-pub sized-count : (s : CharucoBoardSpec) (count : ℕ) (b : Board) → sizedBoard s count ≡ new.Made b → lesser (markerTotal b) 512 ≡ markerTotal b
-sized-count s count b e = ap (λ (t : Bool). cond t (markerTotal b) 512) (le-leb (markerTotal b) 512 (sized-few s count b e))
+pub sized-count : (s : CharucoBoardSpec) (count : ℕ) (b : Board) → sizedBoard s count ≡ new.Made b → min (markerTotal b) 512 ≡ markerTotal b
+sized-count s count b e = min-eq-left (sized-few s count b e)
 
 -- ---- questions 8 and 22
 pub codes-step : (bits : ℕ) (codes : List ℕ) (k : ℕ) (c : Bool) → k < length codes → codeInRange bits (getD codes k 0) ≡ c

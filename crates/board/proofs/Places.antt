@@ -8,9 +8,7 @@ use native.Mathlib.Omega.{arith}
 use lib.Dec.{T, T-not, ltb, eqb, ltb→lt, lt→ltb, nltb→le, eqb→eq, eqb-refl}
 use lib.Arith.{digits-lt, digits-div, digits-mod}
 use lib.Ieee.Fits.{and-l, and-r, and-i}
-use Rattle.board.specs.declared.Numbered.{Numbered}
 use Rattle.board.specs.declared.Numbered.the-variants as numbered
-use Rattle.board.specs.declared.Located.{Located}
 use Rattle.board.specs.declared.Located.the-variants as located
 use Rattle.board.specs.Numbering.{countPassing, byRank, countBefore, total, numberIf, numberAt, locatedIf, search, placeNumbered}
 use Rattle.board.proofs.Counting.{count-past, count-once, reached}

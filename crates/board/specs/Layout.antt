@@ -27,7 +27,7 @@ oddParity = 1
 
 -- The parity of a board, in this one place. Document 01: "Squares with i + j odd hold markers." Document 02: a legacy board with an even row count
 -- begins with a white square at the top left, "There the markers sit on squares with i + j even … With an odd row count nothing differs."
--- Folded, so that no proof uses which one it is.
+-- Folded: no proof of a crate above uses which one it is, but for the worked examples.
 unfoldable pub parityOf : Board → ℕ
 parityOf b = cond (b .«legacy_pattern» && eqb (b .rows % 2) 0) evenParity oddParity
 

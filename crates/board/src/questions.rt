@@ -1,10 +1,9 @@
 // The answers to the questions 1 to 8 of document 01 and 22 of document 02 that are more than one comparison, and the board that passed them.
 ghost use mathlib.Core.Path.{_≡_};
-ghost use Prim.Native.Nat.{_≤_};
+ghost use Prim.Native.Nat.{_≤_, min};
 ghost use Rattle.board.specs.Questions.{sizeAnswer, cellSizeAnswer, markerSizeAnswer, rangeAnswer, codeInRange, codesAnswer, boardOf, judgedBy};
 ghost use mathlib.Core.Bool.{not};
 ghost use Rattle.alike.specs.Alike.{twoAlike};
-ghost use Rattle.alike.specs.Quarters.{lesser};
 ghost use Rattle.board.specs.Layout.{markerTotal};
 use super::Board;
 use super::CharucoBoardSpec;
@@ -78,7 +77,7 @@ pub fn codes(bits: u8, codes: &[u64]) -> bool
 // stand first.
 pub fn judged(board: Board, in_range: bool, codes: &[u64]) -> NewBoard
     requires { ⌜ (1 ≤ board .bits) × (board .bits ≤ 8) ⌝ }
-    ensures { λ r. ⌜ r ≡ judgedBy «in_range» (not (twoAlike (board .bits) (now (codes .entry)) (lesser (markerTotal board) 512))) board ⌝ }
+    ensures { λ r. ⌜ r ≡ judgedBy «in_range» (not (twoAlike (board .bits) (now (codes .entry)) (min (markerTotal board) 512))) board ⌝ }
 {
     if !in_range {
         return NewBoard::Refused(Refusal::CodeOutOfRange);

@@ -1,5 +1,5 @@
 -- The answer of a shot whose search chose a placement, by what the program tests. Assumes nothing.
-use mathlib.Core.Path.{_≡_, refl, sym, ap, ap₂, subst, _∙_}
+use mathlib.Core.Path.{_≡_, sym, ap, ap₂, subst, _∙_}
 use mathlib.Core.Bool.{true, false}
 use mathlib.Core.List.{List, [], _∷_, _++_, flatMap}
 use mathlib.Core.Option.{none}
@@ -36,7 +36,7 @@ use Rattle.board_match.proofs.Placing.{narrow, no-markers, placed}
 pub near-best : (bytes : List ℕ) → PassedShot (shot bytes) → (x : Selection) → enumerate (shot bytes) ≡ enumerated.Selected x
     → NearAlignment (x .best .alignment)
 near-best bytes p x e =
-    let b = best-placed (shot bytes) p (x .best) (chosen (shot bytes) x e .best-is) in (omega (arith, b .tx), omega (arith, b .ty))
+    let b = best-placed (shot bytes) p (x .best) (chosen (shot bytes) x e .best-is) .small in (omega (arith, b .tx), omega (arith, b .ty))
 
 pub room-for : (bytes lent : List ℕ) → askedBefore15 (shot bytes) (length lent) ≡ none → 18 * cellTotal (shot bytes) ≤ length lent
 room-for bytes lent asked = sound (shot bytes) (length lent) asked .room

@@ -74,8 +74,7 @@ module _ (s : Shot) (p : PassedShot s) (b : Hypothesis) (is : best s ≡ choice.
   aligned : (m : Match) → _≡_ {A = Matched} (matched.Placed (matchOf s b)) (matched.Placed m) → CornersAligned m
   aligned m e =
       let same : matchOf s b ≡ m = cc in
-      let q = best-placed s p b is in
-      subst CornersAligned same (record { are = refl; turn = q .turn; tx = q .tx; ty = q .ty })
+      subst CornersAligned same (record { are = refl; small = best-placed s p b is .small })
 
 pub match-corners : CornersRule
 match-corners bytes lent small m =

@@ -13,7 +13,7 @@ use Rattle.refusal.specs.declared.Refusal.{Refusal}
 use Rattle.refusal.specs.declared.Refusal.the-variants as refusal
 use Rattle.refusal.specs.Questions.{ask}
 use Rattle.refusal.proofs.Questions.{rest-asked, refusal-stands}
-use Rattle.lent_list.specs.Front.{inFront}
+use Rattle.lent_list.specs.Front.{inFront, atExit}
 use Rattle.shot_record.specs.Shots.{Shot, shot, wholeRecord, parse}
 use Rattle.shot_record.specs.Answers.{configOf}
 use Rattle.shot_record.proofs.Whole.{passed, parse-whole}
@@ -26,7 +26,7 @@ use Rattle.emit.specs.Markers.{Marker, markers, markerWords}
 use Rattle.board_match.specs.declared.Matched.the-variants as matched
 use Rattle.board_match.specs.Questions.{askedOfShot, askedBefore15, afterRecord}
 use Rattle.board_match.specs.Match.{marginWith, marginOf, markersWith, markersOf, marginPasses, marginAnswer, markersAnswer}
-use Rattle.board_match.specs.Match.{askedFrom15, refusedBy, matchOf, answerWith, matchedShot, listWith, leftList, Gives}
+use Rattle.board_match.specs.Match.{askedFrom15, refusedBy, matchOf, answerWith, matchedShot, leftList, Gives}
 use Rattle.board_match.proofs.Order.{shot-goes-on}
 
 module _ (bytes lent : List ℕ) (w : wholeRecord bytes ≡ true) where
@@ -34,16 +34,16 @@ module _ (bytes lent : List ℕ) (w : wholeRecord bytes ≡ true) where
   s = shot bytes
 
   -- by what refuses the shot
-  given : (o : Option Refusal) → refusedBy s (length lent) ≡ o → Gives bytes lent (answerWith o s (best s)) (listWith o (markersOf s) lent)
+  given : (o : Option Refusal) → refusedBy s (length lent) ≡ o → Gives bytes lent (answerWith o s (best s)) (atExit o (flatMap markerWords (markersOf s)) lent)
   given o e =
       let p = parse-whole bytes (passed bytes w) in
       record {
         answers = ap (λ (q : Option Refusal). answerWith q s (best s)) (sym e) ∙ sym (ap (λ (q : Option Shot). matchedShot q (length lent)) p);
-        leaves = ap (λ (q : Option Refusal). listWith q (markersOf s) lent) (sym e) ∙ sym (ap (λ (q : Option Shot). leftList q lent) p);
+        leaves = ap (λ (q : Option Refusal). atExit q (flatMap markerWords (markersOf s)) lent) (sym e) ∙ sym (ap (λ (q : Option Shot). leftList q lent) p);
       }
 
   module _ (asked : askedBefore15 s (length lent) ≡ none) where
-    from-15 : (o : Option Refusal) → askedFrom15 s ≡ o → Gives bytes lent (answerWith o s (best s)) (listWith o (markersOf s) lent)
+    from-15 : (o : Option Refusal) → askedFrom15 s ≡ o → Gives bytes lent (answerWith o s (best s)) (atExit o (flatMap markerWords (markersOf s)) lent)
     from-15 o e = given o (rest-asked (askedOfShot s (length lent)) (shot-goes-on s (length lent)) (askedFrom15 s) asked ∙ e)
 
     pub no-window : length (placements s) ≡ 0 → Gives bytes lent (matched.Refused refusal.TranslationWindow) lent
@@ -90,7 +90,7 @@ module _ (bytes lent : List ℕ) (w : wholeRecord bytes ≡ true) where
             let g = from-15 none (then-17 ∙ ap (λ (t : Bool). ask t refusal.NoMarkers none) (lt-ltb 0 (length found) h)) in
             record {
               answers = ap (answerWith none s) (sym is) ∙ g .answers;
-              leaves = ap (λ (c : Choice). listWith none (markersWith s c) lent) (sym is) ∙ g .leaves;
+              leaves = ap (λ (c : Choice). inFront (flatMap markerWords (markersWith s c)) lent) (sym is) ∙ g .leaves;
             }
 
 -- what is refused before the search, question 21 among it
@@ -106,4 +106,4 @@ refused-answer bytes lent r e = record { answers = answers (parse bytes) e; leav
 
     leaves : (o : Option Shot) → afterRecord o (length lent) ≡ some r → lent ≡ leftList o lent
     leaves none q = refl
-    leaves (some t) q = sym (ap (λ (p : Option Refusal). listWith p (markersOf t) lent) (stands t q))
+    leaves (some t) q = sym (ap (λ (p : Option Refusal). atExit p (flatMap markerWords (markersOf t)) lent) (stands t q))

@@ -1,12 +1,13 @@
 -- A shot that passes has no two cells at one point, so that no placement puts two on one square and no marker is emitted twice. Assumes nothing.
 use mathlib.Core.Path.{_≡_, sym, ap, subst, _∙_}
 use mathlib.Core.List.{List, _++_, flatMap}
-use mathlib.Core.Option.{Option, none}
+use mathlib.Core.Option.{Option}
 use Prim.Native.Nat.{ℕ}
 use native.Mathlib.Omega.{arith}
 use lib.ListN.{length, drop}
 use Rattle.sorting.specs.Order.{AllDifferent}
 use Rattle.refusal.specs.declared.Refusal.{Refusal}
+use Rattle.lent_list.specs.Front.{inFront, atExit}
 use Rattle.lent_list.proofs.Front.{front-is}
 use Rattle.grid_alignment.proofs.Laws.{applied-once}
 use Rattle.shot_record.specs.Shots.{Shot, shot}
@@ -20,7 +21,7 @@ use Rattle.emit.proofs.Ids.{ids-differ}
 use Rattle.board_match.specs.declared.Match.{Match}
 use Rattle.board_match.specs.declared.Matched.{Matched}
 use Rattle.board_match.specs.declared.Matched.the-variants as matched
-use Rattle.board_match.specs.Match.{markersWith, markersOf, matchOf, listWith, leftList, matchList}
+use Rattle.board_match.specs.Match.{markersWith, markersOf, matchOf, leftList, matchList}
 use Rattle.board_match.specs.Repeats.{SquaresRule, IdsRule}
 use Rattle.board_match.proofs.Sound.{sound}
 use Rattle.board_match.proofs.Accurately.{PlacedAt, of-answer}
@@ -39,7 +40,8 @@ module _ (bytes lent : List ℕ) (b : Hypothesis) (p : PlacedAt bytes lent b) wh
   list-is : matchList bytes lent ≡ words ++ drop (length words) lent
   list-is =
       ap (λ (o : Option Shot). leftList o lent) (parse-whole bytes (passed bytes (p .whole)))
-      ∙ ap (λ (o : Option Refusal). listWith o (markersOf s) lent) (p .passes-all) ∙ ap (λ (c : Choice). listWith none (markersWith s c) lent) (p .is)
+      ∙ ap (λ (o : Option Refusal). atExit o (flatMap markerWords (markersOf s)) lent) (p .passes-all)
+      ∙ ap (λ (c : Choice). inFront (flatMap markerWords (markersWith s c)) lent) (p .is)
       ∙ front-is words lent
       (omega (arith, all-words (markers s (b .alignment)), one-per-cell s (b .alignment), sound s (length lent) (p .asked) .room))
 

@@ -1,13 +1,10 @@
 -- The numbers of every answer of Match are small: there is at most one marker for each cell. Assumes nothing.
-use mathlib.Core.Path.{_≡_, refl, ap}
+use mathlib.Core.Path.{_≡_, refl}
 use mathlib.Core.List.{map}
 use Prim.Native.Nat.{_≤_}
 use native.Mathlib.Omega.{arith}
 use lib.ListN.{length, length-map}
-use Rattle.integers.proofs.Parts.{abs-sub}
-use Rattle.grid_alignment.specs.declared.GridAlignment.{GridAlignment}
-use Rattle.grid_alignment.specs.Alignment.{lowestPoint}
-use Rattle.grid_alignment.proofs.Entries.{lowest-small}
+use Rattle.grid_alignment.proofs.Entries.{small-corners}
 use Rattle.shot_record.specs.Shots.{Shot, shot}
 use Rattle.ranking.specs.declared.Hypothesis.{Hypothesis}
 use Rattle.ranking.specs.declared.Choice.{Choice}
@@ -19,27 +16,19 @@ use Rattle.hypothesis.specs.Search.{hypothesis, best, runnerUp}
 use Rattle.hypothesis.specs.Accuracy.{Placement}
 use Rattle.hypothesis.specs.Inputs.{PassedShot}
 use Rattle.hypothesis.proofs.Contributing.{count-rule}
-use Rattle.hypothesis.proofs.Best.{small-translation, best-placed, runner-up-placed}
-use Rattle.hypothesis.proofs.Places.{stands}
+use Rattle.hypothesis.proofs.Best.{small-placement, best-placed, runner-up-placed}
 use Rattle.hypothesis.proofs.Turned.{total-small}
 use Rattle.emit.proofs.Laws.{one-per-cell}
 use Rattle.board_match.specs.Match.{matchOf}
-use Rattle.board_match.specs.Sizes.{SmallAlignment, SmallHypothesis, SmallRunnerUp, SmallMatch, SmallAnswer, SizesRule}
+use Rattle.board_match.specs.Sizes.{SmallHypothesis, SmallRunnerUp, SmallMatch, SmallAnswer, SizesRule}
 use Rattle.board_match.proofs.Accurately.{of-answer}
 
 module _ (s : Shot) (p : PassedShot s) where
-  small-placement : (q : GridAlignment) → Placement s q → SmallAlignment 4127 q
-  unfolding placements
-  small-placement q (k, e) =
-      let o = stands s 4 k q e in
-      let t = small-translation s p k q o in
-      record { turn = omega (arith, ap (λ (a : GridAlignment). a .turn) (o .is), o .turn); tx = t .0; ty = t .1 }
-
   -- a placement of the shot, with its own count
   small-hypothesis : (h : Hypothesis) → Placement s (h .alignment) → h .«contributing_cells» ≡ contributingCells s (h .alignment)
       → SmallHypothesis (cellTotal s) h
   small-hypothesis h placed e =
-      record { alignment = small-placement (h .alignment) placed; contributing = rw e (count-rule s (h .alignment) .at-most) }
+      record { alignment = small-placement s p (h .alignment) placed; contributing = rw e (count-rule s (h .alignment) .at-most) }
 
   few-placements : length (placements s) ≤ 4096
   unfolding placements
@@ -54,22 +43,13 @@ module _ (s : Shot) (p : PassedShot s) where
 
     small-match : SmallMatch (cellTotal s) (matchOf s b)
     small-match =
-        let a = b .alignment in
-        let low = lowestPoint 1 (a .turn) in
-        let l = lowest-small (a .turn) in
         let placed = best-placed s p b is in
-        let small = small-placement a (placed .placement) in
         record {
           best = small-hypothesis b (placed .placement) (placed .count-is);
           runner-up = small-next (runnerUp s) refl;
-          corners =
-              record {
-                turn = small .turn;
-                tx = omega (arith, small .tx, l .0, abs-sub (a .tx) (low .u));
-                ty = omega (arith, small .ty, l .1, abs-sub (a .ty) (low .v));
-              };
+          corners = small-corners 4127 (b .alignment) (placed .small);
           placements = few-placements;
-          markers = one-per-cell s a;
+          markers = one-per-cell s (b .alignment);
           few-cells = p .checked .few;
         }
 

@@ -1,10 +1,9 @@
 -- What a match says of the corners.
-use Prim.Native.Nat.{ℕ, _≤_, _<_}
+use Prim.Native.Nat.{ℕ, _<_}
 use mathlib.Core.Path.{_≡_}
 use mathlib.Core.List.{List}
-use lib.IntN.{natAbs}
 use lib.ListN.{getD}
-use Rattle.grid_alignment.specs.Alignment.{cornerAlignment}
+use Rattle.grid_alignment.specs.Alignment.{cornerAlignment, SmallAlignment}
 use Rattle.board_match.specs.declared.Match.{Match}
 use Rattle.board_match.specs.declared.Matched.the-variants as matched
 use Rattle.board_match.specs.Match.{matchAnswer}
@@ -12,9 +11,7 @@ use Rattle.board_match.specs.Match.{matchAnswer}
 -- the corner alignment is that of the best placement, whose turn is 0 to 3 and whose translation is small
 pub record CornersAligned (m : Match) : Type 0 where
   pub are : m .corners ≡ cornerAlignment (m .best .alignment)
-  pub turn : m .best .alignment .turn < 4
-  pub tx : natAbs (m .best .alignment .tx) ≤ 4127
-  pub ty : natAbs (m .best .alignment .ty) ≤ 4127
+  pub small : SmallAlignment 4127 (m .best .alignment)
 
 -- for every record that is placed
 abbrev pub CornersRule : Type 0

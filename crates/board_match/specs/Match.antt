@@ -8,7 +8,7 @@ use lib.Dec.{ltb}
 use lib.ListN.{length}
 use lib.Ieee.{Float, lt}
 use Rattle.floats.specs.Units.{nought}
-use Rattle.lent_list.specs.Front.{inFront}
+use Rattle.lent_list.specs.Front.{atExit}
 use Rattle.refusal.specs.declared.Refusal.{Refusal}
 use Rattle.refusal.specs.declared.Refusal.the-variants as refusal
 use Rattle.refusal.specs.Questions.{ask}
@@ -19,10 +19,8 @@ use Rattle.shot_record.specs.Answers.{ofPattern, configOf}
 use Rattle.ranking.specs.declared.Hypothesis.{Hypothesis}
 use Rattle.ranking.specs.declared.Choice.{Choice}
 use Rattle.ranking.specs.declared.Choice.the-variants as choice
-use Rattle.ranking.specs.Margin.{margin}
 use Rattle.hypothesis.specs.Placements.{placements}
-use Rattle.hypothesis.specs.Evidence.{capacity}
-use Rattle.hypothesis.specs.Search.{best, runnerUp}
+use Rattle.hypothesis.specs.Search.{best, runnerUp, selection}
 use Rattle.emit.specs.Markers.{Marker, markers, markerWords}
 use Rattle.board_match.specs.declared.Match.{Match}
 use Rattle.board_match.specs.declared.Matched.{Matched}
@@ -32,7 +30,7 @@ use Rattle.board_match.specs.Questions.{askedOfShot}
 -- the best placement's margin, and the markers that are emitted for it
 abbrev pub marginWith : Shot → Choice → Float
 marginWith s choice.Absent = nought
-marginWith s (choice.Placement b) = margin (b .evidence) (capacity s (b .alignment)) (runnerUp s)
+marginWith s (choice.Placement b) = selection s b .margin
 
 abbrev pub marginOf : Shot → Float
 marginOf s = marginWith s (best s)
@@ -98,13 +96,9 @@ abbrev pub matchAnswer : List ℕ → List ℕ → Matched
 matchAnswer bytes lent = matchedShot (parse bytes) (length lent)
 
 -- the list at exit: on a refusal as it was lent, else the markers' words in front and the rest untouched
-abbrev pub listWith : Option Refusal → List Marker → List ℕ → List ℕ
-listWith (some refused) found lent = lent
-listWith none found lent = inFront (flatMap markerWords found) lent
-
 abbrev pub leftList : Option Shot → List ℕ → List ℕ
 leftList none lent = lent
-leftList (some s) lent = listWith (refusedBy s (length lent)) (markersOf s) lent
+leftList (some s) lent = atExit (refusedBy s (length lent)) (flatMap markerWords (markersOf s)) lent
 
 abbrev pub matchList : List ℕ → List ℕ → List ℕ
 matchList bytes lent = leftList (parse bytes) lent

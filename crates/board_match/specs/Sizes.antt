@@ -1,9 +1,8 @@
 -- How large the numbers of a match are.
 use Prim.Native.Nat.{ℕ, _≤_, _<_}
 use mathlib.Core.List.{List}
-use lib.IntN.{natAbs}
 use lib.ListN.{getD}
-use Rattle.grid_alignment.specs.declared.GridAlignment.{GridAlignment}
+use Rattle.grid_alignment.specs.Alignment.{SmallAlignment}
 use Rattle.shot_record.specs.Shots.{shot}
 use Rattle.ranking.specs.declared.Hypothesis.{Hypothesis}
 use Rattle.ranking.specs.declared.Choice.{Choice}
@@ -13,12 +12,6 @@ use Rattle.board_match.specs.declared.Match.{Match}
 use Rattle.board_match.specs.declared.Matched.{Matched}
 use Rattle.board_match.specs.declared.Matched.the-variants as matched
 use Rattle.board_match.specs.Match.{matchAnswer}
-
--- a translation of at most n on each axis
-pub record SmallAlignment (n : ℕ) (a : GridAlignment) : Type 0 where
-  pub turn : a .turn < 4
-  pub tx : natAbs (a .tx) ≤ n
-  pub ty : natAbs (a .ty) ≤ n
 
 -- with a small translation, and with at most so many contributing cells
 pub record SmallHypothesis (cells : ℕ) (h : Hypothesis) : Type 0 where

@@ -4,11 +4,11 @@ ghost use mathlib.Core.Path.{_≡_};
 ghost use mathlib.Core.List.{map};
 ghost use mathlib.Core.Option.{none};
 ghost use lib.ListN.{length};
-ghost use Rattle.shot_record.specs.Shots.{shot};
+ghost use Rattle.shot_record.specs.Shots.{firstCodes, shot};
 ghost use Rattle.shot_record.specs.Answers.{ofPattern};
 ghost use Rattle.shot_record.specs.Index.{Indexed};
 ghost use Rattle.hypothesis.specs.Search.{enumerate};
-ghost use Rattle.hypothesis.specs.Inputs.{firstCodes, Loaded};
+ghost use Rattle.hypothesis.specs.Inputs.{Loaded};
 ghost use Rattle.board_match.specs.Questions.{askedBefore15, askedAnswer};
 ghost use Rattle.board_match.specs.Match.{matchAnswer, matchList, Gives};
 ghost use Rattle.board_match.specs.Accuracy.{Accuracy};
@@ -33,6 +33,7 @@ use shot_record::cells;
 use shot_record::fields;
 use shot_record::fields::Fields;
 use shot_record::index;
+use shot_record::questions as board_questions;
 
 // A placed shot: the best placement and its runner-up, the margin between them, how many placements there are, the alignment of the corners,
 // and how many markers were emitted.
@@ -71,7 +72,7 @@ fn before_15(
     requires { ⌜ Indexed (now bytes) f (now index) × (now table ≡ map ofPattern (shot (now bytes) .table)) × (now codes ≡ firstCodes (shot (now bytes))) ⌝ }
     ensures { λ r. ⌜ r ≡ askedAnswer (now (bytes .entry)) words ⌝ }
 {
-    let made = questions::board(bytes, f, codes);
+    let made = board_questions::board(bytes, f, codes);
     match made {
         NewBoard::Made(board) => {
             let config = fields::config(bytes, f);

@@ -1,28 +1,22 @@
-// What Match asks of a record that question 21 let pass (documents 01 and 02): the questions 1 to 14, 22 and 23, before it searches, and 16.
+// What Match asks of a record whose board passed (documents 01 and 02): the questions 9 to 14 and 23, before it searches, and 16.
 ghost use mathlib.Core.Path.{_≡_};
 ghost use mathlib.Core.Bool.{_&&_};
 ghost use mathlib.Core.List.{map};
 ghost use mathlib.Core.Option.{none};
 ghost use Prim.Native.Nat.{_≤_};
 ghost use Rattle.integers.specs.Tests.{every};
-ghost use Rattle.board.specs.Questions.{newBoard};
 ghost use Rattle.shot_record.specs.Fields.{fieldsOf};
 ghost use Rattle.shot_record.specs.Shots.{shot};
-ghost use Rattle.shot_record.specs.Answers.{ofPattern, configOf, specOf};
+ghost use Rattle.shot_record.specs.Answers.{ofPattern, configOf};
 ghost use Rattle.shot_record.specs.Index.{Indexed};
-ghost use Rattle.hypothesis.specs.Inputs.{firstCodes};
 ghost use Rattle.integers.specs.Distance.{isWithin as withinOf};
 ghost use Rattle.board_match.specs.Questions.{settingsAnswer, tableAnswer, fractionAnswer, askedFrom9, toldAnswer};
 ghost use Rattle.board_match.specs.Entries.{placedIn, borderAnswer, sampledIn};
 ghost use Rattle.board_match.specs.Match.{marginPasses};
-use board::Board;
-use board::NewBoard;
-use board::questions as board_questions;
 use refusal::Refusal;
 use score_matrix::BoardMatchConfig;
 use score_matrix::BorderSample;
 use score_matrix::table;
-use shot_record::bulk;
 use shot_record::fields;
 use shot_record::fields::Fields;
 use shot_record::index;
@@ -30,21 +24,6 @@ use shot_record::index;
 pub enum Answer {
     Passed,
     Refused(Refusal),
-}
-
-// The questions 1 to 8 and 22: the board that the record asks for, by its first 512 codes, of which the markers use some.
-pub fn board(bytes: &[u8], f: Fields, codes: &[u64; 512]) -> NewBoard
-    requires { ⌜ (f ≡ fieldsOf (now bytes)) × (now codes ≡ firstCodes (shot (now bytes))) ⌝ }
-    ensures { λ r. ⌜ r ≡ newBoard (specOf (shot (now (bytes .entry)))) (shot (now (bytes .entry)) .codes) ⌝ }
-{
-    let sized = Board::sized(fields::spec(bytes, f), f.code_count);
-    match sized {
-        NewBoard::Made(board) => {
-            let in_range = bulk::codes_below(bytes, f, codes, board.bits);
-            board_questions::judged(board, in_range, codes)
-        }
-        NewBoard::Refused(refusal) => NewBoard::Refused(refusal),
-    }
 }
 
 // Question 9.

@@ -18,7 +18,7 @@ corners-of-match bytes lent small m e =
     record {
       pass =
           ap alignmentAnswer (c .are)
-          ∙ corner-alignment-passes cells (c .turn) (omega (arith, c .tx)) (omega (arith, c .ty));
+          ∙ corner-alignment-passes cells (record { turn = c .small .turn; tx = omega (arith, c .small .tx); ty = omega (arith, c .small .ty) });
       land = λ k p. ap (λ (a : GridAlignment). applied a (corner k p)) (c .are) ∙ corners-land cells k p;
       ids = λ board grid n p k l g. ap (λ (x : GridAlignment). idOf board x grid n) (c .are) ∙ corners-of-cell board cells grid n p k l g;
     }

@@ -44,7 +44,7 @@ module _ (x : Input) where
       let h = both (cornersAnswer (x .scores) (x .grid)) _ e in
       let p = placed-corners (x .scores) (x .grid) (h .0) in
       let t = both (isWithin 8192 (a .tx)) _ (both (ltb (a .turn) 4) _ (h .1) .1) in
-      record { rows = r; cols = c; few = p .0; placed = p .1; tx = within-abs 8192 (a .tx) (t .0); ty = within-abs 8192 (a .ty) (t .1) }
+      record { rows = r; cols = c; few = p .0; all-placed = p .1; tx = within-abs 8192 (a .tx) (t .0); ty = within-abs 8192 (a .ty) (t .1) }
 
   module _ (lent : List ℕ) where
     -- the answers of the two questions, in order

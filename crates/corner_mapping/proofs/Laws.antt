@@ -4,20 +4,18 @@ use mathlib.Core.Path.{_≡_, refl, sym, ap, ap₂, subst, _∙_}
 use mathlib.Core.Bool.{true, false≢true, _&&_, cond}
 use mathlib.Core.List.{[], _∷_}
 use mathlib.Core.Option.{Option, none, some}
-use Prim.Native.Nat.{ℕ, zero, suc, _+_, _*_, _%_, _≤_, _<_}
+use Prim.Native.Nat.{ℕ, _+_, _*_}
 use native.Mathlib.Nat.{add-zero, mod-mod}
 use native.Mathlib.Numerals.{add-one}
 use native.Mathlib.Omega.{arith}
-use lib.Dec.{lit<, lit≤}
-use lib.IntN.{pos, natAbs, _-ℤ_}
+use lib.IntN.{pos}
 use lib.ListN.{length}
 use borrow.Author.Tests.{eqb-true, lt-ltb}
-use Rattle.integers.proofs.Parts.{abs-sub}
 use Rattle.integers.proofs.Distances.{abs-within}
 use Rattle.grid_alignment.specs.declared.Coord.{Coord}
 use Rattle.matcher.proofs.Turns.{each-turn}
-use Rattle.grid_alignment.specs.Alignment.{point, applied, corner, lowestPoint, cornerAlignment}
-use Rattle.grid_alignment.proofs.Entries.{lowest-small}
+use Rattle.grid_alignment.specs.Alignment.{point, applied, corner, cornerAlignment}
+use Rattle.grid_alignment.proofs.Entries.{small-corners}
 use Rattle.grid_alignment.proofs.Laws.{corners-land}
 use Rattle.board.specs.declared.Numbered.{Numbered}
 use Rattle.board.specs.declared.Numbered.the-variants as numbered
@@ -29,7 +27,7 @@ use Rattle.lent_list.proofs.Front.{up-to-as}
 use Rattle.marker_sampling.specs.Cells.{held, index}
 use Rattle.marker_sampling.specs.Rules.{PassingInOrder}
 use Rattle.marker_sampling.proofs.Laws.{in-order}
-use Rattle.corner_mapping.specs.Corners.{MappedCorner, boardCorner, idAt, idOf, isId, chosen, mappedIf, mappedBy}
+use Rattle.corner_mapping.specs.Corners.{idAt, idOf, isId, chosen, mappedIf, mappedBy}
 use Rattle.corner_mapping.specs.Rules.{ChosenGreatest, NoneBears, resultOf, ResultsInOrder, BoardCornersNamed}
 use Rattle.corner_mapping.specs.Rules.{CornersOfCell, ofFour, CornersOfMarker, CornerAlignmentPasses}
 use Rattle.corner_mapping.proofs.Ids.{placed-at, at-point, on-corner}
@@ -111,9 +109,7 @@ corners-of-marker board cells grid n p k m a b c d l g e f =
 
 -- ---- question 18 of a corner alignment
 pub corner-alignment-passes : CornerAlignmentPasses
-corner-alignment-passes a t x y =
-    let low = lowestPoint 1 (a .turn) in
-    let s = lowest-small (a .turn) in
-    ap₂ _&&_ (lt-ltb (a .turn) 4 t)
-    (ap₂ _&&_ (abs-within 8192 (a .tx -ℤ low .u) (omega (arith, x, s .0, abs-sub (a .tx) (low .u))))
-    (abs-within 8192 (a .ty -ℤ low .v) (omega (arith, y, s .1, abs-sub (a .ty) (low .v)))))
+corner-alignment-passes a h =
+    let c = cornerAlignment a in
+    let s = small-corners 8191 a h in
+    ap₂ _&&_ (lt-ltb (c .turn) 4 (s .turn)) (ap₂ _&&_ (abs-within 8192 (c .tx) (s .tx)) (abs-within 8192 (c .ty) (s .ty)))

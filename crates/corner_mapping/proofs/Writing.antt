@@ -12,7 +12,7 @@ use Rattle.board.specs.declared.ObjectPoint.{ObjectPoint}
 use Rattle.board.specs.declared.ObjectPoint.the-variants as object
 use Rattle.board.specs.Layout.{cornerPlace, objectPoint}
 use Rattle.lent_list.specs.Front.{upTo, Put}
-use Rattle.lent_list.proofs.Front.{nothing-put, put-as, up-to-most, flatMap-length}
+use Rattle.lent_list.proofs.Front.{nothing-put, up-to-most, flatMap-length}
 use Rattle.corner_mapping.specs.Corners.{MappedCorner, mappedIf, mappedBy, placeWords, targetWords, cornerWords, wordsOfCorners}
 use Rattle.corner_mapping.specs.Inner.{choiceOf}
 

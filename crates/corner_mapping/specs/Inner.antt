@@ -7,9 +7,9 @@ use mathlib.Core.Option.{Option, none, some}
 use lib.ListN.{length, getD}
 use lib.IntN.{ℤ, natAbs}
 use Rattle.integers.specs.Distance.{isWithin}
-use Rattle.board.specs.declared.Board.{Board}
+use Rattle.integers.specs.Tests.{every}
 use Rattle.marker_sampling.specs.Cells.{word, labelled, cornersOf}
-use Rattle.marker_sampling.specs.Entry.{corners, allPlaced}
+use Rattle.marker_sampling.specs.Entry.{corners, placed}
 use Rattle.corner_mapping.specs.Corners.{Input, chosenTo}
 
 -- what the questions let pass
@@ -17,7 +17,7 @@ pub record InputInRange (x : Input) : Type 0 where
   pub rows : x .board .rows ≤ 32
   pub cols : x .board .cols ≤ 32
   pub few : length (x .scores) ≤ 1024
-  pub placed : allPlaced 4096 (corners (x .scores) (x .grid)) (length (x .scores)) ≡ true
+  pub all-placed : every (placed 4096 (corners (x .scores) (x .grid))) (length (x .scores)) ≡ true
   pub tx : natAbs (x .alignment .tx) ≤ 8192
   pub ty : natAbs (x .alignment .ty) ≤ 8192
 

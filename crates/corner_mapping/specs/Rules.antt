@@ -1,16 +1,16 @@
 -- What `proofs/Laws.antt` shows of the definitions, for every input.
-use Prim.Native.Nat.{ℕ, _+_, _*_, _≤_, _<_}
+use Prim.Native.Nat.{ℕ, _+_, _*_, _<_}
 use mathlib.Core.Path.{_≡_}
 use mathlib.Core.Bool.{true, false}
 use mathlib.Core.List.{List, [], _∷_}
 use mathlib.Core.Option.{none, some}
-use lib.IntN.{ℤ, pos, natAbs}
+use lib.IntN.{ℤ, pos}
 use lib.ListN.{length}
 use lib.Ieee.{Float, binary32, toBits, mul, ofInt, lt}
 use Rattle.grid_alignment.specs.declared.Coord.{Coord}
 use Rattle.grid_alignment.specs.declared.GridAlignment.{GridAlignment}
 use Rattle.matcher.specs.Codes.{byTurn}
-use Rattle.grid_alignment.specs.Alignment.{point, applied, corner, cornerAlignment}
+use Rattle.grid_alignment.specs.Alignment.{point, applied, corner, cornerAlignment, SmallAlignment}
 use Rattle.board.specs.declared.Board.{Board}
 use Rattle.board.specs.declared.Numbered.the-variants as numbered
 use Rattle.board.specs.declared.Located.the-variants as located
@@ -85,4 +85,4 @@ CornersOfMarker =
 -- question 18 lets pass the corner alignment of every cell alignment with a turn from 0 to 3 and a translation from −8,191 to 8,191
 abbrev pub CornerAlignmentPasses : Type 0
 CornerAlignmentPasses =
-    (a : GridAlignment) → a .turn < 4 → natAbs (a .tx) ≤ 8191 → natAbs (a .ty) ≤ 8191 → alignmentAnswer (cornerAlignment a) ≡ true
+    (a : GridAlignment) → SmallAlignment 8191 a → alignmentAnswer (cornerAlignment a) ≡ true

@@ -18,12 +18,11 @@ use Rattle.board.specs.Layout.{markerOn}
 use Rattle.board.specs.Questions.{boardOf}
 use Rattle.score_matrix.specs.Scores.{samples}
 use Rattle.score_matrix.specs.declared.BorderSample.the-variants as border
-use Rattle.shot_record.specs.Shots.{Sample, Cell, Shot, shot}
+use Rattle.shot_record.specs.Shots.{Sample, Cell, Shot, firstCodes, shot}
 use Rattle.shot_record.specs.Answers.{ofPattern, configOf, specOf, gridWith, borderWith, thresholdWith}
 use Rattle.shot_record.proofs.Lists.{getD-list}
 use Rattle.hypothesis.specs.Placements.{cellTotal, cell}
 use Rattle.hypothesis.specs.Evidence.{tableOf, expected, codeOf}
-use Rattle.hypothesis.specs.Inputs.{firstCodes}
 use Rattle.emit.specs.declared.candidates.Candidate.{Candidate}
 use Rattle.emit.specs.declared.candidates.Expected.the-variants as expectation
 use Rattle.emit.specs.Markers.{emittedWith, emitted}

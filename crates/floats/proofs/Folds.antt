@@ -215,7 +215,3 @@ long-schedule n l = tight-schedule binary32 1 158 n 182 (rw mul-one l) (le-trans
 
 pub long-near : {n : ℕ} {acc : Float} {z : ℤ} → Inv binary32 (2 ^ 158) (tight (2 ^ 158)) n acc z → Near (unitsOf acc) z (n * (n + 1) * 2 ^ 133)
 long-near {n} v = near-wider (errs-tight 24 (2 ^ 133) n) (v .near)
-
-pub long-sum : (t : ℕ → Float) (n : ℕ) → n < 2 ^ 24 → ((k : ℕ) → k < n → Item binary32 (2 ^ 158) (t k))
-    → Item binary32 (n * 2 ^ 158) (sumTo t n) × Near (unitsOf (sumTo t n)) (exactTo t n) (n * (n + 1) * 2 ^ 133)
-long-sum t n l a = let v = sum-error (long-schedule n l) t n (le-refl n) a in (inv-item v, long-near v)

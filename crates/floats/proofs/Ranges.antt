@@ -4,11 +4,11 @@ use Prim.Native.Nat.{ℕ, zero, suc, _+_, _*_, _^_, _≤_, _<_}
 use native.Mathlib.Nat.{le-trans}
 use native.Mathlib.Omega.{arith}
 use mathlib.Core.Bool.{Bool, true, false, not, cond}
-use lib.IntN.{ℤ, pos, natAbs, _-ℤ_}
+use lib.IntN.{pos, natAbs, _-ℤ_}
 use lib.Dec.{T, ltb, ltb→lt, eqb·suc-zero}
 use lib.Ieee.{Float, nan, inf, fin, Format, binary32, prec, emax, low, unlike, up, down, odd, units, round, div, lt, le, eq, fits, isNan}
 use lib.Ieee.Fits.{round-is}
-use Rattle.integers.proofs.Parts.{plus, minus, sub-is-parts, abs-is, parts-le}
+use Rattle.integers.proofs.Parts.{plus, minus, sub-is-parts, abs-is, parts-le, no-plus, no-minus}
 use Rattle.integers.proofs.Distances.{Le}
 use Rattle.floats.specs.Units.{value, Finite, nought, unity, Between, clamp01}
 use Rattle.floats.proofs.Values.{nought-parts}
@@ -66,13 +66,6 @@ pub nonnegative-size : {f : Format} {b : ℕ} {x : Float} → Nonnegative f b x 
 nonnegative-size {f} {b} {x} h = omega (arith, abs-is (value f x))
 
 -- ---- the same as ranges of floats: one end is 0, and the other is any float b
--- one of the parts is 0
-pub no-plus : (z : ℤ) → plus z ≤ minus z → plus z ≡ 0
-no-plus z h = omega (arith, parts-le z (minus z) (omega arith) (omega arith))
-
-pub no-minus : (z : ℤ) → minus z ≤ plus z → minus z ≡ 0
-no-minus z h = omega (arith, parts-le z (plus z) (omega arith) (omega arith))
-
 module _ (f : Format) (b x : Float) (fb : T (fits f b)) (b₀ : Finite b) where
   pub nonpositive : T (fits f x) → Between b nought x → Nonpositive f (minus (value f b)) x
   unfolding fits

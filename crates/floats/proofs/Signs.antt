@@ -11,14 +11,13 @@ use lib.Ieee.{Float, nan, inf, fin, Format, binary32, prec, emax, low, unlike, u
 use lib.Ieee.Fits.{and-l, sub-fits, neg-fits, up-pos, down-pos}
 use lib.Ieee.Order.{round-mono}
 use lib.Ieee.Scale.{round-same}
-use Rattle.integers.proofs.Parts.{plus, minus, plus-neg, minus-neg, sub-is-parts, abs-is}
+use Rattle.integers.proofs.Parts.{plus, minus, plus-neg, minus-neg, sub-is-parts, abs-is, no-plus, no-minus}
 use Rattle.integers.proofs.Distances.{lt-or-le}
 use Rattle.floats.specs.Units.{value, Finite, nought}
 use Rattle.floats.proofs.Values.{whole, value-size, nought-parts}
 use Rattle.floats.proofs.Compare.{le→Le, Le→le}
 use Rattle.floats.proofs.Close.{Close}
 use Rattle.floats.proofs.Sums.{value-neg, finite-neg, sub-close}
-use Rattle.floats.proofs.Ranges.{no-plus, no-minus}
 
 -- ---- x − y is at least 0 where y is at most x
 pub sub-nonnegative : (f : Format) (x y : Float) (K : ℕ) → T (fits f x) → T (fits f y) → Finite x → Finite y

@@ -1,16 +1,18 @@
--- The entries of the turns' matrices: their size, what they make of a point, and the least point of the turned unit square.
--- Assumes nothing.
+-- The entries of the turns' matrices: their size, what they make of a point, and the least point of the turned unit square, by which the corners'
+-- translation differs from the cells'. Assumes nothing.
 use mathlib.Core.Path.{_≡_, refl, ap₂}
-use Prim.Native.Nat.{ℕ, _+_, _*_, _%_, _≤_}
+use Prim.Native.Nat.{ℕ, _+_, _*_, _≤_}
 use native.Mathlib.Nat.{mod-mod}
 use native.Mathlib.Omega.{arith}
 use lib.IntN.{ℤ, pos, negsuc, negℤ, natAbs, _+ℤ_, _*ℤ_}
-use Rattle.integers.proofs.Parts.{plus, minus, ext, add-is, mul-is, plus-neg, minus-neg, abs-neg}
+use Rattle.integers.specs.Least.{lesser}
+use Rattle.integers.proofs.Parts.{plus, minus, ext, add-is, mul-is, plus-neg, minus-neg, abs-neg, abs-sub}
 use Rattle.integers.proofs.Words.{word}
 use Rattle.matcher.proofs.Turns.{by-turn, each-turn}
 use Rattle.grid_alignment.specs.declared.Coord.{Coord}
 use Rattle.grid_alignment.specs.declared.Matrix.{Matrix}
-use Rattle.grid_alignment.specs.Alignment.{point, sends, matrixOf, lesser, lowestPoint}
+use Rattle.grid_alignment.specs.declared.GridAlignment.{GridAlignment}
+use Rattle.grid_alignment.specs.Alignment.{point, sends, matrixOf, lowestPoint, cornerAlignment, SmallAlignment}
 
 -- ---- the entries as factors
 abbrev pub Small : Matrix → Type 0
@@ -66,3 +68,14 @@ unfolding sends lowestPoint
 lowest-small r =
     rw (mod-mod r 4) at (each-turn (λ m. (natAbs (lowestPoint 1 m .u) ≤ 1) × (natAbs (lowestPoint 1 m .v) ≤ 1)) (omega arith) (omega arith)
     (omega arith) (omega arith) r)
+
+-- the translation of the corners is that of the cells or one more
+pub small-corners : (n : ℕ) (a : GridAlignment) → SmallAlignment n a → SmallAlignment (n + 1) (cornerAlignment a)
+small-corners n a h =
+    let low = lowestPoint 1 (a .turn) in
+    let l = lowest-small (a .turn) in
+    record {
+      turn = h .turn;
+      tx = omega (arith, h .tx, l .0, abs-sub (a .tx) (low .u));
+      ty = omega (arith, h .ty, l .1, abs-sub (a .ty) (low .v));
+    }

@@ -7,13 +7,14 @@ use native.Mathlib.Omega.{arith}
 use lib.Signed.{leZ}
 use lib.IntN.{ℤ, pos, negsuc, negℤ, negℤ-negℤ, negℤ-+ℤ, _+ℤ_, _-ℤ_, +ℤ-idr}
 use borrow.Author.Tests.{le-leb, lt-leb}
+use Rattle.integers.specs.Least.{lesser}
 use Rattle.integers.proofs.Parts.{plus, minus, ext, add-is, sub-is-parts, plus-neg, minus-neg}
 use Rattle.matcher.specs.declared.Place.{Place}
 use Rattle.matcher.specs.Codes.{bit, indexOf, source}
 use Rattle.matcher.proofs.Turns.{Inside, each-turn, index-below, place-index, source-inside, bit-turned}
 use Rattle.grid_alignment.specs.declared.Coord.{Coord}
 use Rattle.grid_alignment.specs.declared.GridAlignment.{GridAlignment}
-use Rattle.grid_alignment.specs.Alignment.{point, sends, moved, applied, corner, lesser, meet, lowestPoint, cornerAlignment}
+use Rattle.grid_alignment.specs.Alignment.{point, sends, moved, applied, corner, meet, lowestPoint, cornerAlignment}
 use Rattle.grid_alignment.specs.Rules.{asPoint, TurnsAgree}
 
 -- ---- points

@@ -1,10 +1,9 @@
 -- Document 01, "What takes another shape" and Emission: the quarter turns of grid points, cells and their corners.
-use Prim.Native.Nat.{ℕ, _^_, _≤_}
-use mathlib.Core.Bool.{cond}
+use Prim.Native.Nat.{ℕ, _^_, _≤_, _<_}
 use mathlib.Core.List.{List, [], _∷_}
 use lib.IntN.{ℤ, pos, negsuc, natAbs, negℤ, _+ℤ_, _-ℤ_}
-use lib.Signed.{leZ}
 use lib.Ieee.{Float, binary32, add, mul, ofInt}
+use Rattle.integers.specs.Least.{lesser}
 use Rattle.matcher.specs.Codes.{byTurn}
 use Rattle.grid_alignment.specs.declared.Coord.{Coord}
 use Rattle.grid_alignment.specs.declared.Matrix.{Matrix}
@@ -39,9 +38,6 @@ unfoldable pub corner : ℕ → Coord → Coord
 corner k p = byTurn k p (moved p (pos 1) (pos 0)) (moved p (pos 1) (pos 1)) (moved p (pos 0) (pos 1))
 
 -- the least u and the least v of two points
-abbrev pub lesser : ℤ → ℤ → ℤ
-lesser x y = cond (leZ x y) x y
-
 abbrev pub meet : Coord → Coord → Coord
 meet p q = point (lesser (p .u) (q .u)) (lesser (p .v) (q .v))
 
@@ -61,6 +57,12 @@ cornerAlignment a =
 -- a translation that adds up in 32 bits with every point of a cell
 abbrev pub NearAlignment : GridAlignment → Type 0
 NearAlignment a = (natAbs (a .tx) ≤ 2 ^ 30) × (natAbs (a .ty) ≤ 2 ^ 30)
+
+-- a turn from 0 to 3 and a translation of at most n on each axis
+pub record SmallAlignment (n : ℕ) (a : GridAlignment) : Type 0 where
+  pub turn : a .turn < 4
+  pub tx : natAbs (a .tx) ≤ n
+  pub ty : natAbs (a .ty) ≤ n
 
 -- `cell_rect_corners_at`: the corners of a cell where a cell is s wide, the Rust's f32 operations in order
 abbrev pub rectCorners : ℤ → ℤ → Float → List (List Float)

@@ -10,6 +10,7 @@ use lib.ListN.{length, take, drop, length-map, getElem?}
 use lib.IntN.{ℤ, pos, natAbs, _-ℤ_}
 use Rattle.integers.proofs.Parts.{abs-sub}
 use Rattle.grid_alignment.specs.declared.GridAlignment.{GridAlignment}
+use Rattle.grid_alignment.specs.Alignment.{SmallAlignment}
 use Rattle.shot_record.specs.Shots.{Shot}
 use Rattle.ranking.specs.declared.Hypothesis.{Hypothesis}
 use Rattle.ranking.specs.declared.Choice.{Choice}
@@ -32,9 +33,7 @@ use Rattle.hypothesis.proofs.Turned.{across-small, down-small, all-fini
 -- ---- the best placement
 pub record BestPlaced (s : Shot) (b : Hypothesis) : Type 0 where
   pub placement : Placement s (b .alignment)
-  pub turn : b .alignment .turn < 4
-  pub tx : natAbs (b .alignment .tx) ≤ 4127
-  pub ty : natAbs (b .alignment .ty) ≤ 4127
+  pub small : SmallAlignment 4127 (b .alignment)
   pub evidence-is : b .evidence ≡ reported s (b .alignment)
   pub count-is : b .«contributing_cells» ≡ contributingCells s (b .alignment)
 
@@ -54,7 +53,7 @@ small-move : (a n : ℕ) (least : ℤ) → a < n → n ≤ 32 → natAbs least �
 small-move a n least l m h = omega (arith, l, m, h, abs-sub (pos a) least)
 
 module _ (s : Shot) (p : PassedShot s) where
-  pub small-translation : (k : ℕ) (q : GridAlignment) → Stands s 4 k q → (natAbs (q .tx) ≤ 4127) × (natAbs (q .ty) ≤ 4127)
+  small-translation : (k : ℕ) (q : GridAlignment) → Stands s 4 k q → (natAbs (q .tx) ≤ 4127) × (natAbs (q .ty) ≤ 4127)
   small-translation k q o =
       let r = o .r in
       let d₀ = positive (movesAcross s r) (movesDown s r) (o .j) (o .inside) in
@@ -63,21 +62,18 @@ module _ (s : Shot) (p : PassedShot s) where
       let y = small-move (o .j % movesDown s r) (movesDown s r) (frame s r .v) (mod-lt (o .j) d₀) (down-small s (p .cols) (p .rows) r) (near-frame s p r .1) in
       rw (o .is) (x, y)
 
-  pub best-placed : (b : Hypothesis) → best s ≡ choice.Placement b → BestPlaced s b
+  pub small-placement : (q : GridAlignment) → Placement s q → SmallAlignment 4127 q
   unfolding placements
+  small-placement q (k, e) =
+      let o = stands s 4 k q e in
+      let t = small-translation k q o in
+      record { turn = omega (arith, ap (λ (a : GridAlignment). a .turn) (o .is), o .turn); tx = t .0; ty = t .1 }
+
+  pub best-placed : (b : Hypothesis) → best s ≡ choice.Placement b → BestPlaced s b
   best-placed b e =
       let g = greatest-rule (hypotheses s) b (all-finite s (p .checked) (placements s)) e in
       let m = mapped s (placements s) (g .place) b (g .there) in
-      let o = stands s 4 (g .place) (b .alignment) (m .0) in
-      let small = small-translation (g .place) (b .alignment) o in
-      record {
-        placement = (g .place, m .0);
-        turn = omega (arith, ap (λ (q : GridAlignment). q .turn) (o .is), o .turn);
-        tx = small .0;
-        ty = small .1;
-        evidence-is = m .1;
-        count-is = m .2;
-      }
+      record { placement = (g .place, m .0); small = small-placement (b .alignment) (g .place, m .0); evidence-is = m .1; count-is = m .2 }
 
 -- ---- the runner-up
 -- what stands in a list without its place p stands in the list, at another place

@@ -19,7 +19,7 @@ use Rattle.score_matrix.specs.Likelihoods.{HoldsLikelihoods, Sources, pickedFro
 use Rattle.score_matrix.proofs.Likelihoods.{turned-score}
 use Rattle.matcher.proofs.Turns.{source-bit-below}
 use Rattle.shot_record.specs.Index.{uIn, vIn, borderIn}
-use Rattle.shot_record.specs.Shots.{Sample, Shot, shot}
+use Rattle.shot_record.specs.Shots.{Sample, Shot, firstCodes, shot}
 use Rattle.shot_record.specs.Answers.{gridWith}
 use Rattle.shot_record.proofs.Lists.{getD-list}
 use Rattle.hypothesis.specs.declared.sums.Counted.{Counted}
@@ -27,7 +27,7 @@ use Rattle.hypothesis.specs.declared.turns.Contributing.{Contributing}
 use Rattle.hypothesis.specs.declared.fill.Turn.{Turn}
 use Rattle.hypothesis.specs.Placements.{cellTotal, cell as cellAt, cellPoint, frame, movesAcross, movesDown}
 use Rattle.hypothesis.specs.Evidence.{boardIn, tableOf, weightWith, weightOf, samplesOf}
-use Rattle.hypothesis.specs.Inputs.{firstCodes, PassedShot, Ready}
+use Rattle.hypothesis.specs.Inputs.{PassedShot, Ready}
 use Rattle.hypothesis.specs.Sums.{Stays, Small, Added, codeScore}
 use Rattle.hypothesis.specs.Filling.{Turning, countedOf, SumsTo, withCounted, Counts, CellScores}
 use Rattle.hypothesis.proofs.Frames.{framed}

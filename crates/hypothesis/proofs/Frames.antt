@@ -1,8 +1,8 @@
 -- Where the cells of a shot lie in the frame of a turn, where a placement puts them, and which placements fit. Assumes nothing.
-use mathlib.Core.Path.{_≡_, ap, ap₂, _∙_}
+use mathlib.Core.Path.{_≡_, ap, ap₂}
 use Prim.Native.Nat.{ℕ, _+_, _-_, _≤_, _<_}
 use native.Mathlib.Omega.{arith}
-use lib.IntN.{ℤ, pos, _+ℤ_, _-ℤ_}
+use lib.IntN.{ℤ, pos, _+ℤ_}
 use Rattle.grid_alignment.specs.declared.Coord.{Coord}
 use Rattle.grid_alignment.specs.declared.GridAlignment.{GridAlignment}
 use Rattle.grid_alignment.specs.Alignment.{point, sends, moved, applied}

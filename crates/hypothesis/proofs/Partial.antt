@@ -17,7 +17,7 @@ use Rattle.hypothesis.specs.Placements.{cellTotal}
 use Rattle.hypothesis.specs.Evidence.{Contribution, contributions, reportedTerm, reportedSum, exactTerm, exactSum, capacityTerm, capacity}
 use Rattle.hypothesis.specs.Accuracy.{Checked, wide, bound}
 use Rattle.hypothesis.proofs.Contributing.{at-most}
-use Rattle.hypothesis.proofs.Terms.{Term, all-terms}
+use Rattle.hypothesis.proofs.Terms.{all-terms}
 
 -- ---- n terms of size at most 512: x is their sum as f32 adds, and y their exact sum
 abbrev Total : ℕ → Float → ℤ → Type 0

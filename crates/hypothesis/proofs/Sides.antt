@@ -4,16 +4,18 @@ use Prim.Native.Nat.{ℕ, suc, _+_, _-_, _≤_, _<_}
 use native.Mathlib.Nat.{mod-eq-of-lt}
 use native.Mathlib.Omega.{arith}
 use lib.IntN.{ℤ, natAbs}
+use Rattle.integers.specs.Least.{leastTo, greatestTo}
+use Rattle.integers.proofs.Least.{least-reached}
 use Rattle.matcher.proofs.Turns.{each-turn}
 use Rattle.grid_alignment.specs.Alignment.{point, sends}
 use Rattle.grid_alignment.proofs.Entries.{sends-small}
 use Rattle.shot_record.specs.Shots.{Shot}
 use Rattle.hypothesis.specs.declared.Frame.{Frame}
 use Rattle.hypothesis.specs.declared.framing.Extremes.{Extremes}
-use Rattle.hypothesis.specs.Placements.{cellTotal, cellPoint, turnedU, turnedV, leastTo, greatestTo, squares, frame}
+use Rattle.hypothesis.specs.Placements.{cellTotal, cellPoint, turnedU, turnedV, squares, frame}
 use Rattle.hypothesis.specs.Inputs.{PassedShot}
 use Rattle.hypothesis.specs.Extremes.{extremesTo, extremesWith, us, vs, sidesOf, frameBetween, frameBy}
-use Rattle.hypothesis.proofs.Extremes.{least-reached, Ends, kept, turned-round}
+use Rattle.hypothesis.proofs.Extremes.{Ends, kept, turned-round}
 
 -- ---- one number more
 pub first-extremes : (f : ℕ → ℤ) (x : ℤ) → x ≡ f 0 → record { least = x; greatest = x } ≡ extremesTo f 0

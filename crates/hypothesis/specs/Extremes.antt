@@ -1,13 +1,14 @@
 -- The sides of the cells, and the frame that they make after a turn.
 use Prim.Native.Nat.{ℕ, _-_}
 use lib.IntN.{ℤ}
+use Rattle.integers.specs.Least.{lesser, higher, leastTo, greatestTo}
 use Rattle.grid_alignment.specs.declared.Coord.{Coord}
-use Rattle.grid_alignment.specs.Alignment.{point, sends, lesser}
+use Rattle.grid_alignment.specs.Alignment.{point, sends}
 use Rattle.shot_record.specs.Shots.{Shot}
 use Rattle.hypothesis.specs.declared.Frame.{Frame}
 use Rattle.hypothesis.specs.declared.framing.Extremes.{Extremes}
 use Rattle.hypothesis.specs.declared.framing.Sides.{Sides}
-use Rattle.hypothesis.specs.Placements.{cellTotal, cell, leastTo, higher, greatestTo, squares}
+use Rattle.hypothesis.specs.Placements.{cellTotal, cell, squares}
 
 -- the least and the greatest of f 0 to f n, and with one number more
 abbrev pub extremesTo : (ℕ → ℤ) → ℕ → Extremes

@@ -1,23 +1,19 @@
--- What the search is given: a record that the questions 21 and 1 to 14 let pass, and what was found in it once.
+-- What the search is given: a record that the questions before 15 let pass (21, 1 to 14, 22 and 23), and what was found in it once.
 use mathlib.Core.Path.{_≡_}
 use mathlib.Core.List.{List}
 use mathlib.Core.Option.{some}
 use Prim.Native.Nat.{ℕ, _*_, _≤_, _<_}
-use lib.ListN.{length, getD}
+use lib.ListN.{length}
 use lib.IntN.{natAbs}
 use lib.Ieee.{Float}
 use Rattle.score_matrix.specs.Scores.{side}
-use Rattle.shot_record.specs.Shots.{Sample, Shot, list, shot}
+use Rattle.shot_record.specs.Shots.{Sample, Shot, firstCodes, shot}
 use Rattle.shot_record.specs.Answers.{configOf}
 use Rattle.shot_record.specs.Index.{Indexed}
 use Rattle.hypothesis.specs.declared.Inputs.{Inputs}
 use Rattle.hypothesis.specs.Placements.{cellTotal, cell}
 use Rattle.hypothesis.specs.Evidence.{boardIn, tableOf}
 use Rattle.hypothesis.specs.Accuracy.{Checked}
-
--- the first 512 codes, those of all markers that a board can have
-abbrev pub firstCodes : Shot → List ℕ
-firstCodes s = list (λ (k : ℕ). getD (s .codes) k 0) 512
 
 -- what the questions let pass, as far as the search uses it
 pub record PassedShot (s : Shot) : Type 0 where

@@ -3,11 +3,11 @@
 use mathlib.Core.Path.{_≡_}
 use mathlib.Core.List.{List}
 use mathlib.Core.Option.{none, some}
-use Prim.Native.Nat.{ℕ, _+_, _<_}
+use Prim.Native.Nat.{ℕ, _<_}
 use Rattle.matcher.specs.Codes.{turned}
 use Rattle.score_matrix.specs.Scores.{score, readCode}
 use Rattle.score_matrix.specs.Locality.{SameBytes}
-use Rattle.shot_record.specs.Fields.{byte, gridSize, cellAt}
+use Rattle.shot_record.specs.Fields.{byte, gridSize, samplePlace, thresholdFrom, gridFrom}
 use Rattle.shot_record.specs.Shots.{Shot, parse}
 use Rattle.hypothesis.specs.Placements.{cellTotal, cell}
 use Rattle.hypothesis.specs.Evidence.{tableOf, samplesOf}
@@ -23,8 +23,8 @@ pub record SampledCell (bytes : List ℕ) (s : Shot) (k : ℕ) : Type 0 where
 pub record SameOwn (a : List ℕ) (s : Shot) (j : ℕ) (b : List ℕ) (t : Shot) (k : ℕ) : Type 0 where
   pub bits : s .bits ≡ t .bits
   pub border : s .border ≡ t .border
-  pub threshold : byte (cellAt a j + 8) a ≡ byte (cellAt b k + 8) b
-  pub greys : SameBytes (gridSize (s .bits) (s .border)) (cellAt a j + 9) a (cellAt b k + 9) b
+  pub threshold : byte (thresholdFrom (samplePlace a j)) a ≡ byte (thresholdFrom (samplePlace b k)) b
+  pub greys : SameBytes (gridSize (s .bits) (s .border)) (gridFrom (samplePlace a j)) a (gridFrom (samplePlace b k)) b
 
 -- every score, against every code after every turn, and the code that is read
 pub record SameScores (s : Shot) (j : ℕ) (t : Shot) (k : ℕ) : Type 0 where

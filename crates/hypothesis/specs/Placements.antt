@@ -1,14 +1,13 @@
 -- Document 01, Search: the placements of a shot, all pairs of turn and translation that put every cell on the board.
 use Prim.Native.Nat.{ℕ, zero, suc, _+_, _-_, _*_, _/_, _%_}
-use mathlib.Core.Bool.{cond}
 use mathlib.Core.List.{List, [], _++_}
 use mathlib.Core.Option.{none}
 use lib.ListN.{length, getD}
 use lib.IntN.{ℤ, pos, natAbs, _-ℤ_}
-use lib.Signed.{leZ}
+use Rattle.integers.specs.Least.{leastTo, greatestTo}
 use Rattle.grid_alignment.specs.declared.Coord.{Coord}
 use Rattle.grid_alignment.specs.declared.GridAlignment.{GridAlignment}
-use Rattle.grid_alignment.specs.Alignment.{point, sends, lesser}
+use Rattle.grid_alignment.specs.Alignment.{point, sends}
 use Rattle.shot_record.specs.Shots.{Cell, Shot, list}
 use Rattle.hypothesis.specs.declared.Frame.{Frame}
 
@@ -29,18 +28,6 @@ cellPoint s k = point (cell s k .u) (cell s k .v)
 -- the point of cell k after r quarter turns
 abbrev pub turnedPoint : Shot → ℕ → ℕ → Coord
 turnedPoint s r k = sends r (cellPoint s k)
-
--- the least and the greatest of f 0 to f n
-unfoldable pub leastTo : (ℕ → ℤ) → ℕ → ℤ
-leastTo f zero = f 0
-leastTo f (suc n) = lesser (leastTo f n) (f (suc n))
-
-abbrev pub higher : ℤ → ℤ → ℤ
-higher x y = cond (leZ x y) y x
-
-unfoldable pub greatestTo : (ℕ → ℤ) → ℕ → ℤ
-greatestTo f zero = f 0
-greatestTo f (suc n) = higher (greatestTo f n) (f (suc n))
 
 -- The frame of the turned cells: its least u and v, and its width and height in squares.
 abbrev pub squares : ℤ → ℤ → ℕ

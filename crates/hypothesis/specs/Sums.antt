@@ -39,8 +39,8 @@ plusCell c score a b sum = plusMarker c score (markerAfter c a b) sum
 
 -- the cell is added to the sums of all moves
 abbrev pub Added : Counted → (ℕ → Float) → ℕ → ℕ → List Float → List Float → Type 0
-Added c score across down entry now =
-    (a b : ℕ) → a < across → b < down → getD now (a * down + b) nan ≡ plusCell c score a b (getD entry (a * down + b) nan)
+Added c score across down before after =
+    (a b : ℕ) → a < across → b < down → getD after (a * down + b) nan ≡ plusCell c score a b (getD before (a * down + b) nan)
 
 -- the cell's square stays on the board in every move, and there is one
 pub record Stays (c : Counted) (across down : ℕ) : Type 0 where
@@ -83,10 +83,10 @@ abbrev pub Inside : ℕ → ℕ → Move → ℕ → Type 0
 Inside across down first n = (y : ℕ) → y < n → moveAfter down first y .a < across
 
 -- the cell is added to the sums of the moves that come before place n of the order
-pub record AddedBefore (c : Counted) (score : ℕ → Float) (across down n : ℕ) (entry now : List Float) : Type 0 where
-  pub size : length now ≡ 1024
-  pub done : (a b : ℕ) → a < across → b < down → 63 * a + b < n → getD now (a * down + b) nan ≡ plusCell c score a b (getD entry (a * down + b) nan)
-  pub left : (a b : ℕ) → a < across → b < down → n ≤ 63 * a + b → getD now (a * down + b) nan ≡ getD entry (a * down + b) nan
+pub record AddedBefore (c : Counted) (score : ℕ → Float) (across down n : ℕ) (before after : List Float) : Type 0 where
+  pub size : length after ≡ 1024
+  pub done : (a b : ℕ) → a < across → b < down → 63 * a + b < n → getD after (a * down + b) nan ≡ plusCell c score a b (getD before (a * down + b) nan)
+  pub left : (a b : ℕ) → a < across → b < down → n ≤ 63 * a + b → getD after (a * down + b) nan ≡ getD before (a * down + b) nan
 
 -- ---- scores that are worked out from codes: what their bits pick, in the order of a turn
 abbrev pub codeScore : ℕ → List Float → List ℕ → List ℕ → ℕ → Float

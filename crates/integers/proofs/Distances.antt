@@ -2,17 +2,17 @@
 use mathlib.Core.Path.{_≡_, sym, ap, subst, _∙_}
 use mathlib.Core.Logic.{_⊎_, inl, inr}
 use mathlib.Core.Bool.{Bool, true, false, not, _&&_, false≢true}
-use Prim.Native.Nat.{ℕ, zero, suc, _+_, _*_, _≤_, _<_, zero-le}
+use Prim.Native.Nat.{ℕ, zero, suc, _+_, _-_, _*_, _≤_, _<_, zero-le}
 use native.Mathlib.Nat.{le-refl, le-trans, le-of-eq, mul-comm, mul-le-mul-right}
 use native.Mathlib.Omega.{arith}
 use lib.Dec.{T, ltb, leb, ltb→lt, lt→ltb, nltb→le, leb→le}
 use lib.Signed.{ltZ, leZ}
 use lib.IntN.{ℤ, pos, negsuc, negℤ, natAbs, _+ℤ_, _-ℤ_, _*ℤ_, *ℤ-comm}
 use lib.Ieee.Fits.{and-l, and-r}
-use borrow.Author.Tests.{leb-true, le-leb}
+use borrow.Author.Tests.{leb-true, leb-false, le-leb}
 use Rattle.integers.specs.Distance.{Within, same, isWithin}
 use Rattle.integers.proofs.Tests.{both}
-use Rattle.integers.proofs.Parts.{plus, minus, Is, add-is, sub-is-parts, mul-is, abs-is, abs-mul, parts-le, ext}
+use Rattle.integers.proofs.Parts.{plus, minus, Is, plus-neg, minus-neg, add-is, sub-is-parts, mul-is, abs-is, abs-neg, abs-mul, parts-le, ext}
 
 -- ---- the order
 abbrev pub Le : ℤ → ℤ → Type 0
@@ -58,6 +58,21 @@ near-sub {a} {b} {c} {d} h k =
     let y = sub-is-parts b d in
     record { above = omega arith; below = omega arith }
 
+-- ---- how far apart two numbers are
+pub distance-sym : (x y : ℤ) → natAbs (x -ℤ y) ≡ natAbs (y -ℤ x)
+distance-sym x y =
+    let z = y -ℤ x in
+    ap natAbs (ext (x -ℤ y) (negℤ z) (omega (arith, sub-is-parts x y, sub-is-parts y x, plus-neg z, minus-neg z))) ∙ abs-neg z
+
+-- how far x lies above low
+pub above-is : (low x : ℤ) → Le low x → natAbs (x -ℤ low) + (plus low + minus x) ≡ plus x + minus low
+above-is low x h =
+    let z = x -ℤ low in
+    let s = sub-is-parts x low in
+    let a = abs-is z in
+    let none : plus z + minus z ≤ plus z - minus z = parts-le z (plus z - minus z) (omega arith) (omega arith) in
+    omega arith
+
 -- ---- multiples
 pub scale-is : (a : ℤ) (w : ℕ) → Is (a *ℤ pos w) (plus a * w) (minus a * w)
 unfolding plus minus
@@ -102,6 +117,20 @@ Lt→ltZ (pos a) (pos b) h = lt→ltb a b (omega arith)
 Lt→ltZ (pos a) (negsuc b) h = absurd (omega arith)
 Lt→ltZ (negsuc a) (pos b) h = tt
 Lt→ltZ (negsuc a) (negsuc b) h = lt→ltb b a (omega arith)
+
+pub leZ→Le : (a b : ℤ) → leZ a b ≡ true → Le a b
+unfolding plus minus
+leZ→Le (pos a) (pos b) e = omega (arith, leb-true a b e)
+leZ→Le (pos a) (negsuc b) e = absurd (false≢true e)
+leZ→Le (negsuc a) (pos b) e = omega arith
+leZ→Le (negsuc a) (negsuc b) e = omega (arith, leb-true b a e)
+
+pub nleZ→Le : (a b : ℤ) → leZ a b ≡ false → Le b a
+unfolding plus minus
+nleZ→Le (pos a) (pos b) e = omega (arith, leb-false a b e)
+nleZ→Le (pos a) (negsuc b) e = omega arith
+nleZ→Le (negsuc a) (pos b) e = absurd (false≢true (sym e))
+nleZ→Le (negsuc a) (negsuc b) e = omega (arith, leb-false b a e)
 
 pub lt-or-le : (a b : ℕ) → (a < b) ⊎ (b ≤ a)
 lt-or-le a b = go (ltb a b) (ltb→lt a b) (nltb→le a b)

@@ -1,5 +1,6 @@
 pub mod Parts
 pub mod Distances
+pub mod Least
 pub mod Words
 pub mod Sums
 pub mod Tests

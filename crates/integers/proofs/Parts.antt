@@ -77,6 +77,12 @@ unfolding plus minus
 parts-le (pos n) e h k = omega arith
 parts-le (negsuc n) e h k = omega arith
 
+pub no-plus : (z : ℤ) → plus z ≤ minus z → plus z ≡ 0
+no-plus z h = omega (arith, parts-le z (minus z) (omega arith) (omega arith))
+
+pub no-minus : (z : ℤ) → minus z ≤ plus z → minus z ≡ 0
+no-minus z h = omega (arith, parts-le z (plus z) (omega arith) (omega arith))
+
 pub abs-add : (a b : ℤ) → natAbs (a +ℤ b) ≤ natAbs a + natAbs b
 abs-add a b =
     let x = add-is a b in

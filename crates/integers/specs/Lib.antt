@@ -1,2 +1,3 @@
 pub mod Distance
+pub mod Least
 pub mod Tests

@@ -1,12 +1,12 @@
 // Signed arithmetic on small numbers, said in whole numbers. The laws of whole numbers are in `proofs/Parts.antt`, and those of
-// their order and distance in `proofs/Distances.antt`; tests of the numbers below n in `specs/Tests.antt`. Uses no other crate.
+// their order and distance in `proofs/Distances.antt`; the least and the greatest of f 0 to f n in `specs/Least.antt`, tests of the numbers below n in
+// `specs/Tests.antt`. Uses no other crate.
 ghost use mathlib.Core.Path.{_≡_};
-ghost use mathlib.Core.Bool.{cond};
 ghost use Prim.Native.Nat.{_^_, _≤_};
 ghost use lib.IntN.{natAbs, _+ℤ_, _-ℤ_, _*ℤ_};
-ghost use lib.Signed.{leZ};
 ghost use mir.Syntax.{w32};
 ghost use mir.Val.{ofZ};
+ghost use Rattle.integers.specs.Least.{lesser};
 
 // a x + b y, for factors a and b of size at most 1.
 pub fn combine(a: i32, b: i32, x: i16, y: i16) -> i32
@@ -17,7 +17,7 @@ pub fn combine(a: i32, b: i32, x: i16, y: i16) -> i32
 }
 
 pub fn min(x: i32, y: i32) -> i32
-    ensures { λ r. ⌜ r ≡ cond (leZ x y) x y ⌝ }
+    ensures { λ r. ⌜ r ≡ lesser x y ⌝ }
 {
     if x <= y {
         return x;

@@ -1,2 +1,3 @@
 pub mod Front
 pub mod Loops
+pub mod Parts

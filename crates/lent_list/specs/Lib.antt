@@ -1,1 +1,2 @@
 pub mod Front
+pub mod Parts

@@ -1,5 +1,5 @@
 // Results in a list that a caller lends: in front, one behind the other, the rest untouched. `proofs/Front.antt` and `proofs/Loops.antt`
-// have the laws. Uses no other crate.
+// have the laws; a part of a list is in `specs/Parts.antt`. Uses no other crate.
 ghost use mathlib.Core.Path.{_≡_};
 ghost use Prim.Native.Nat.{_+_, _≤_};
 ghost use lib.ListN.{length};

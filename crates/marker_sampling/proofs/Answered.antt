@@ -17,17 +17,18 @@ use Rattle.refusal.specs.declared.Refusal.the-variants as refusal
 use Rattle.refusal.specs.Questions.{ask}
 use Rattle.marker_sampling.specs.declared.MarkerCells.the-variants as found
 use Rattle.marker_sampling.specs.Cells.{wordsOfCells}
-use Rattle.marker_sampling.specs.Entry.{corners, allPlaced, cornersAnswer, cellsOf, cellsRefusedBy, foundBy, markerCells, markerCellsList}
+use Rattle.marker_sampling.specs.Entry.{corners, placed, cornersAnswer, cellsOf, cellsRefusedBy, foundBy, markerCells, markerCellsList}
 use Rattle.marker_sampling.specs.Keys.{Collected}
+use Rattle.integers.specs.Tests.{every}
 use Rattle.integers.proofs.Tests.{both}
 use Rattle.marker_sampling.proofs.Passing.{words-length}
 
 -- what question 18 tells
 pub placed-corners : (scores : List Float) (grid : List ℤ) → cornersAnswer scores grid ≡ true → (length scores ≤ 1024)
-    × (allPlaced 4096 (corners scores grid) (length scores) ≡ true)
+    × (every (placed 4096 (corners scores grid)) (length scores) ≡ true)
 placed-corners scores grid e =
     let h = both (leb (length scores) 1024) _ e in
-    (leb-true (length scores) 1024 (h .0), both (allPlaced 4096 (corners scores grid) (length scores)) _ (h .1) .0)
+    (leb-true (length scores) 1024 (h .0), both (every (placed 4096 (corners scores grid)) (length scores)) _ (h .1) .0)
 
 module _ (scores : List Float) (grid : List ℤ) (inliers : List ℕ) (lent : List ℤ) where
   -- the answers of the three questions, in order

@@ -1,17 +1,14 @@
 -- Tests of truth values and of whole numbers, as equations. Assumes nothing.
 use mathlib.Core.Path.{_≡_, refl, sym, ap, _∙_}
-use mathlib.Core.Bool.{Bool, true, false, not, false≢true}
-use Prim.Native.Nat.{ℕ, _+_, _*_, _^_, _≤_, _<_}
+use mathlib.Core.Bool.{Bool, true, false, not}
+use Prim.Native.Nat.{ℕ, _+_, _*_, _≤_, _<_}
 use native.Mathlib.Omega.{arith}
 use lib.IntN.{ℤ, pos, negsuc, natAbs, negℤ, _+ℤ_, _-ℤ_, +ℤ-negℤ-cancel}
 use lib.Dec.{leb·zero, leb·suc-zero}
-use lib.Signed.{leZ, ltZ, mag}
-use mir.Syntax.{w32}
-use mir.ValLaws.{toZ-ofZ}
-use borrow.Author.Tests.{leb-true}
+use lib.Signed.{leZ, ltZ}
 use Rattle.integers.proofs.Tests.{both}
-use Rattle.integers.proofs.Parts.{plus, minus, plus-neg, minus-neg, add-is, sub-is-parts, abs-is, ext}
-use Rattle.integers.proofs.Words.{word}
+use Rattle.integers.proofs.Parts.{plus, minus, plus-neg, minus-neg, add-is, sub-is-parts, abs-is, no-minus, ext}
+use Rattle.integers.proofs.Distances.{leZ→Le}
 use Rattle.integers.specs.Distance.{isWithin}
 
 -- two tests that hold together
@@ -23,22 +20,6 @@ agree false false f g = refl
 pub fails : (a : Bool) → (a ≡ true → ⊥) → a ≡ false
 fails true f = absurd (f refl)
 fails false f = refl
-
-le-parts : (a b : ℤ) → leZ a b ≡ true → plus a + minus b ≤ plus b + minus a
-unfolding plus minus
-le-parts (pos a) (pos b) e = omega (arith, leb-true a b e)
-le-parts (pos a) (negsuc b) e = absurd (false≢true e)
-le-parts (negsuc a) (pos b) e = omega arith
-le-parts (negsuc a) (negsuc b) e = omega (arith, leb-true b a e)
-
-no-minus : (z : ℤ) → minus z ≤ plus z → minus z ≡ 0
-unfolding plus minus
-no-minus (pos n) h = refl
-no-minus (negsuc n) h = absurd (omega arith)
-
--- a number that fits a word is read back from it
-pub read-back : (z : ℤ) → mag z < 2 ^ 31 → word z ≡ z
-read-back z h = toZ-ofZ w32 z (record { sfits = h })
 
 -- the test of a sign
 pub not-negative : (z : ℤ) → leZ (pos 0) z ≡ not (ltZ z (pos 0))
@@ -54,8 +35,8 @@ module _ (m : ℕ) where
   unfolding plus minus
   parts-within z e =
       let h = both (leZ (negℤ (pos m)) z) _ e in
-      let a = le-parts (negℤ (pos m)) z (h .0) in
-      let b = le-parts z (pos m) (h .1) in
+      let a = leZ→Le (negℤ (pos m)) z (h .0) in
+      let b = leZ→Le z (pos m) (h .1) in
       (omega (arith, plus-neg (pos m), minus-neg (pos m)), omega arith)
 
   shifted : (z : ℤ) → isWithin m z ≡ true → (minus (z +ℤ pos m) ≡ 0) × (plus (z +ℤ pos m) + minus z ≡ plus z + m)

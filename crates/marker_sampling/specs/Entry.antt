@@ -1,5 +1,5 @@
 -- The cells entry (document 01, "The questions asked"): question 18 without turn and translation, 14 with 256 places, 20.
-use Prim.Native.Nat.{ℕ, zero, suc, _*_}
+use Prim.Native.Nat.{ℕ, _*_}
 use mathlib.Core.Bool.{Bool, true, not, _&&_, _||_}
 use mathlib.Core.List.{List, [], _∷_}
 use mathlib.Core.Option.{Option, none, some}
@@ -9,6 +9,7 @@ use lib.IntN.{ℤ}
 use lib.Ieee.{Float}
 use lib.Ieee.Scale.{finite}
 use Rattle.integers.specs.Distance.{isWithin}
+use Rattle.integers.specs.Tests.{every}
 use Rattle.lent_list.specs.Front.{atExit}
 use Rattle.grid_alignment.specs.declared.Coord.{Coord}
 use Rattle.refusal.specs.declared.Refusal.{Refusal}
@@ -26,17 +27,13 @@ corners scores grid = record { count = length scores; grid = grid }
 abbrev pub placed : ℕ → Corners → ℕ → Bool
 placed m c k = not (labelled c k) || (isWithin m (word c k 1) && isWithin m (word c k 2))
 
-abbrev pub allPlaced : ℕ → Corners → ℕ → Bool
-allPlaced m c zero = true
-allPlaced m c (suc k) = allPlaced m c k && placed m c k
-
 abbrev pub finiteScores : List Float → Bool
 finiteScores [] = true
 finiteScores (x ∷ xs) = finite x && finiteScores xs
 
 -- Question 18 without the inliers: at most 1,024 corners, grid points from −4,096 to 4,096, scores finite?
 abbrev pub cornersAnswer : List Float → List ℤ → Bool
-cornersAnswer scores grid = leb (length scores) 1024 && (allPlaced 4096 (corners scores grid) (length scores) && finiteScores scores)
+cornersAnswer scores grid = leb (length scores) 1024 && (every (placed 4096 (corners scores grid)) (length scores) && finiteScores scores)
 
 -- the cells of the lists that are lent
 abbrev pub cellsOf : List Float → List ℤ → List ℕ → List Coord

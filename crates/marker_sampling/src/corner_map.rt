@@ -8,7 +8,8 @@ ghost use lib.ListN.{length};
 ghost use lib.IntN.{pos, _-ℤ_};
 ghost use Rattle.marker_sampling.specs.Cells.{Corners, holder, cornersOf};
 ghost use Rattle.integers.specs.Distance.{isWithin};
-ghost use Rattle.marker_sampling.specs.Entry.{allPlaced};
+ghost use Rattle.integers.specs.Tests.{every};
+ghost use Rattle.marker_sampling.specs.Entry.{placed};
 ghost use Rattle.marker_sampling.specs.Keys.{HasKey, MapOf, Bounded, LowerBound, FirstBelow, Filled, Searchable, Next, rangePoint};
 ghost use Rattle.marker_sampling.specs.Keys.{indexOrMinusOne};
 ghost use Rattle.sorting.specs.Order.{Rising};
@@ -28,7 +29,7 @@ fn offset(z: i32) -> u64
 // The key of the grid point of corner k, of `count` corners.
 fn key_of(count: usize, grid: &[i32], k: usize) -> u64
     requires { ⌜ count ≤ 1024 ⌝ }
-    requires { ⌜ allPlaced 4096 (cornersOf count (now grid)) count ≡ true ⌝ }
+    requires { ⌜ every (placed 4096 (cornersOf count (now grid))) count ≡ true ⌝ }
     ensures { λ r. ⌜ HasKey 4096 (cornersOf count (now (grid .entry))) k r ⌝ }
 {
     if count <= k {
@@ -45,7 +46,7 @@ fn key_of(count: usize, grid: &[i32], k: usize) -> u64
 // The word of each inlier, in the order of the list.
 fn words(count: usize, grid: &[i32], inliers: &[usize]) -> [u64; 1024]
     requires { ⌜ count ≤ 1024 ⌝ }
-    requires { ⌜ allPlaced 4096 (cornersOf count (now grid)) count ≡ true ⌝ }
+    requires { ⌜ every (placed 4096 (cornersOf count (now grid))) count ≡ true ⌝ }
     requires { ⌜ length (now inliers) ≤ 1024 ⌝ }
     ensures { λ r. ⌜ Filled 4096 (cornersOf count (now (grid .entry))) (now (inliers .entry)) (length (now (inliers .entry))) r ⌝ }
 {
@@ -60,7 +61,7 @@ fn words(count: usize, grid: &[i32], inliers: &[usize]) -> [u64; 1024]
 
 pub fn build_corner_map(count: usize, grid: &[i32], inliers: &[usize]) -> [u64; 1024]
     requires { ⌜ count ≤ 1024 ⌝ }
-    requires { ⌜ allPlaced 4096 (cornersOf count (now grid)) count ≡ true ⌝ }
+    requires { ⌜ every (placed 4096 (cornersOf count (now grid))) count ≡ true ⌝ }
     requires { ⌜ length (now inliers) ≤ 1024 ⌝ }
     ensures { λ r. ⌜ MapOf 4096 (cornersOf count (now (grid .entry))) (now (inliers .entry)) (length (now (inliers .entry))) r ⌝ }
 {

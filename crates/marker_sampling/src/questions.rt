@@ -5,7 +5,8 @@ ghost use lib.ListN.{getD};
 ghost use lib.IntN.{pos};
 ghost use Rattle.marker_sampling.specs.Cells.{labelled, cornersOf};
 ghost use Rattle.integers.specs.Distance.{isWithin};
-ghost use Rattle.marker_sampling.specs.Entry.{placed, allPlaced, finiteScores};
+ghost use Rattle.integers.specs.Tests.{every};
+ghost use Rattle.marker_sampling.specs.Entry.{placed, finiteScores};
 
 // The word at a place; 0 past the list.
 pub fn word(grid: &[i32], at: usize) -> i32
@@ -49,7 +50,7 @@ fn placed(grid: &[i32], k: usize) -> bool
 
 pub fn all_placed(count: usize, grid: &[i32]) -> bool
     requires { ⌜ count ≤ 1024 ⌝ }
-    ensures { λ r. ⌜ r ≡ allPlaced 4096 (cornersOf count (now (grid .entry))) count ⌝ }
+    ensures { λ r. ⌜ r ≡ every (placed 4096 (cornersOf count (now (grid .entry)))) count ⌝ }
 {
     let mut k = 0;
     while k < count {

@@ -2,7 +2,7 @@
 use Prim.Native.Nat.{ℕ, zero, suc, _+_, _*_, _<_}
 use mathlib.Core.Path.{_≡_}
 use mathlib.Core.List.{List, []}
-use mathlib.Core.Bool.{Bool, true, false, not, _&&_}
+use mathlib.Core.Bool.{Bool, not, _&&_, cond}
 use lib.Dec.{leb, eqb}
 use lib.ListN.{getD, length}
 use lib.IntN.{ℤ}
@@ -80,21 +80,13 @@ fourWord (surrounding.Corners a b c d) (suc (suc zero)) = c
 fourWord (surrounding.Corners a b c d) (suc (suc (suc k))) = d
 fourWord surrounding.Absent k = absent
 
-abbrev pub yesNo : Bool → ℕ
-yesNo true = 1
-yesNo false = 0
-
 -- a grid of this length has a row for each bit and border of a code that a word holds
 abbrev pub wholeGrid : ℕ → ℕ → ℕ → Bool
 wholeGrid n bits border = leb bits 8 && eqb n (side bits border * side bits border)
 
-abbrev pub either : {A : Type 0} → Bool → A → A → A
-either true a b = a
-either false a b = b
-
 -- the border of a cell, and settings of which the border threshold alone is given
 abbrev pub borderSample : Bool → Float → BorderSample
-borderSample sampled fraction = either sampled (border.BlackFraction fraction) border.Unsampled
+borderSample sampled fraction = cond sampled (border.BlackFraction fraction) border.Unsampled
 
 abbrev pub thresholdAlone : Float → BoardMatchConfig
 thresholdAlone threshold = record { «px_per_square» = nought; «alignment_min_margin» = nought; «cell_weight_border_threshold» = threshold }

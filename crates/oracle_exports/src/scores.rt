@@ -1,16 +1,18 @@
 // The likelihood table and the score of one cell. For a grid that has not side × side bytes, or a side above 8, the answer is 0,
 // and a list of scores stays as it is.
 ghost use mathlib.Core.Path.{_≡_};
+ghost use mathlib.Core.Bool.{cond};
 ghost use Prim.Native.Nat.{_*_, _≤_};
 ghost use lib.ListN.{length, getD};
 ghost use lib.Dec.{T};
 ghost use lib.Ieee.{nan, binary32, sub};
 ghost use Rattle.floats.specs.Units.{nought, sumTo};
+ghost use Rattle.board.specs.Numbering.{asOne};
 ghost use Rattle.score_matrix.specs.Table.{isTable, builtIn};
 ghost use Rattle.score_matrix.specs.Scores.{samples, score, nullScore, readCode};
 ghost use Rattle.score_matrix.specs.Likelihoods.{picked};
 ghost use Rattle.score_matrix.specs.Weights.{weight};
-ghost use Rattle.oracle_exports.specs.Words.{yesNo, wholeGrid, either, ScoresWritten, borderSample, thresholdAlone};
+ghost use Rattle.oracle_exports.specs.Words.{wholeGrid, ScoresWritten, borderSample, thresholdAlone};
 use score_matrix::BoardMatchConfig;
 use score_matrix::BorderSample;
 use score_matrix::cell;
@@ -30,7 +32,7 @@ pub extern "C" fn oracle_table_entry(i: usize) -> f32
 
 #[no_mangle]
 pub extern "C" fn oracle_is_table(table: &[f32]) -> u8
-    ensures { λ r. ⌜ r ≡ yesNo (isTable (now (table .entry))) ⌝ }
+    ensures { λ r. ⌜ r ≡ asOne (isTable (now (table .entry))) ⌝ }
 {
     if table::is_table(table) {
         return 1;
@@ -89,7 +91,7 @@ pub extern "C" fn oracle_score(
     border: u8,
     code: u64,
 ) -> f32
-    ensures { λ r. ⌜ r ≡ either (wholeGrid (length (now (grid .entry))) bits border)
+    ensures { λ r. ⌜ r ≡ cond (wholeGrid (length (now (grid .entry))) bits border)
         (score (now (table .entry)) (samples bits border threshold (now (grid .entry))) code) nought ⌝ }
 {
     if is_whole(grid.len(), bits, border) {
@@ -100,7 +102,7 @@ pub extern "C" fn oracle_score(
 
 #[no_mangle]
 pub extern "C" fn oracle_read_code(grid: &[u8], threshold: u8, bits: u8, border: u8) -> u64
-    ensures { λ r. ⌜ r ≡ either (wholeGrid (length (now (grid .entry))) bits border) (readCode (samples bits border threshold (now (grid .entry)))) 0 ⌝ }
+    ensures { λ r. ⌜ r ≡ cond (wholeGrid (length (now (grid .entry))) bits border) (readCode (samples bits border threshold (now (grid .entry)))) 0 ⌝ }
 {
     if is_whole(grid.len(), bits, border) {
         return cell::read_code(grid, threshold, bits, border);

@@ -24,7 +24,8 @@ use Rattle.board_match.specs.declared.Match.{Match}
 use Rattle.board_match.specs.declared.Matched.{Matched}
 use Rattle.board_match.specs.declared.Matched.the-variants as matched
 use Rattle.board_match.specs.Match.{matchAnswer, matchList}
-use Rattle.board_match.specs.Sizes.{SmallAlignment, SmallHypothesis, SmallRunnerUp, SmallMatch, SmallAnswer}
+use Rattle.grid_alignment.specs.Alignment.{SmallAlignment}
+use Rattle.board_match.specs.Sizes.{SmallHypothesis, SmallRunnerUp, SmallMatch, SmallAnswer}
 use Rattle.board_match.proofs.Sizes.{small-answer}
 use Rattle.place_text.specs.Numerals.{digit, hex2, hex4, hex8, decimal, signedDecimal, signedWord}
 use Rattle.place_text.specs.Text.{line, andWords, floatWord, the-placed, the-best, the-next, the-margin, the-placements, the-refused, evidenceWord}
@@ -32,7 +33,7 @@ use Rattle.place_text.specs.Text.{hypothesisLine, nextLine, cornersLine,
 use Rattle.place_text.specs.Room.{Room}
 use Rattle.place_text.proofs.Numerals.{decimal-short, decimal-long}
 
-decimal-room : (k n : ℕ) → n < 10 ^ suc k → length (decimal n) ≤ suc k
+pub decimal-room : (k n : ℕ) → n < 10 ^ suc k → length (decimal n) ≤ suc k
 decimal-room zero n h = rw (decimal-short n h) (omega arith)
 decimal-room (suc k) n h = go (ltb n 10) (ltb-true n 10) (ltb-false n 10) (decimal-room k (n / 10))
   where

@@ -11,8 +11,8 @@ ghost use Rattle.place_text.specs.Writing.{Printed};
 
 mod lines;
 mod markers;
-mod words;
-mod writer;
+pub mod words;
+pub mod writer;
 
 use board_match::Match;
 use board_match::Matched;

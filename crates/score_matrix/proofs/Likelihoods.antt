@@ -14,28 +14,37 @@ use Rattle.matcher.specs.Codes.{bit, turned}
 use Rattle.matcher.proofs.Bits.{bit-small}
 use Rattle.matcher.proofs.Turns.{bit-turned}
 use Rattle.score_matrix.specs.Scores.{Samples, bitCount, likelihood, term, score}
-use Rattle.score_matrix.specs.Likelihoods.{HoldsLikelihoods, picked, Sources, pickedFrom}
+use Rattle.score_matrix.specs.Likelihoods.{HoldsLikelihoods, KeptFrom, picked, Sources, pickedFrom}
+
+-- what is written of bit k leaves the other places
+module _ (k : ℕ) (l : List Float) (zeros ones : Float) where
+  abbrev written : List Float
+  written = set (set l (2 * k) zeros) (2 * k + 1) ones
+
+  elsewhere : (i : ℕ) → (i ≡ 2 * k → ⊥) → (i ≡ 2 * k + 1 → ⊥) → getD written i nan ≡ getD l i nan
+  elsewhere i a b = getD-set-other (set l (2 * k) zeros) (2 * k + 1) i ones nan b ∙ getD-set-other l (2 * k) i zeros nan a
+
+  pub kept-next : (first : List Float) → KeptFrom (2 * k) first l → KeptFrom (2 * (k + 1)) first written
+  kept-next first kept i h = elsewhere i (λ e. absurd (omega (arith, e, h))) (λ e. absurd (omega (arith, e, h))) ∙ kept i (omega (arith, h))
 
 -- one bit more is written
 module _ (table : List Float) (s : Samples) (k : ℕ) (l : List Float) (zeros ones : Float) (holds : HoldsLikelihoods table s k l) (room : 2 * k + 1 < length l)
     (z : zeros ≡ likelihood table s k 0) (o : ones ≡ likelihood table s k 1) where
-  abbrev written : List Float
-  written = set (set l (2 * k) zeros) (2 * k + 1) ones
+  abbrev after : List Float
+  after = written k l zeros ones
 
-  earlier : (i : ℕ) → i < 2 * k → getD written i nan ≡ getD l i nan
-  earlier i h =
-      getD-set-other (set l (2 * k) zeros) (2 * k + 1) i ones nan (λ e. absurd (omega (arith, e)))
-      ∙ getD-set-other l (2 * k) i zeros nan (λ e. absurd (omega (arith, e)))
+  earlier : (i : ℕ) → i < 2 * k → getD after i nan ≡ getD l i nan
+  earlier i h = elsewhere k l zeros ones i (λ e. absurd (omega (arith, e))) (λ e. absurd (omega (arith, e)))
 
-  here : (getD written (2 * k) nan ≡ likelihood table s k 0) × (getD written (2 * k + 1) nan ≡ likelihood table s k 1)
+  here : (getD after (2 * k) nan ≡ likelihood table s k 0) × (getD after (2 * k + 1) nan ≡ likelihood table s k 1)
   here = (
     getD-set-other (set l (2 * k) zeros) (2 * k + 1) (2 * k) ones nan (λ e. absurd (omega (arith, e))) ∙ getD-set-same l (2 * k) zeros nan (omega arith) ∙ z,
     getD-set-same (set l (2 * k) zeros) (2 * k + 1) ones nan (rw length-set room) ∙ o,
   )
 
-  pub holds-next : HoldsLikelihoods table s (k + 1) written
+  pub holds-next : HoldsLikelihoods table s (k + 1) after
   holds-next =
-      below-more (λ j. (getD written (2 * j) nan ≡ likelihood table s j 0) × (getD written (2 * j + 1) nan ≡ likelihood table s j 1)) k
+      below-more (λ j. (getD after (2 * j) nan ≡ likelihood table s j 0) × (getD after (2 * j + 1) nan ≡ likelihood table s j 1)) k
       (λ j h. (earlier (2 * j) (omega arith) ∙ holds j h .0, earlier (2 * j + 1) (omega arith) ∙ holds j h .1)) here
 
 -- what is picked is what the score adds

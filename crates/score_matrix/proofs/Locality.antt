@@ -2,19 +2,20 @@
 use mathlib.Core.Path.{_≡_, refl, sym, ap, ap₂, _∙_}
 use mathlib.Core.List.{List}
 use mathlib.Core.Bool.{cond}
-use Prim.Native.Nat.{ℕ, zero, suc, _+_, _*_, _<_}
+use Prim.Native.Nat.{ℕ, zero, suc, _*_, _<_}
 use lib.Dec.{ltb}
-use lib.ListN.{getD, drop}
-use lib.Seq.{getD-take, getD-drop}
+use lib.ListN.{getD}
 use lib.Ieee.{Float}
 use Rattle.floats.specs.Units.{sumTo}
 use Rattle.floats.proofs.Folds.{sum-ext}
+use Rattle.lent_list.specs.Parts.{part}
+use Rattle.lent_list.proofs.Parts.{getD-part}
 use Rattle.matcher.specs.Codes.{bit, fromBits, bitPlace}
 use Rattle.matcher.proofs.Bits.{from-ext}
 use Rattle.matcher.proofs.Turns.{place-inside}
 use Rattle.score_matrix.specs.Table.{entry}
 use Rattle.score_matrix.specs.Scores.{bitCount, side, gridIndex, likelihood, term, readBit}
-use Rattle.score_matrix.specs.Locality.{part, inRecord, RecordRule, GreyRule}
+use Rattle.score_matrix.specs.Locality.{inRecord, RecordRule, GreyRule}
 use Rattle.score_matrix.proofs.Places.{index-inside}
 
 pub by-greys : GreyRule
@@ -30,10 +31,6 @@ by-greys s t b h same =
     likelihoods : (table : List Float) (k b : ℕ) → k < bitCount s → likelihood table s k b ≡ likelihood table t k b
     likelihoods table k zero l = ap₂ (entry table) (same k l) h
     likelihoods table k (suc b) l = ap₂ (entry table) h (same k l)
-
--- byte i of a part is a byte of the record
-pub getD-part : (at n : ℕ) (bytes : List ℕ) (i : ℕ) → i < n → getD (part at n bytes) i 0 ≡ getD bytes (at + i) 0
-getD-part at n bytes i l = getD-take n (drop at bytes) i 0 l ∙ getD-drop at bytes i 0
 
 pub by-record : RecordRule
 by-record bits border threshold at to a b same =

@@ -6,18 +6,17 @@ use mathlib.Core.List.{List, [], _∷_}
 use Prim.Native.Nat.{ℕ, zero, suc, _*_, _^_, _≤_, _<_, suc-le-suc}
 use native.Mathlib.Nat.{eq-or-lt-of-le, le-of-suc-le-suc, not-suc-le-zero}
 use lib.Dec.{T, eqb, eqb→eq}
-use lib.ListN.{length, getD, List·getD-map}
+use lib.ListN.{length, getD}
 use lib.IntN.{pos}
 use lib.Ieee.{Float, nan, binary32, le, lt, eq, div, mul, neg, ofInt, ofBits, fits}
 use lib.Ieee.Fits.{and-l, and-r, cond-fits, div-fits, mul-fits}
-use lib.Ieee.Bits.{ofBits-fits}
 use Rattle.integers.proofs.Parts.{minus}
 use Rattle.floats.specs.Units.{value, Finite, nought, unity, Between, clamp01}
 use Rattle.floats.proofs.Compare.{not-le→lt, finite-not-nan}
 use Rattle.floats.proofs.Ranges.{Nonpositive, nonpositive, between-finite, clamp01-between, div-not-nan}
 use Rattle.score_matrix.specs.Table.{leastEntry, entryInRange, entriesInRange, patterns, builtIn, EntryRule, BuiltInRule}
 use Rattle.score_matrix.specs.Scores.{ln2, nullScore}
-use Rattle.score_matrix.specs.Accuracy.{PassedTable, WeightInRange, lowestScore}
+use Rattle.score_matrix.specs.Accuracy.{WeightInRange, lowestScore}
 use Rattle.score_matrix.specs.declared.BoardMatchConfig.{BoardMatchConfig}
 use Rattle.score_matrix.specs.declared.BorderSample.{BorderSample}
 use Rattle.score_matrix.specs.declared.BorderSample.the-variants as border
@@ -38,14 +37,6 @@ entry-range table t i h =
 pub built-in-passes : BuiltInRule
 unfolding patterns builtIn ofBits le lt eq
 built-in-passes = tt
-
-pub built-in-passed : PassedTable builtIn
-unfolding builtIn ofBits
-built-in-passed =
-    record {
-      is-table = built-in-passes;
-      floats = λ i. rw (List·getD-map (ofBits binary32) patterns i 0x7FC00000) (ofBits-fits binary32 (getD patterns i 0x7FC00000));
-    }
 
 -- ---- a weight
 pub weight-range : WeightRule

@@ -2,13 +2,10 @@
 use mathlib.Core.Path.{_≡_}
 use mathlib.Core.List.{List}
 use Prim.Native.Nat.{ℕ, _+_, _*_, _<_}
-use lib.ListN.{getD, take, drop}
+use lib.ListN.{getD}
 use lib.Ieee.{Float}
+use Rattle.lent_list.specs.Parts.{part}
 use Rattle.score_matrix.specs.Scores.{Samples, samples, bitCount, side, grey, score, readCode}
-
--- n bytes of a record from a place on
-abbrev pub part : ℕ → ℕ → List ℕ → List ℕ
-part at n bytes = take n (drop at bytes)
 
 -- two records have the same n bytes, each from a place of its own on
 abbrev pub SameBytes : ℕ → ℕ → List ℕ → ℕ → List ℕ → Type 0
@@ -19,13 +16,13 @@ abbrev pub inRecord : ℕ → ℕ → ℕ → ℕ → List ℕ → Samples
 inRecord bits border threshold at bytes = samples bits border threshold (part at (side bits border * side bits border) bytes)
 
 -- the same score for each table and code, and the same code read
-pub record Alike (s t : Samples) : Type 0 where
+pub record EqualScores (s t : Samples) : Type 0 where
   pub scores : (table : List Float) (code : ℕ) → score table s code ≡ score table t code
   pub codes : readCode s ≡ readCode t
 
 abbrev pub RecordRule : Type 0
 RecordRule = (bits border threshold at to : ℕ) (a b : List ℕ) → SameBytes (side bits border * side bits border) at a to b
-    → Alike (inRecord bits border threshold at a) (inRecord bits border threshold to b)
+    → EqualScores (inRecord bits border threshold at a) (inRecord bits border threshold to b)
 
 abbrev pub GreyRule : Type 0
-GreyRule = (s t : Samples) → s .bits ≡ t .bits → s .threshold ≡ t .threshold → ((k : ℕ) → k < bitCount s → grey s k ≡ grey t k) → Alike s t
+GreyRule = (s t : Samples) → s .bits ≡ t .bits → s .threshold ≡ t .threshold → ((k : ℕ) → k < bitCount s → grey s k ≡ grey t k) → EqualScores s t

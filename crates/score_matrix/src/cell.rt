@@ -7,7 +7,7 @@ ghost use lib.ListN.{length};
 ghost use Rattle.floats.specs.Units.{sumTo};
 ghost use Rattle.matcher.specs.Codes.{bitPlace};
 ghost use Rattle.score_matrix.specs.Scores.{samples, side, gridIndex, score as scoreOf, readCode};
-ghost use Rattle.score_matrix.specs.Likelihoods.{HoldsLikelihoods, picked};
+ghost use Rattle.score_matrix.specs.Likelihoods.{HoldsLikelihoods, KeptFrom, picked};
 use super::table;
 use matcher::Place;
 
@@ -30,7 +30,7 @@ pub fn next_place(bits: u64, p: Place) -> Place
     Place { x: 0, y: p.y + 1 }
 }
 
-// What the bits of row y add, after those of the rows above it.
+// What the bits of row y add, after those of the rows above it. Places past them keep what they hold.
 fn row_likelihoods(
     likelihoods: &mut [f32; 128],
     table: &[f32; 511],
@@ -46,6 +46,7 @@ fn row_likelihoods(
     ensures size { λ _. ⌜ length (now (likelihoods .exit)) ≡ 128 ⌝ }
     ensures holds { λ _. ⌜ HoldsLikelihoods (now (table .entry)) (samples bits border threshold (now (grid .entry))) (y * bits + bits)
         (now (likelihoods .exit)) ⌝ }
+    ensures rest { λ _. ⌜ KeptFrom (2 * (y * bits + bits)) (now (likelihoods .entry)) (now (likelihoods .exit)) ⌝ }
 {
     let n = bits as usize;
     let first = grid_index(bits as u64, border as u64, Place { x: 0, y });
@@ -60,7 +61,7 @@ fn row_likelihoods(
 }
 
 // What each bit of a code adds to the score of a cell, into a list that is lent so that none is copied: bit k adds entry 2k where it is 0, and
-// entry 2k + 1 where it is 1.
+// entry 2k + 1 where it is 1. Places past the last bit's keep what they hold.
 pub fn bit_likelihoods(
     likelihoods: &mut [f32; 128],
     table: &[f32; 511],
@@ -74,6 +75,7 @@ pub fn bit_likelihoods(
     ensures size { λ _. ⌜ length (now (likelihoods .exit)) ≡ 128 ⌝ }
     ensures holds { λ _. ⌜ HoldsLikelihoods (now (table .entry)) (samples bits border threshold (now (grid .entry))) (bits * bits)
         (now (likelihoods .exit)) ⌝ }
+    ensures rest { λ _. ⌜ KeptFrom (2 * (bits * bits)) (now (likelihoods .entry)) (now (likelihoods .exit)) ⌝ }
 {
     let n = bits as u64;
     let mut y = 0;

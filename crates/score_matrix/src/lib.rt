@@ -1,5 +1,5 @@
 // The score of one cell (score_matrix.rs, bit_likelihood.rs; `read_code` of emit.rs). Uses `floats` and `matcher`;
-// its laws use `integers`.
+// its laws use `integers` and `lent_list`.
 ghost use mathlib.Core.Path.{_≡_};
 ghost use lib.Ieee.{binary32, sub};
 ghost use Rattle.score_matrix.specs.Scores.{nullScore};

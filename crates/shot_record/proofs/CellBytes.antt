@@ -11,7 +11,7 @@ use lib.IntN.{ℤ}
 use mir.Syntax.{w16}
 use mir.Val.{SFits, ofZ, toZ}
 use mir.ValLaws.{ofZ-fits, toZ-ofZ, toZ-fits, ofZ-toZ}
-use Rattle.shot_record.specs.Fields.{number, cellLength, bitsOf, borderOf, gridSize, sampled, cellAt}
+use Rattle.shot_record.specs.Fields.{number, sampleLength, cellLength, bitsOf, borderOf, gridSize, sampled, cellAt, Point}
 use Rattle.shot_record.specs.Shots.{Sample, Cell, list, sampleAt, cellFrom, cellOf}
 use Rattle.shot_record.specs.Writing.{littleEndian, each, isSampled, sampleBytes, cellBytes, All, Bytes, IfSampled, FitCell}
 use Rattle.shot_record.proofs.Reading.{Small, number-below, starts-rise}
@@ -31,58 +31,68 @@ coordinate-written : {bytes rest : List ℕ} {to : ℕ} → Small bytes → (at 
 coordinate-written {bytes} s at e r =
     rw (ofZ-toZ w16 (number 2 at bytes) (record { fits = number-below bytes s 2 at })) (number-written s 2 at e r)
 
--- ---- what is sampled of a cell, from 4 bytes after the cell's first
-sample-read : {bytes rest : List ℕ} (grid at : ℕ) (o : Option Sample) → IfSampled grid o → Runs bytes (at + 4) (sampleBytes o ++ rest)
-    → Read (sampleAt (isSampled o) grid at bytes) o bytes (at + cellLength (isSampled o) grid) rest
-sample-read grid at none f r = record { value = refl; next = r }
+-- ---- a sample
+sample-read : {bytes rest : List ℕ} (grid at : ℕ) (o : Option Sample) → IfSampled grid o → Runs bytes at (sampleBytes o ++ rest)
+    → Read (sampleAt (isSampled o) grid at bytes) o bytes (at + sampleLength (isSampled o) grid) rest
+sample-read grid at none f r = record { value = refl; next = after [] (at + 0) r (omega arith) }
 sample-read {bytes} {rest} grid at (some s) f r =
-    let fraction = number-read 4 (at + 8) (s .fraction) (f .fraction) (omega arith)
+    let fraction = number-read 4 (at + 4) (s .fraction) (f .fraction) refl
     (rw (append-assoc (littleEndian 4 (s .fraction)) (s .threshold ∷ s .grid) rest) at r) in
-    let greys = after (s .threshold ∷ []) (at + 9) (fraction .next) (omega arith) in
-    let threshold = byte-is (at + 8) 0 (omega arith) (fraction .next) in
+    let greys = after (s .threshold ∷ []) (at + 5) (fraction .next) (omega arith) in
+    let threshold = byte-is (at + 4) 0 (omega arith) (fraction .next) in
     let cut = ap (take grid) (greys .holds) ∙ take-at (s .grid) rest grid (f .size) in
     record {
       value = λ i. some (record { fraction = fraction .value i; threshold = threshold i; grid = cut i });
-      next = after (s .grid) (at + (9 + grid)) greys (omega (arith, f .size));
+      next = after (s .grid) (at + (5 + grid)) greys (omega (arith, f .size));
     }
 
-sample-written : {bytes rest : List ℕ} → Small bytes → (b grid at : ℕ) → Runs bytes (at + cellLength b grid) rest
-    → Runs bytes (at + 4) (sampleBytes (sampleAt b grid at bytes) ++ rest)
-sample-written s zero grid at r = r
+sample-written : {bytes rest : List ℕ} → Small bytes → (b grid at : ℕ) → Runs bytes (at + sampleLength b grid) rest
+    → Runs bytes at (sampleBytes (sampleAt b grid at bytes) ++ rest)
+sample-written s zero grid at r = after [] at r (omega arith)
 sample-written s (suc n) grid at r =
-    let greys = back (at + 9) grid r (omega arith) (λ h. refl) in
-    rw append-assoc (number-written s 4 (at + 4) (omega arith) (byte-written (at + 8) (omega arith) greys))
+    let greys = back (at + 5) grid r (omega arith) (λ h. refl) in
+    rw append-assoc (number-written s 4 at refl (byte-written (at + 4) (omega arith) greys))
 
-sample-fits : (bytes : List ℕ) → Bytes bytes → (b grid at : ℕ) → at + cellLength b grid ≤ length bytes → IfSampled grid (sampleAt b grid at bytes)
+sample-fits : (bytes : List ℕ) → Bytes bytes → (b grid at : ℕ) → at + sampleLength b grid ≤ length bytes → IfSampled grid (sampleAt b grid at bytes)
 sample-fits bytes b zero grid at h = tt
 sample-fits bytes b (suc n) grid at h =
     record {
-      fraction = number-below bytes (byte-below bytes b) 4 (at + 4);
-      threshold = byte-below bytes b (at + 8);
-      size = length-take-le grid (drop (at + 9) bytes) (omega (arith, length-drop (at + 9) bytes));
-      greys = all-take (λ (x : ℕ). x < 256) grid (drop (at + 9) bytes) (all-drop (λ (x : ℕ). x < 256) (at + 9) bytes b);
+      fraction = number-below bytes (byte-below bytes b) 4 at;
+      threshold = byte-below bytes b (at + 4);
+      size = length-take-le grid (drop (at + 5) bytes) (omega (arith, length-drop (at + 5) bytes));
+      greys = all-take (λ (x : ℕ). x < 256) grid (drop (at + 5) bytes) (all-drop (λ (x : ℕ). x < 256) (at + 5) bytes b);
     }
 
--- ---- a cell
+-- ---- a cell: its point, and its sample behind it
+abbrev pointAt : List ℕ → ℕ → Point
+pointAt bytes at = record { u = number 2 at bytes; v = number 2 (at + 2) bytes }
+
+abbrev cellFound : ℕ → ℕ → ℕ → List ℕ → Cell
+cellFound b grid at bytes = cellFrom (pointAt bytes at) (sampleAt b grid (at + 4) bytes)
+
 cell-read : {bytes rest : List ℕ} (b grid at : ℕ) (c : Cell) → FitCell grid c → b ≡ isSampled (c .sample)
-    → Runs bytes at (cellBytes c ++ rest) → Read (cellFrom b grid at bytes) c bytes (at + cellLength b grid) rest
+    → Runs bytes at (cellBytes c ++ rest) → Read (cellFound b grid at bytes) c bytes (at + cellLength 4 b grid) rest
 cell-read b grid at c f e r =
     let u = coordinate-read (at + 2) (c .u) (f .u) refl (simp append-assoc at r) in
     let v = coordinate-read (at + 4) (c .v) (f .v) (omega arith) (u .next) in
-    let s = sample-read grid at (c .sample) (f .sample) (v .next) in
-    rw e (record { value = λ i. record { u = u .value i; v = v .value i; sample = s .value i }; next = s .next })
+    let s = sample-read grid (at + 4) (c .sample) (f .sample) (v .next) in
+    rw e (record {
+      value = λ i. record { u = u .value i; v = v .value i; sample = s .value i };
+      next = after [] (at + cellLength 4 (isSampled (c .sample)) grid) (s .next) (omega arith);
+    })
 
-cell-written : {bytes rest : List ℕ} → Small bytes → (b grid at : ℕ) → Runs bytes (at + cellLength b grid) rest
-    → Runs bytes at (cellBytes (cellFrom b grid at bytes) ++ rest)
+cell-written : {bytes rest : List ℕ} → Small bytes → (b grid at : ℕ) → Runs bytes (at + cellLength 4 b grid) rest
+    → Runs bytes at (cellBytes (cellFound b grid at bytes) ++ rest)
 cell-written s n grid at r =
-    simp append-assoc (coordinate-written s at refl (coordinate-written s (at + 2) (omega arith) (sample-written s n grid at r)))
+    let sample = sample-written s n grid (at + 4) (after [] (at + 4 + sampleLength n grid) r (omega arith)) in
+    simp append-assoc (coordinate-written s at refl (coordinate-written s (at + 2) (omega arith) sample))
 
-cell-fits : (bytes : List ℕ) → Bytes bytes → (b grid at : ℕ) → at + cellLength b grid ≤ length bytes → FitCell grid (cellFrom b grid at bytes)
+cell-fits : (bytes : List ℕ) → Bytes bytes → (b grid at : ℕ) → at + cellLength 4 b grid ≤ length bytes → FitCell grid (cellFound b grid at bytes)
 cell-fits bytes b n grid at h =
     record {
       u = toZ-fits w16 (number 2 at bytes) (record { fits = number-below bytes (byte-below bytes b) 2 at });
       v = toZ-fits w16 (number 2 (at + 2) bytes) (record { fits = number-below bytes (byte-below bytes b) 2 (at + 2) });
-      sample = sample-fits bytes b n grid at h;
+      sample = sample-fits bytes b n grid (at + 4) (omega (arith, h));
     }
 
 -- ---- all cells

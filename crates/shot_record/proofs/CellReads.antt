@@ -6,7 +6,7 @@ use native.Mathlib.Omega.{arith}
 use mathlib.Core.List.{List, []}
 use lib.ListN.{length, getD, take, drop}
 use Rattle.shot_record.specs.declared.cells.Part.{Part}
-use Rattle.shot_record.specs.Fields.{bitsOf, borderOf, gridSize, cellCount, sampled, cellLength, cellAt}
+use Rattle.shot_record.specs.Fields.{bitsOf, borderOf, gridSize, cellCount, sampled, sampleLength, cellAt, samplePlace, gridFrom}
 use Rattle.shot_record.specs.Shots.{Cell, sampleAt, cellOf, shot}
 use Rattle.shot_record.specs.Answers.{gridWith, partWith}
 use Rattle.shot_record.specs.Writing.{FitCell}
@@ -20,7 +20,7 @@ use Rattle.shot_record.proofs.CellBytes.{cell-fit}
 pub without-grid : (b grid at : ℕ) (bytes : List ℕ) → b ≡ 0 → [] ≡ gridWith (sampleAt b grid at bytes)
 without-grid b grid at bytes e = rw e refl
 
-pub with-grid : (b grid at : ℕ) (bytes : List ℕ) → (b ≡ 0 → ⊥) → take grid (drop (at + 9) bytes) ≡ gridWith (sampleAt b grid at bytes)
+pub with-grid : (b grid at : ℕ) (bytes : List ℕ) → (b ≡ 0 → ⊥) → take grid (drop (gridFrom at) bytes) ≡ gridWith (sampleAt b grid at bytes)
 with-grid zero grid at bytes h = absurd (h refl)
 with-grid (suc b) grid at bytes h = refl
 
@@ -28,11 +28,11 @@ pub without-part : (b grid at : ℕ) (bytes : List ℕ) → b ≡ 0 → _≡_ {A
 without-part b grid at bytes e = rw e refl
 
 pub with-part : (b grid at : ℕ) (bytes : List ℕ) → (b ≡ 0 → ⊥)
-    → _≡_ {A = Part} (record { first = at + 9; end = at + 9 + grid }) (partWith at grid (sampleAt b grid at bytes))
+    → _≡_ {A = Part} (record { first = gridFrom at; end = gridFrom at + grid }) (partWith at grid (sampleAt b grid at bytes))
 with-part zero grid at bytes h = absurd (h refl)
 with-part (suc b) grid at bytes h = refl
 
-sampled-size : (b grid : ℕ) → (b ≡ 0 → ⊥) → cellLength b grid ≡ 9 + grid
+sampled-size : (b grid : ℕ) → (b ≡ 0 → ⊥) → sampleLength b grid ≡ 5 + grid
 sampled-size zero grid h = absurd (h refl)
 sampled-size (suc b) grid h = refl
 
@@ -51,7 +51,7 @@ module _ (bytes : List ℕ) (w : Whole bytes) (k : ℕ) (inside : k < cellCount 
   pub starts-inside : cellAt bytes k ≤ length bytes
   starts-inside = omega (arith, starts-rise bytes k (cellCount bytes) (omega arith), w .end)
 
-  pub grid-lies : (sampled bytes k ≡ 0 → ⊥) → cellAt bytes k + (9 + size) ≤ length bytes
+  pub grid-lies : (sampled bytes k ≡ 0 → ⊥) → gridFrom (samplePlace bytes k) + size ≤ length bytes
   unfolding cellAt
   grid-lies marked =
       let rise = starts-rise bytes (suc k) (cellCount bytes) inside in

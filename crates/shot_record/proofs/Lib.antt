@@ -7,10 +7,12 @@ pub mod Runs
 pub mod Sequences
 pub mod CellMaps
 pub mod CellBytes
+pub mod Walks
 pub mod CellReads
 pub mod Entries
 pub mod Parts
 pub mod ReadBack
 pub mod WrittenBack
+pub mod Sections
 pub mod Laws
 pub mod Unchanged

@@ -5,12 +5,12 @@ use mathlib.Core.List.{List, [], _∷_, _++_}
 use native.Mathlib.Nat.{add-suc}
 use native.Mathlib.Omega.{arith}
 use lib.Dec.{lit<}
-use lib.Pow.{shr-lt, high, low}
+use lib.Pow.{shr-lt}
 use lib.ListN.{length, take, drop}
 use lib.Seq.{drop-cons, getD-drop}
 use Rattle.shot_record.specs.Fields.{number}
 use Rattle.shot_record.specs.Writing.{littleEndian, Bytes}
-use Rattle.shot_record.proofs.Reading.{Small, number-split, number-below}
+use Rattle.shot_record.proofs.Reading.{Small}
 
 pub byte-below : (bytes : List ℕ) → Bytes bytes → Small bytes
 byte-below [] b at = lit< tt
@@ -52,11 +52,3 @@ le-of-number bytes s (suc n) at h =
     ap (take (suc n)) (drop-cons bytes at 0 (omega arith))
     ∙ ap₂ (λ (x : ℕ) (l : List ℕ). x ∷ l) (omega (arith, s at))
     (le-of-number bytes s n (suc at) (omega arith) ∙ ap (littleEndian n) (omega (arith, s at)))
-
--- ---- the two halves of a number
-module _ (bytes : List ℕ) (s : Small bytes) (m n at : ℕ) where
-  pub low-half : number (m + n) at bytes % 2 ^ (8 * m) ≡ number m at bytes
-  low-half = rw (number-split bytes m n at) (low (number n (at + m) bytes) (8 * m) (number-below bytes s m at))
-
-  pub high-half : number (m + n) at bytes / 2 ^ (8 * m) ≡ number n (at + m) bytes
-  high-half = rw (number-split bytes m n at) (high (number n (at + m) bytes) (8 * m) (number-below bytes s m at))

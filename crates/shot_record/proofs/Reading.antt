@@ -18,7 +18,7 @@ use Rattle.shot_record.specs.declared.fields.Fields.{Fields}
 use Rattle.shot_record.specs.Shots.{numbers, setting, shot}
 use Rattle.shot_record.proofs.Lists.{length-list, getD-list}
 use Rattle.shot_record.specs.Fields.{fieldsOf, byte, number, mapByte, isSet, thresholdAt, pxAt, tableAt, rowsAt, bitsOf, borderOf, codeCount, codesAt}
-use Rattle.shot_record.specs.Fields.{cellCountAt, cellCount, cellMapAt, cellMap, sampled, mapSize, gridSize, cellLength, cellsAt, cellAt}
+use Rattle.shot_record.specs.Fields.{cellCountAt, cellCount, cellMapAt, sampled, mapSize, mapOf, gridSize, pointSize, sampleLength, cellLength, cellsAt, cellAt}
 
 -- the fields that were found, one by one
 pub record Found (f : Fields) (bytes : List ℕ) : Type 0 where
@@ -126,7 +126,7 @@ module _ (bytes : List ℕ) (s : Small bytes) where
       rw (more, pow-add 2 (8 * n) 8) (omega (arith, s at, number-below n (suc at)))
 
   -- bit k stands in byte k / 8
-  number-bit : (n at k : ℕ) → k < 8 * n → bit (number n at bytes) k ≡ bit (byte (at + k / 8) bytes) (k % 8)
+  pub number-bit : (n at k : ℕ) → k < 8 * n → bit (number n at bytes) k ≡ bit (byte (at + k / 8) bytes) (k % 8)
   unfolding number
   number-bit zero at k h = absurd (omega arith)
   number-bit (suc n) at k h = go (ltb k 8) (ltb→lt k 8) (nltb→le k 8) (number-bit n (suc at) (k - 8))
@@ -179,17 +179,12 @@ module _ (bytes : List ℕ) (s : Small bytes) where
   start-reach zero = omega (arith, map-reach, count-reach)
   start-reach (suc k) = omega (arith, start-reach k, size-reach (sampled bytes k))
     where
-      size-reach : (b : ℕ) → cellLength b (gridSize (bitsOf bytes) (borderOf bytes)) ≤ 585234
+      size-reach : (b : ℕ) → sampleLength b (gridSize (bitsOf bytes) (borderOf bytes)) ≤ 585230
       size-reach zero = lit≤ tt
       size-reach (suc b) = omega (arith, grid-reach)
 
-  -- the bit of a cell in the cell map
-  pub map-bit : (k : ℕ) → k < cellCount bytes → sampled bytes k ≡ bit (byte (cellMapAt bytes + k / 8) bytes) (k % 8)
-  unfolding cellMap
-  map-bit k h = number-bit (mapSize (cellCount bytes)) (cellMapAt bytes) k (omega arith)
-
-  -- the spare bits of a map of n cells: none, or those of the last byte from n % 8 up
-  no-spare : (n at : ℕ) → n % 8 ≡ 0 → number (mapSize n) at bytes < 2 ^ n
+  -- the spare bits of a map of n bits: none, or those of the last byte from n % 8 up
+  pub no-spare : (n at : ℕ) → n % 8 ≡ 0 → mapOf n at bytes < 2 ^ n
   no-spare n at e =
       let all : 8 * mapSize n ≡ n = omega arith in
       rw all at (number-below (mapSize n) at)
@@ -201,7 +196,7 @@ module _ (bytes : List ℕ) (s : Small bytes) where
     abbrev before : ℕ
     before = number (n / 8) at bytes
 
-    split : number (mapSize n) at bytes ≡ before + last * 2 ^ (8 * (n / 8))
+    split : mapOf n at bytes ≡ before + last * 2 ^ (8 * (n / 8))
     unfolding number
     split =
         let size : mapSize n ≡ n / 8 + 1 = omega arith in
@@ -212,32 +207,23 @@ module _ (bytes : List ℕ) (s : Small bytes) where
         let sum : n ≡ n % 8 + 8 * (n / 8) = omega arith in
         ap (λ (m : ℕ). 2 ^ m) sum ∙ pow-add 2 (n % 8) (8 * (n / 8))
 
-    clear : last < 2 ^ (n % 8) → number (mapSize n) at bytes < 2 ^ n
+    clear : last < 2 ^ (n % 8) → mapOf n at bytes < 2 ^ n
     clear h =
         rw (split, power) (omega (arith, number-below (n / 8) at, mul-le-mul-right (2 ^ (8 * (n / 8))) h))
 
-    unclear : 2 ^ (n % 8) ≤ last → 2 ^ n ≤ number (mapSize n) at bytes
+    unclear : 2 ^ (n % 8) ≤ last → 2 ^ n ≤ mapOf n at bytes
     unclear h = rw (split, power) (omega (arith, mul-le-mul-right (2 ^ (8 * (n / 8))) h))
 
-    spare : eqb (last / 2 ^ (n % 8)) 0 ≡ ltb (number (mapSize n) at bytes) (2 ^ n)
+    pub spare : eqb (last / 2 ^ (n % 8)) 0 ≡ ltb (mapOf n at bytes) (2 ^ n)
     spare = go (ltb last (2 ^ (n % 8))) (ltb→lt last (2 ^ (n % 8))) (nltb→le last (2 ^ (n % 8)))
       where
         go : (b : Bool) → (T b → last < 2 ^ (n % 8)) → (T (not b) → 2 ^ (n % 8) ≤ last)
-            → eqb (last / 2 ^ (n % 8)) 0 ≡ ltb (number (mapSize n) at bytes) (2 ^ n)
+            → eqb (last / 2 ^ (n % 8)) 0 ≡ ltb (mapOf n at bytes) (2 ^ n)
         go true less more =
-            eq-eqb (last / 2 ^ (n % 8)) 0 (div-eq-of-lt (less tt)) ∙ sym (lt-ltb (number (mapSize n) at bytes) (2 ^ n) (clear (less tt)))
+            eq-eqb (last / 2 ^ (n % 8)) 0 (div-eq-of-lt (less tt)) ∙ sym (lt-ltb (mapOf n at bytes) (2 ^ n) (clear (less tt)))
         go false less more =
             let one : 1 ≤ last / 2 ^ (n % 8) = le-div-iff-mul-le (pow-pos (n % 8)) .1 (omega (arith, more tt)) in
-            ne-eqb (last / 2 ^ (n % 8)) 0 (λ e. absurd (omega (arith, one, e))) ∙ sym (le-ltb (number (mapSize n) at bytes) (2 ^ n) (unclear (more tt)))
-
-  pub map-clear : cellCount bytes % 8 ≡ 0 → cellMap bytes < 2 ^ cellCount bytes
-  unfolding cellMap
-  map-clear e = no-spare (cellCount bytes) (cellMapAt bytes) e
-
-  pub map-spare : 0 < cellCount bytes % 8
-      → eqb (byte (cellMapAt bytes + cellCount bytes / 8) bytes / 2 ^ (cellCount bytes % 8)) 0 ≡ ltb (cellMap bytes) (2 ^ cellCount bytes)
-  unfolding cellMap
-  map-spare h = spare (cellCount bytes) (cellMapAt bytes) h
+            ne-eqb (last / 2 ^ (n % 8)) 0 (λ e. absurd (omega (arith, one, e))) ∙ sym (le-ltb (mapOf n at bytes) (2 ^ n) (unclear (more tt)))
 
 -- a later cell does not start before an earlier one
 pub starts-rise : (bytes : List ℕ) (k n : ℕ) → k ≤ n → cellAt bytes k ≤ cellAt bytes n
@@ -249,4 +235,4 @@ starts-rise bytes k (suc n) h = go (eq-or-lt-of-le h) (starts-rise bytes k n)
   where
     go : (k ≡ suc n) ⊎ (k < suc n) → (k ≤ n → cellAt bytes k ≤ cellAt bytes n) → cellAt bytes k ≤ cellAt bytes (suc n)
     go (inl e) ih = rw e (le-refl (cellAt bytes (suc n)))
-    go (inr l) ih = le-trans (ih (le-of-suc-le-suc l)) (le-add-right (cellAt bytes n) (cellLength (sampled bytes n) (gridSize (bitsOf bytes) (borderOf bytes))))
+    go (inr l) ih = le-trans (ih (le-of-suc-le-suc l)) (le-add-right (cellAt bytes n) (cellLength pointSize (sampled bytes n) (gridSize (bitsOf bytes) (borderOf bytes))))

@@ -9,10 +9,10 @@ use lib.Dec.{T, ltb, ltb→lt, nltb→le}
 use lib.ListN.{length, drop, length-take, length-drop}
 use lib.Seq.{ext-getD}
 use Rattle.matcher.specs.Codes.{bit}
-use Rattle.score_matrix.specs.Locality.{part}
-use Rattle.score_matrix.proofs.Locality.{getD-part}
+use Rattle.lent_list.specs.Parts.{part}
+use Rattle.lent_list.proofs.Parts.{getD-part}
 use Rattle.shot_record.specs.Fields.{byte, number, mapByte, thresholdAt, pxAt, tableAt, rowsAt, bitsOf, borderOf, codeCount, cellCountAt, cellCount}
-use Rattle.shot_record.specs.Fields.{cellMapAt, cellMap, mapSize, sampled, gridSize, cellLength, cellAt}
+use Rattle.shot_record.specs.Fields.{cellMapAt, cellMap, mapSize, sampled, gridSize, pointSize, cellLength, cellAt, samplePlace, gridFrom}
 use Rattle.shot_record.specs.Shots.{sampleAt, cellOf, wholeRecord, parse}
 use Rattle.shot_record.specs.Answers.{gridWith, gridAnswer, partWith}
 use Rattle.shot_record.specs.Unchanged.{SameBetween, SameOutline, SamePart, partOf, UnchangedRule}
@@ -61,13 +61,13 @@ module _ (a b : List ℕ) (o : SameOutline a b) where
   start-same : (k : ℕ) → cellAt a k ≡ cellAt b k
   unfolding cellAt
   start-same zero = ap₂ (λ (at n : ℕ). at + 2 + mapSize n) count-at-same count-same
-  start-same (suc k) = ap₂ _+_ (start-same k) (ap₂ cellLength (sampled-same k) size-same)
+  start-same (suc k) = ap₂ _+_ (start-same k) (ap₂ (cellLength pointSize) (sampled-same k) size-same)
 
   whole-same : wholeRecord a ≡ wholeRecord b
   unfolding wholeRecord
   whole-same = rw (o .size, map-same, cell-map-same, count-same, start-same (cellCount b)) refl
 
--- ---- the part of cell k, by whether it is sampled (not 0) and where it starts
+-- ---- the part of cell k, by whether it is sampled (not 0) and where its sample starts
 record PartBy (x : List ℕ) (k isSampled size at : ℕ) : Type 0 where
   part : partOf x k ≡ partWith at size (sampleAt isSampled size at x)
   grid : gridAnswer (parse x) k ≡ gridWith (sampleAt isSampled size at x)
@@ -83,7 +83,7 @@ of-absent x k size at w l =
     let n = getElem?-list-past (cellOf x) (cellCount x) k l in
     record { part = rw (w, n) refl; grid = rw (w, n) refl }
 
-of-cell : (x : List ℕ) (k : ℕ) → wholeRecord x ≡ true → k < cellCount x → PartBy x k (sampled x k) (gridSize (bitsOf x) (borderOf x)) (cellAt x k)
+of-cell : (x : List ℕ) (k : ℕ) → wholeRecord x ≡ true → k < cellCount x → PartBy x k (sampled x k) (gridSize (bitsOf x) (borderOf x)) (samplePlace x k)
 unfolding parse
 of-cell x k w l =
     let n = getElem?-list (cellOf x) (cellCount x) k l in
@@ -106,7 +106,7 @@ part-kept a b k (suc n) size at e x y same =
       place = y .part ∙ sym (x .part);
       grid =
           y .grid
-          ∙ part-same a b (at + 9) size e (λ i l h. same i (rw (x .part) l) (rw (x .part) h))
+          ∙ part-same a b (gridFrom at) size e (λ i l h. same i (rw (x .part) l) (rw (x .part) h))
           ∙ sym (x .grid);
     }
 
@@ -120,7 +120,7 @@ unchanged a b o k same = go (wholeRecord a) refl (ltb k (cellCount a)) (ltb→lt
     go false w t less more = part-kept a b k 0 0 0 (o .size) (of-refused a k 0 0 w) (of-refused b k 0 0 (whole w)) same
     go true w true less more =
         let of-b = of-cell b k (whole w) (rw (count-same a b o) at (less tt)) in
-        part-kept a b k (sampled a k) (gridSize (bitsOf a) (borderOf a)) (cellAt a k) (o .size) (of-cell a k w (less tt))
+        part-kept a b k (sampled a k) (gridSize (bitsOf a) (borderOf a)) (samplePlace a k) (o .size) (of-cell a k w (less tt))
         (rw (sampled-same a b o k, size-same a b o, start-same a b o k) of-b)
         same
     go true w false less more =

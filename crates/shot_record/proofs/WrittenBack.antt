@@ -60,12 +60,12 @@ module _ (bytes : List ℕ) (b : Bytes bytes) (w : Whole bytes) where
       rw (length-list (cellOf bytes) (cellCount bytes), map-of-read bytes (w .cell-map))
       (number-written small (mapSize (cellCount bytes)) (cellMapAt bytes) refl cells)
 
-  cell-count : Runs bytes (cellCountAt bytes) (fromCellCount s)
+  pub cell-count : Runs bytes (cellCountAt bytes) (fromCellCount s)
   cell-count =
       subst (λ (n : ℕ). Runs bytes (cellCountAt bytes) (littleEndian 2 n ++ fromCellMap s)) (sym (length-list (cellOf bytes) (cellCount bytes)))
       (number-written small 2 (cellCountAt bytes) refl cell-map)
 
-  codes : Runs bytes (codesAt bytes) (fromCodes s)
+  pub codes : Runs bytes (codesAt bytes) (fromCodes s)
   unfolding cellCountAt
   codes = numbers-written small 8 (codeCount bytes) (codesAt bytes) cell-count
 
@@ -108,7 +108,7 @@ module _ (bytes : List ℕ) (b : Bytes bytes) (w : Whole bytes) where
   unfolding thresholdAt
   margin = float 0 marginAt defaultMargin threshold
 
-  bytes-are : bytes ≡ bytesOf m s
+  pub bytes-are : bytes ≡ bytesOf m s
   bytes-are = byte-written 0 refl margin .holds ∙ sym (bytes-parts m s)
 
   -- ---- their ranges

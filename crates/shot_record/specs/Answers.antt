@@ -19,7 +19,7 @@ use Rattle.shot_record.specs.declared.ReadCode.the-variants as code
 use Rattle.shot_record.specs.declared.ReadCell.{ReadCell}
 use Rattle.shot_record.specs.declared.ReadCell.the-variants as cell
 use Rattle.shot_record.specs.declared.cells.Part.{Part}
-use Rattle.shot_record.specs.Fields.{mapByte, gridSize, cellAt}
+use Rattle.shot_record.specs.Fields.{mapByte, gridSize, samplePlace, gridFrom}
 use Rattle.shot_record.specs.Shots.{Sample, Cell, Shot, parse}
 
 -- the f32 of a pattern
@@ -98,18 +98,18 @@ abbrev pub gridAnswer : Option Shot → ℕ → List ℕ
 gridAnswer none k = []
 gridAnswer (some s) k = gridRead (getElem? (s .cells) k)
 
--- Where in the record that grid is, for a cell that starts at a place: no bytes from the first on where there is no grid.
+-- Where in the record that grid is, for a cell whose sample starts at a place: no bytes from the first on where there is no grid.
 abbrev pub partWith : ℕ → ℕ → Option Sample → Part
-partWith at size none = record { first = 0; end = 0 }
-partWith at size (some s) = record { first = at + 9; end = at + 9 + size }
+partWith place size none = record { first = 0; end = 0 }
+partWith place size (some s) = record { first = gridFrom place; end = gridFrom place + size }
 
 abbrev pub partRead : ℕ → ℕ → Option Cell → Part
-partRead at size none = record { first = 0; end = 0 }
-partRead at size (some c) = partWith at size (c .sample)
+partRead place size none = record { first = 0; end = 0 }
+partRead place size (some c) = partWith place size (c .sample)
 
 abbrev pub partAnswer : List ℕ → Option Shot → ℕ → Part
 partAnswer bytes none k = record { first = 0; end = 0 }
-partAnswer bytes (some s) k = partRead (cellAt bytes k) (gridSize (s .bits) (s .border)) (getElem? (s .cells) k)
+partAnswer bytes (some s) k = partRead (samplePlace bytes k) (gridSize (s .bits) (s .border)) (getElem? (s .cells) k)
 
 -- Of a cell, sampled or not: its border, and its threshold, 0 for an unsampled cell.
 abbrev pub borderWith : Option Sample → BorderSample

@@ -1,6 +1,7 @@
 -- Document 01, "The shot record": where each field of a record starts. A byte past the end of the record counts as 0; such a record is
 -- refused (`whole` in Shots.antt).
-use Prim.Native.Nat.{ℕ, zero, suc, _+_, _*_, _/_}
+use mathlib.Core.Path.{_≡_}
+use Prim.Native.Nat.{ℕ, zero, suc, _+_, _*_, _/_, _<_}
 use mathlib.Core.Bool.{Bool, not}
 use mathlib.Core.List.{List}
 use lib.Dec.{eqb}
@@ -8,6 +9,7 @@ use lib.ListN.{getD}
 use Rattle.matcher.specs.Codes.{bit}
 use Rattle.score_matrix.specs.Scores.{side}
 use Rattle.shot_record.specs.declared.fields.Fields.{Fields}
+use Rattle.shot_record.specs.declared.cells.Cursor.{Cursor}
 
 abbrev pub byte : ℕ → List ℕ → ℕ
 byte at bytes = getD bytes at 0
@@ -61,15 +63,19 @@ cellCountAt bytes = codesAt bytes + 8 * codeCount bytes
 abbrev pub cellCount : List ℕ → ℕ
 cellCount bytes = number 2 (cellCountAt bytes) bytes
 
--- a cell map, lowest bit first, set where sampled: read as one number, whose bit k is that of cell k;
+-- a map of n bits from a place on, lowest bit first: read as one number, whose bit k is the map's;
 abbrev pub mapSize : ℕ → ℕ
-mapSize cells = (cells + 7) / 8
+mapSize n = (n + 7) / 8
 
+abbrev pub mapOf : ℕ → ℕ → List ℕ → ℕ
+mapOf n at bytes = number (mapSize n) at bytes
+
+-- a cell map, set where sampled;
 abbrev pub cellMapAt : List ℕ → ℕ
 cellMapAt bytes = cellCountAt bytes + 2
 
 unfoldable pub cellMap : List ℕ → ℕ
-cellMap bytes = number (mapSize (cellCount bytes)) (cellMapAt bytes) bytes
+cellMap bytes = mapOf (cellCount bytes) (cellMapAt bytes) bytes
 
 abbrev pub sampled : List ℕ → ℕ → ℕ
 sampled bytes k = bit (cellMap bytes) k
@@ -78,16 +84,40 @@ sampled bytes k = bit (cellMap bytes) k
 abbrev pub gridSize : ℕ → ℕ → ℕ
 gridSize bits border = side bits border * side bits border
 
-abbrev pub cellLength : ℕ → ℕ → ℕ
-cellLength zero grid = 4
-cellLength (suc b) grid = 9 + grid
+abbrev pub pointSize : ℕ
+pointSize = 4
+
+abbrev pub sampleLength : ℕ → ℕ → ℕ
+sampleLength zero grid = 0
+sampleLength (suc b) grid = 5 + grid
+
+abbrev pub cellLength : ℕ → ℕ → ℕ → ℕ
+cellLength point isSampled grid = point + sampleLength isSampled grid
 
 abbrev pub cellsAt : List ℕ → ℕ
 cellsAt bytes = cellMapAt bytes + mapSize (cellCount bytes)
 
 unfoldable pub cellAt : List ℕ → ℕ → ℕ
 cellAt bytes zero = cellsAt bytes
-cellAt bytes (suc k) = cellAt bytes k + cellLength (sampled bytes k) (gridSize (bitsOf bytes) (borderOf bytes))
+cellAt bytes (suc k) = cellAt bytes k + cellLength pointSize (sampled bytes k) (gridSize (bitsOf bytes) (borderOf bytes))
+
+-- The point of cell k: u and v, each by its 16 bits.
+pub record Point : Type 0 where
+  pub u : ℕ
+  pub v : ℕ
+
+abbrev pub pointOf : List ℕ → ℕ → Point
+pointOf bytes k = record { u = number 2 (cellAt bytes k) bytes; v = number 2 (cellAt bytes k + 2) bytes }
+
+-- Where the sample of cell k starts, if it has one: its fraction. Threshold and grid follow 4 and 5 bytes behind that place.
+abbrev pub samplePlace : List ℕ → ℕ → ℕ
+samplePlace bytes k = cellAt bytes k + pointSize
+
+abbrev pub thresholdFrom : ℕ → ℕ
+thresholdFrom place = place + 4
+
+abbrev pub gridFrom : ℕ → ℕ
+gridFrom place = place + 5
 
 -- all these places and counts
 unfoldable pub fieldsOf : List ℕ → Fields
@@ -104,3 +134,11 @@ fieldsOf bytes =
       «cells_at» = cellsAt bytes;
       «grid_size» = gridSize (bitsOf bytes) (borderOf bytes);
     }
+
+-- a walk over the cells at cell k
+abbrev pub cursorAt : List ℕ → ℕ → Cursor
+cursorAt bytes k = record { cell = k; start = cellAt bytes k }
+
+-- what is known at a cell of a walk: the fields of this record, and that the walk is at one of its cells
+abbrev pub AtCell : List ℕ → Fields → Cursor → Type 0
+AtCell bytes f c = (f ≡ fieldsOf bytes) × (c ≡ cursorAt bytes (c .cell)) × (c .cell < f .«cell_count»)

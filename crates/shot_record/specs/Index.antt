@@ -12,14 +12,20 @@ use mir.Val.{toZ}
 use Rattle.score_matrix.specs.declared.BorderSample.{BorderSample}
 use Rattle.score_matrix.specs.declared.BorderSample.the-variants as border
 use Rattle.shot_record.specs.declared.fields.Fields.{Fields}
-use Rattle.shot_record.specs.Fields.{byte, number, fieldsOf, cellCount, sampled, cellAt}
+use Rattle.shot_record.specs.Fields.{byte, number, fieldsOf, cellCount, sampled, Point, pointOf, samplePlace, thresholdFrom, gridFrom}
 use Rattle.shot_record.specs.Shots.{setting, cellOf, wholeRecord}
 use Rattle.shot_record.specs.Answers.{ofPattern, borderWith, thresholdWith}
 
--- the words of a cell, from its first byte on
-abbrev pub wordsFrom : ℕ → ℕ → List ℕ → List ℕ
-wordsFrom zero at bytes = number 4 at bytes ∷ 0 ∷ 0 ∷ []
-wordsFrom (suc b) at bytes = number 4 at bytes ∷ number 4 (at + 4) bytes ∷ ((at + 9) * 256 + byte (at + 8) bytes) ∷ []
+-- the words of a cell, by its point, whether it is sampled (not 0), and where its sample starts
+abbrev pub pointWord : Point → ℕ
+pointWord p = p .u + 65536 * p .v
+
+abbrev pub wordsFrom : Point → ℕ → ℕ → List ℕ → List ℕ
+wordsFrom p zero place bytes = pointWord p ∷ 0 ∷ 0 ∷ []
+wordsFrom p (suc b) place bytes = pointWord p ∷ number 4 place bytes ∷ (gridFrom place * 256 + byte (thresholdFrom place) bytes) ∷ []
+
+abbrev pub wordsOf : List ℕ → ℕ → List ℕ
+wordsOf bytes k = wordsFrom (pointOf bytes k) (sampled bytes k) (samplePlace bytes k) bytes
 
 -- an index with the words of cell k
 abbrev pub withWords : List ℕ → ℕ → List ℕ → List ℕ
@@ -58,7 +64,7 @@ pub record Entry (bytes index : List ℕ) (k : ℕ) : Type 0 where
   pub border : borderIn index k ≡ borderWith (cellOf bytes k .sample)
   pub threshold : thresholdIn index k ≡ thresholdWith (cellOf bytes k .sample)
   pub unsampled : sampled bytes k ≡ 0 → gridIn index k ≡ 0
-  pub place : (sampled bytes k ≡ 0 → ⊥) → placeIn index k ≡ cellAt bytes k + 9
+  pub place : (sampled bytes k ≡ 0 → ⊥) → placeIn index k ≡ gridFrom (samplePlace bytes k)
 
 -- the index of a record
 abbrev pub Index : List ℕ → List ℕ → Type 0

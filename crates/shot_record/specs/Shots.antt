@@ -4,15 +4,15 @@ use mathlib.Core.Bool.{Bool, _&&_, cond}
 use mathlib.Core.List.{List, [], _∷_}
 use mathlib.Core.Option.{Option, none, some}
 use lib.Dec.{leb, ltb, eqb}
-use lib.ListN.{length}
+use lib.ListN.{length, getD}
 use lib.IntN.{ℤ}
 use mir.Syntax.{w16}
 use mir.Val.{toZ}
 use Rattle.matcher.specs.Codes.{bit}
-use Rattle.score_matrix.specs.Locality.{part}
+use Rattle.lent_list.specs.Parts.{part}
 use Rattle.score_matrix.specs.Table.{patterns}
 use Rattle.shot_record.specs.Fields.{byte, number, mapByte, isSet, marginAt, thresholdAt, pxAt, tableAt, rowsAt, bitsOf, borderOf, codeCount, codesAt, cellCount}
-use Rattle.shot_record.specs.Fields.{cellMap, sampled, gridSize, cellAt}
+use Rattle.shot_record.specs.Fields.{cellMap, sampled, gridSize, cellAt, Point, pointOf, samplePlace, thresholdFrom, gridFrom}
 
 -- What is sampled of a cell. A float is its pattern of 32 bits, here and below, so that a shot has every bit of its record.
 pub record Sample : Type 0 where
@@ -64,18 +64,20 @@ defaultThreshold = 0x3F000000
 abbrev pub defaultPx : ℕ
 defaultPx = 0x42700000
 
--- a cell from its first byte on
+-- a cell by its point, and by whether it is sampled (not 0) and where its sample starts
 abbrev pub sampleAt : ℕ → ℕ → ℕ → List ℕ → Option Sample
-sampleAt zero grid at bytes = none
-sampleAt (suc b) grid at bytes =
-    some (record { fraction = number 4 (at + 4) bytes; threshold = byte (at + 8) bytes; grid = part (at + 9) grid bytes })
+sampleAt zero grid place bytes = none
+sampleAt (suc b) grid place bytes =
+    some (record { fraction = number 4 place bytes; threshold = byte (thresholdFrom place) bytes; grid = part (gridFrom place) grid bytes })
 
-abbrev pub cellFrom : ℕ → ℕ → ℕ → List ℕ → Cell
-cellFrom isSampled grid at bytes =
-    record { u = toZ w16 (number 2 at bytes); v = toZ w16 (number 2 (at + 2) bytes); sample = sampleAt isSampled grid at bytes }
+abbrev pub cellFrom : Point → Option Sample → Cell
+cellFrom p sample = record { u = toZ w16 (p .u); v = toZ w16 (p .v); sample = sample }
+
+abbrev pub sampleOf : List ℕ → ℕ → Option Sample
+sampleOf bytes k = sampleAt (sampled bytes k) (gridSize (bitsOf bytes) (borderOf bytes)) (samplePlace bytes k) bytes
 
 abbrev pub cellOf : List ℕ → ℕ → Cell
-cellOf bytes k = cellFrom (sampled bytes k) (gridSize (bitsOf bytes) (borderOf bytes)) (cellAt bytes k) bytes
+cellOf bytes k = cellFrom (pointOf bytes k) (sampleOf bytes k)
 
 abbrev pub shot : List ℕ → Shot
 shot bytes =
@@ -94,6 +96,10 @@ shot bytes =
       codes = numbers 8 (codeCount bytes) (codesAt bytes) bytes;
       cells = list (cellOf bytes) (cellCount bytes);
     }
+
+-- the first 512 codes, those of all markers that a board can have; 0 past the last
+abbrev pub firstCodes : Shot → List ℕ
+firstCodes s = list (λ (k : ℕ). getD (s .codes) k 0) 512
 
 -- Question 21: at most 65,535 bytes, spare bits 0 in both maps, no field cut short and the last one ending the record (it ends where a cell
 -- after the last one would start)?

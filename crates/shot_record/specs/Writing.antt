@@ -1,14 +1,14 @@
 -- The bytes of a shot, field after field (document 01, "The shot record"), and what parsing has to do with them.
 use mathlib.Core.Path.{_≡_}
-use Prim.Native.Nat.{ℕ, zero, suc, _/_, _%_, _^_, _≤_, _<_}
+use Prim.Native.Nat.{ℕ, zero, suc, _*_, _/_, _%_, _^_, _≤_, _<_}
 use mathlib.Core.List.{List, [], _∷_, _++_, map}
 use mathlib.Core.Option.{Option, none, some}
-use lib.ListN.{length, getD}
+use lib.ListN.{length, getD, take, drop}
 use mir.Syntax.{w16}
 use mir.Val.{SFits, ofZ}
 use Rattle.matcher.specs.Codes.{bit, fromBits}
 use Rattle.score_matrix.specs.Table.{patterns}
-use Rattle.shot_record.specs.Fields.{mapByte, isSet, mapSize, gridSize}
+use Rattle.shot_record.specs.Fields.{mapByte, isSet, codeCount, codesAt, cellCountAt, mapSize, gridSize}
 use Rattle.shot_record.specs.Shots.{Sample, Cell, Shot, defaultMargin, defaultThreshold, defaultPx, parse}
 
 -- a number in n bytes, little-endian
@@ -48,10 +48,9 @@ sampleBytes (some s) = littleEndian 4 (s .fraction) ++ (s .threshold ∷ s .grid
 abbrev pub cellBytes : Cell → List ℕ
 cellBytes c = littleEndian 2 (ofZ w16 (c .u)) ++ (littleEndian 2 (ofZ w16 (c .v)) ++ sampleBytes (c .sample))
 
--- The record of a shot with a map byte.
-unfoldable pub bytesOf : ℕ → Shot → List ℕ
-bytesOf m s =
-    joined (
+-- The record of a shot with a map byte, in three sections: what stands before the codes, the codes, the cells.
+abbrev pub headFields : ℕ → Shot → List (List ℕ)
+headFields m s =
     (m ∷ [])
     ∷ ifSet (bit m 0) (littleEndian 4 (s .minimumMargin))
     ∷ ifSet (bit m 1) (littleEndian 4 (s .borderThreshold))
@@ -61,11 +60,16 @@ bytesOf m s =
     ∷ littleEndian 4 (s .cellSize)
     ∷ littleEndian 4 (s .markerSizeRel)
     ∷ littleEndian 2 (length (s .codes))
-    ∷ each (littleEndian 8) (s .codes)
-    ∷ littleEndian 2 (length (s .cells))
-    ∷ mapBytes (s .cells)
-    ∷ each cellBytes (s .cells)
-    ∷ [])
+    ∷ []
+
+abbrev pub codeBytes : Shot → List ℕ
+codeBytes s = each (littleEndian 8) (s .codes)
+
+abbrev pub cellFields : List Cell → List (List ℕ)
+cellFields cells = littleEndian 2 (length cells) ∷ mapBytes cells ∷ each cellBytes cells ∷ []
+
+unfoldable pub bytesOf : ℕ → Shot → List ℕ
+bytesOf m s = joined (headFields m s ++ (codeBytes s ∷ cellFields (s .cells)))
 
 -- ---- which shots a record can hold
 
@@ -131,6 +135,15 @@ pub record WrittenShot (bytes : List ℕ) (s : Shot) : Type 0 where
 
 abbrev pub WrittenBack : Type 0
 WrittenBack = (bytes : List ℕ) → Bytes bytes → (s : Shot) → parse bytes ≡ some s → WrittenShot bytes s
+
+-- The sections of a record that is read: the bytes before its codes are those of the head, and those from the end of its codes on those of the cells.
+pub record Sections (bytes : List ℕ) (s : Shot) : Type 0 where
+  pub head : take (codesAt bytes) bytes ≡ joined (headFields (mapByte bytes) s)
+  pub codes : take (8 * codeCount bytes) (drop (codesAt bytes) bytes) ≡ codeBytes s
+  pub cells : drop (cellCountAt bytes) bytes ≡ joined (cellFields (s .cells))
+
+abbrev pub SectionsRule : Type 0
+SectionsRule = (bytes : List ℕ) → Bytes bytes → (s : Shot) → parse bytes ≡ some s → Sections bytes s
 
 -- two records with the same shot and the same map byte are the same bytes
 abbrev pub OneToOne : Type 0

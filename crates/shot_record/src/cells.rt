@@ -1,30 +1,36 @@
-// The cells of a record: which are sampled, where each starts, and question 21, which goes over all of them.
+// The cells of a record: which are sampled, a walk over them, and question 21, which goes over all of them.
 ghost use mathlib.Core.Path.{_≡_};
 ghost use mathlib.Core.Option.{some};
-ghost use Prim.Native.Nat.{ℕ, _+_, _-_, _^_, _<_, _≤_};
-ghost use lib.Dec.{ltb};
+ghost use Prim.Native.Nat.{_+_, _-_, _^_, _<_, _≤_};
 ghost use lib.ListN.{take, drop};
-ghost use Rattle.shot_record.specs.Fields.{fieldsOf, cellCount, cellMap, sampled as sampledAt, cellLength, cellAt};
-ghost use Rattle.shot_record.specs.Shots.{wholeRecord, parse, cellFrom};
+ghost use Rattle.shot_record.specs.Fields.{fieldsOf, sampled as sampledAt, cellLength, pointSize, pointOf, samplePlace, cursorAt, AtCell};
+ghost use Rattle.shot_record.specs.Shots.{wholeRecord, parse, cellOf};
 ghost use Rattle.shot_record.specs.Answers.{cellRead, gridAnswer, partAnswer};
+ghost use Rattle.shot_record.specs.Index.{pointWord};
 use super::ReadCell;
 use super::fields;
 use super::fields::Fields;
+use super::maps;
 use super::numbers;
+
+// A walk over the cells: at which it is, and where that cell's bytes start. Behind the last cell that is where the record should end.
+pub struct Cursor {
+    pub cell: usize,
+    pub start: usize,
+}
 
 // 1 for a sampled cell, 0 for another.
 pub fn sampled(bytes: &[u8], f: Fields, k: usize) -> usize
     requires { ⌜ (f ≡ fieldsOf (now bytes)) × (k < f .«cell_count») ⌝ }
     ensures { λ r. ⌜ r ≡ sampledAt (now (bytes .entry)) k ⌝ }
 {
-    let at = f.cell_map_at + k / 8;
-    numbers::bit(numbers::byte_at(bytes, at), k % 8)
+    maps::bit(bytes, f.cell_map_at, k)
 }
 
 // How many bytes a cell has.
 fn cell_length(is_sampled: usize, grid_size: usize) -> usize
     requires { ⌜ «grid_size» ≤ 2 ^ 20 ⌝ }
-    ensures { λ r. ⌜ r ≡ cellLength «is_sampled» «grid_size» ⌝ }
+    ensures { λ r. ⌜ r ≡ cellLength pointSize «is_sampled» «grid_size» ⌝ }
 {
     if is_sampled == 0 {
         return 4;
@@ -32,39 +38,52 @@ fn cell_length(is_sampled: usize, grid_size: usize) -> usize
     9 + grid_size
 }
 
-// Where the cell after cell k starts.
-pub fn next_start(bytes: &[u8], f: Fields, k: usize, start: usize) -> usize
-    requires { ⌜ (f ≡ fieldsOf (now bytes)) × (k < f .«cell_count») × (start ≡ cellAt (now bytes) k) ⌝ }
-    ensures { λ r. ⌜ r ≡ cellAt (now (bytes .entry)) (k + 1) ⌝ }
-{
-    start + cell_length(sampled(bytes, f, k), f.grid_size)
-}
-
-// Where cell k starts; where the record should end, for the count of cells.
-pub fn cell_start(bytes: &[u8], f: Fields, k: usize) -> usize
-    requires { ⌜ (f ≡ fieldsOf (now bytes)) × (k ≤ f .«cell_count») ⌝ }
-    ensures { λ r. ⌜ r ≡ cellAt (now (bytes .entry)) k ⌝ }
-{
-    let mut start = f.cells_at;
-    let mut i = 0;
-    while i < k {
-        start = next_start(bytes, f, i, start);
-        i += 1;
-    }
-    start
-}
-
-// Are the bits of the cell map that belong to no cell 0? All of them are in its last byte.
-fn has_clear_map(bytes: &[u8], f: Fields) -> bool
+pub fn first(bytes: &[u8], f: Fields) -> Cursor
     requires { ⌜ f ≡ fieldsOf (now bytes) ⌝ }
-    ensures { λ r. ⌜ r ≡ ltb (cellMap (now (bytes .entry))) (2 ^ cellCount (now (bytes .entry))) ⌝ }
+    ensures { λ r. ⌜ r ≡ cursorAt (now (bytes .entry)) 0 ⌝ }
 {
-    let used = f.cell_count % 8;
-    if used == 0 {
-        return true;
+    Cursor {
+        cell: 0,
+        start: f.cells_at,
     }
-    let last = f.cell_map_at + f.cell_count / 8;
-    numbers::byte_at(bytes, last) >> used == 0
+}
+
+pub fn next(bytes: &[u8], f: Fields, c: Cursor) -> Cursor
+    requires { ⌜ AtCell (now bytes) f c ⌝ }
+    ensures { λ r. ⌜ r ≡ cursorAt (now (bytes .entry)) (c .cell + 1) ⌝ }
+{
+    Cursor {
+        cell: c.cell + 1,
+        start: c.start + cell_length(sampled(bytes, f, c.cell), f.grid_size),
+    }
+}
+
+// The walk at cell k, or behind the last one.
+pub fn seek(bytes: &[u8], f: Fields, k: usize) -> Cursor
+    requires { ⌜ (f ≡ fieldsOf (now bytes)) × (k ≤ f .«cell_count») ⌝ }
+    ensures { λ r. ⌜ r ≡ cursorAt (now (bytes .entry)) k ⌝ }
+{
+    let mut c = first(bytes, f);
+    while c.cell < k {
+        c = next(bytes, f, c);
+    }
+    c
+}
+
+// The point of the cell as one word, u in its low half and v in its high half.
+pub fn point(bytes: &[u8], f: Fields, c: Cursor) -> u32
+    requires { ⌜ AtCell (now bytes) f c ⌝ }
+    ensures { λ r. ⌜ r ≡ pointWord (pointOf (now (bytes .entry)) (c .cell)) ⌝ }
+{
+    numbers::four_at(bytes, c.start)
+}
+
+// Where the cell's sample starts, if it has one.
+pub fn sample_place(bytes: &[u8], f: Fields, c: Cursor) -> usize
+    requires { ⌜ AtCell (now bytes) f c × (c .start ≤ 2 ^ 39) ⌝ }
+    ensures { λ r. ⌜ r ≡ samplePlace (now (bytes .entry)) (c .cell) ⌝ }
+{
+    c.start + 4
 }
 
 // Question 21. A record that ends before its cells is not walked: its count of cells may be far above its length.
@@ -78,30 +97,31 @@ pub fn is_whole(bytes: &[u8], f: Fields) -> bool
     if 31 < f.map {
         return false;
     }
-    if !has_clear_map(bytes, f) {
+    if !maps::is_clear(bytes, f.cell_map_at, f.cell_count) {
         return false;
     }
     if bytes.len() < f.cells_at {
         return false;
     }
-    cell_start(bytes, f, f.cell_count) == bytes.len()
+    seek(bytes, f, f.cell_count).start == bytes.len()
 }
 
-// The cell that starts at a place.
-pub fn cell(bytes: &[u8], start: usize, is_sampled: usize) -> ReadCell
-    requires { ⌜ start ≤ 2 ^ 39 ⌝ }
-    ensures { λ r. ⌜ ((grid : ℕ) → r ≡ cellRead (some (cellFrom «is_sampled» grid start (now (bytes .entry))))) ⌝ }
+pub fn cell(bytes: &[u8], f: Fields, c: Cursor) -> ReadCell
+    requires { ⌜ AtCell (now bytes) f c ⌝ }
+    ensures { λ r. ⌜ r ≡ cellRead (some (cellOf (now (bytes .entry)) (c .cell))) ⌝ }
 {
-    let u = numbers::coordinate_at(bytes, start);
-    let v = numbers::coordinate_at(bytes, start + 2);
-    if is_sampled == 0 {
+    let point = point(bytes, f, c);
+    let u = numbers::coordinate(point % 0x1_0000);
+    let v = numbers::coordinate(point / 0x1_0000);
+    if sampled(bytes, f, c.cell) == 0 {
         return ReadCell::Unsampled { u, v };
     }
+    let place = sample_place(bytes, f, c);
     ReadCell::Sampled {
         u,
         v,
-        fraction: numbers::float_at(bytes, start + 4),
-        threshold: numbers::byte_at(bytes, start + 8),
+        fraction: numbers::float_at(bytes, place),
+        threshold: numbers::byte_at(bytes, place + 4),
     }
 }
 
@@ -127,7 +147,7 @@ pub fn grid_part(bytes: &[u8], k: usize) -> Part
     if sampled(bytes, f, k) == 0 {
         return Part { first: 0, end: 0 };
     }
-    let first = cell_start(bytes, f, k) + 9;
+    let first = sample_place(bytes, f, seek(bytes, f, k)) + 5;
     Part {
         first,
         end: first + f.grid_size,

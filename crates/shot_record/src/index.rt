@@ -1,32 +1,34 @@
 // The index of the cells: each cell is read once, in one pass over the record, and a match looks it up here. Grids stay in the record.
 ghost use mathlib.Core.Path.{_≡_};
 ghost use mathlib.Core.Bool.{true};
-ghost use Prim.Native.Nat.{_+_, _-_, _≤_, _<_};
-ghost use lib.ListN.{length, take, drop};
-ghost use Rattle.shot_record.specs.Fields.{fieldsOf};
+ghost use Prim.Native.Nat.{ℕ, _+_, _-_, _*_, _≤_, _<_};
+ghost use lib.ListN.{length, getD, take, drop};
+ghost use Rattle.shot_record.specs.Fields.{fieldsOf, cellCount, AtCell};
 ghost use Rattle.shot_record.specs.Shots.{wholeRecord, cellOf};
 ghost use Rattle.shot_record.specs.Answers.{gridWith};
-ghost use Rattle.shot_record.specs.Index.{wordsFrom, withWords, pointIn, uIn, vIn, borderIn, thresholdIn, Index, Indexed};
+ghost use Rattle.shot_record.specs.Index.{wordsOf, withWords, pointIn, uIn, vIn, borderIn, thresholdIn, Index, Indexed};
 use super::cells;
+use super::cells::Cursor;
 use super::cells::Part;
 use super::fields::Fields;
 use super::numbers;
 use score_matrix::BorderSample;
 
-// The words of the cell that starts at a place.
-fn words(bytes: &[u8], start: usize, is_sampled: usize) -> [u32; 3]
-    requires { ⌜ start ≤ 65535 ⌝ }
-    ensures { λ r. ⌜ r ≡ wordsFrom «is_sampled» start (now (bytes .entry)) ⌝ }
+// The words of one cell of a whole record.
+fn words(bytes: &[u8], f: Fields, c: Cursor) -> [u32; 3]
+    requires { ⌜ AtCell (now bytes) f c × (wholeRecord (now bytes) ≡ true) ⌝ }
+    ensures { λ r. ⌜ r ≡ wordsOf (now (bytes .entry)) (c .cell) ⌝ }
 {
-    let point = numbers::four_at(bytes, start);
-    if is_sampled == 0 {
+    let point = cells::point(bytes, f, c);
+    if cells::sampled(bytes, f, c.cell) == 0 {
         return [point, 0, 0];
     }
-    let place = (start + 9) as u32;
+    let place = cells::sample_place(bytes, f, c);
+    let grid = (place + 5) as u32;
     [
         point,
-        numbers::four_at(bytes, start + 4),
-        place * 256 + numbers::byte_at(bytes, start + 8) as u32,
+        numbers::four_at(bytes, place),
+        grid * 256 + numbers::byte_at(bytes, place + 4) as u32,
     ]
 }
 
@@ -40,19 +42,18 @@ fn put(index: &mut [u32; 768], k: usize, words: &[u32; 3])
     index[3 * k + 2] = words[2];
 }
 
-// For the first 256 cells of a record that question 21 let pass.
+// For the first 256 cells of a record that question 21 let pass. Places past their words keep theirs.
 pub fn fill(index: &mut [u32; 768], bytes: &[u8], f: Fields)
     requires { ⌜ (f ≡ fieldsOf (now bytes)) × (wholeRecord (now bytes) ≡ true) × (length (now index) ≡ 768) ⌝ }
-    ensures { λ _. ⌜ Index (now (bytes .entry)) (now (index .exit)) ⌝ }
+    ensures filled { λ _. ⌜ Index (now (bytes .entry)) (now (index .exit)) ⌝ }
+    ensures kept { λ _. ⌜ ((i : ℕ) → 3 * cellCount (now (bytes .entry)) ≤ i → getD (now (index .exit)) i 0 ≡ getD (now (index .entry)) i 0) ⌝ }
 {
     let count = numbers::at_most(f.cell_count, 256);
-    let mut start = f.cells_at;
-    let mut k = 0;
-    while k < count {
-        let words = words(bytes, start, cells::sampled(bytes, f, k));
-        put(index, k, &words);
-        start = cells::next_start(bytes, f, k, start);
-        k += 1;
+    let mut c = cells::first(bytes, f);
+    while c.cell < count {
+        let words = words(bytes, f, c);
+        put(index, c.cell, &words);
+        c = cells::next(bytes, f, c);
     }
 }
 

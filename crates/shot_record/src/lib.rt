@@ -1,6 +1,6 @@
 // The shot record: one lane-end shot as bytes. Every function of this file accepts every record; question 21 refuses one that is not
 // whole. A match reads the fields before the cells with `fields` and `bulk`, and each cell once with `index`. Uses `refusal`, `floats`, `board` and
-// `score_matrix`, and for its definitions and proofs `matcher`.
+// `score_matrix`, and for its definitions and proofs `lent_list`, `matcher` and `alike`.
 ghost use mathlib.Core.Path.{_≡_};
 ghost use Rattle.shot_record.specs.Shots.{parse};
 ghost use Rattle.shot_record.specs.Answers.{headerAnswer, entryAnswer, codeAnswer, cellAnswer, gridAnswer};
@@ -9,7 +9,9 @@ pub mod bulk;
 pub mod cells;
 pub mod fields;
 pub mod index;
+mod maps;
 mod numbers;
+pub mod questions;
 
 use board::CharucoBoardSpec;
 use refusal::Refusal;
@@ -110,11 +112,7 @@ pub fn cell(bytes: &[u8], k: usize) -> ReadCell
     if f.cell_count <= k {
         return ReadCell::Absent;
     }
-    cells::cell(
-        bytes,
-        cells::cell_start(bytes, f, k),
-        cells::sampled(bytes, f, k),
-    )
+    cells::cell(bytes, f, cells::seek(bytes, f, k))
 }
 
 // One cell's grid, as a part of the record: empty for a refused record and for an unsampled or absent cell.

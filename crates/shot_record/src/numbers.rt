@@ -89,13 +89,6 @@ pub fn coordinate(x: u32) -> i16
     !((0xFFFF - x) as i16)
 }
 
-pub fn coordinate_at(bytes: &[u8], at: usize) -> i16
-    requires { ⌜ at ≤ 2 ^ 40 ⌝ }
-    ensures { λ r. ⌜ r ≡ toZ w16 (number 2 at (now (bytes .entry))) ⌝ }
-{
-    coordinate(two_at(bytes, at))
-}
-
 // The lesser of two numbers.
 pub fn at_most(n: usize, most: usize) -> usize
     ensures least { λ r. ⌜ (r ≤ n) × (r ≤ most) ⌝ }

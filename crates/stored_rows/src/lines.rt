@@ -1,6 +1,6 @@
 // The lines of the standard input, one at a time. Words are upper-case hexadecimal, one space apart; a line that starts with # is a comment.
 ghost use Prim.Native.Nat.{_<_};
-use libc::STDIN_FILENO;
+use standard_input::Input;
 
 // A line as far as it is read. A comment has no words; a line that is not read has one, of no known kind.
 pub struct Line {
@@ -138,19 +138,21 @@ impl Line {
     }
 }
 
-// A byte, and what `read` answered: 1, 0 at the end of the input, or -1 if it failed.
-struct Got {
-    byte: u8,
-    count: isize,
+// A byte, the end of the input, or that a read failed.
+enum Next {
+    Byte(u8),
+    Ended,
+    Failed,
 }
 
 // The input is small enough to be read byte by byte.
-fn next_byte() -> Got {
+fn next_byte() -> Next {
     let mut buffer: [u8; 1] = [0];
-    let count = libc::read(STDIN_FILENO, &mut buffer);
-    Got {
-        byte: buffer[0],
-        count,
+    let input = standard_input::read_all(&mut buffer);
+    match input {
+        Input::Full(_) => Next::Byte(buffer[0]),
+        Input::Ended(_) => Next::Ended,
+        Input::Failed => Next::Failed,
     }
 }
 
@@ -160,14 +162,17 @@ pub fn next_line() -> Line {
     let mut turns = u64::MAX;
     while turns > 0 {
         turns -= 1;
-        let got = next_byte();
-        if got.count < 1 {
-            return line.at_end(got.count < 0);
+        let next = next_byte();
+        match next {
+            Next::Byte(byte) => {
+                if byte == b'\n' {
+                    return line.at_line_feed();
+                }
+                line = line.step(byte);
+            }
+            Next::Ended => return line.at_end(false),
+            Next::Failed => return line.at_end(true),
         }
-        if got.byte == b'\n' {
-            return line.at_line_feed();
-        }
-        line = line.step(got.byte);
     }
     line.at_end(true)
 }

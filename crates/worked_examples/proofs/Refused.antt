@@ -8,6 +8,7 @@ use lib.ListN.{length}
 use lib.Ieee.{ofBits, le, lt, eq}
 use borrow.Author.Tests.{le-leb}
 use Rattle.refusal.specs.declared.Refusal.the-variants as refusal
+use Rattle.integers.specs.Least.{leastTo, greatestTo}
 use Rattle.integers.specs.Tests.{every, anyBelow}
 use Rattle.refusal.proofs.Questions.{rest-asked}
 use Rattle.matcher.specs.Codes.{fromBits, source}
@@ -20,7 +21,7 @@ use Rattle.shot_record.specs.Fields.{number, thresholdAt, pxAt, tableAt, rowsAt
 use Rattle.shot_record.specs.Shots.{Sample, Shot, list, wholeRecord, parse}
 use Rattle.shot_record.specs.Writing as writing
 use Rattle.shot_record.specs.Writing.{bytesOf}
-use Rattle.hypothesis.specs.Placements.{leastTo, greatestTo, frame, withTurnsBelow, placements}
+use Rattle.hypothesis.specs.Placements.{frame, withTurnsBelow, placements}
 use Rattle.board_match.specs.declared.Matched.the-variants as matched
 use Rattle.board_match.specs.Questions.{askedFrom9, askedOfShot, askedBefore15}
 use Rattle.board_match.specs.Match.{askedFrom15, matchAnswer}

@@ -6,8 +6,9 @@ use Rattle.grid_alignment.specs.Alignment.{sends, lowestPoint}
 use Rattle.board.specs.Numbering.{countPassing, numberAt, numberAtℤ, search}
 use Rattle.board.specs.Layout.{parityOf}
 use Rattle.shot_record.specs.Shots.{list}
-use Rattle.hypothesis.specs.Placements.{leastTo, greatestTo, frame, withTurnsBelow, placements}
+use Rattle.hypothesis.specs.Placements.{frame, withTurnsBelow, placements}
 use Rattle.lent_list.specs.Front.{upTo}
+use Rattle.integers.specs.Least.{leastTo, greatestTo}
 use Rattle.integers.specs.Tests.{anyBelow}
 use Rattle.link_check.specs.Violations.{expectation, without}
 use Rattle.worked_examples.specs.Table.{Table}

@@ -1,2 +1,3 @@
 pub mod Table
 pub mod Requests
+pub mod Uses

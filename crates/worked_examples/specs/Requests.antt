@@ -1,4 +1,4 @@
--- Document 02: small shots and what Match answers, as statements about the definitions.
+-- Document 02: small shots, which of them a question before 15 refuses and how many of their cells contribute, as statements about the definitions.
 use mathlib.Core.Path.{_≡_}
 use mathlib.Core.List.{List}
 use mathlib.Core.Option.{Option, none, some}

@@ -3,6 +3,7 @@
 mod counts;
 mod faults;
 mod look_alikes;
+mod many_codes;
 mod numbers;
 mod points;
 mod reach;
@@ -15,7 +16,7 @@ use cases::prng::Prng;
 use records::{Shot, damage, settings, write};
 use std::ops::Range;
 
-pub use scene::{Look, Scene};
+pub use scene::{Look, Scene, markers_of};
 
 /// A record, and how many words the lent list has.
 #[derive(Clone, Debug)]
@@ -33,7 +34,7 @@ pub struct Kind {
 }
 
 /// No two cells of a shot that passes question 12 are at one point, but in the kind that means it, and by damage.
-pub const KINDS: [Kind; 18] = [
+pub const KINDS: [Kind; 19] = [
     shots("true placements", 18_000, numbers::shown),
     shots("ties", 15_000, ties::shot),
     shots("tiny boards", 12_000, ties::tiny_board),
@@ -60,11 +61,13 @@ pub const KINDS: [Kind; 18] = [
     kind("cells at one point", 60_000, Make::Given(repeats::given)),
     shots("points nearly alike", 12_000, repeats::nearly),
     shots("counts of contributing cells", 10_000, counts::shot),
+    kind("many codes", 2_000, Make::Given(many_codes::given)),
 ];
 
-/// The places of the kinds that are about cells at one point, and of the one that is about counts.
+/// The places of the kinds that are about cells at one point, of the one that is about counts, and of the one with many codes.
 pub const OF_REPEATS: Range<usize> = 15..17;
 pub const OF_COUNTS: usize = 17;
+pub const OF_MANY_CODES: usize = 18;
 
 /// The same kinds of legacy boards, half as many records of each.
 pub const LEGACY_KINDS: [Kind; KINDS.len()] = {

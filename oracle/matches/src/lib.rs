@@ -2,6 +2,7 @@
 //! exact evidence, to which the accuracy rule holds the reported one.
 
 mod answer;
+pub mod codes;
 pub mod counts;
 pub mod exact;
 pub mod given;

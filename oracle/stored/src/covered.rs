@@ -1,12 +1,29 @@
 //! Whether the answers in the file would show that any two words or fields are exchanged, that a word is left out, or that a
-//! kind of line is spelled otherwise; whether every number of a refusal comes up; whether cells at one point are read; and whether
-//! wrong counts of contributing cells would show.
+//! kind of line is spelled otherwise; whether every number of a refusal comes up; whether cells at one point are read; whether wrong
+//! counts of contributing cells would show; and whether it would show that one of many codes is not asked about.
 
 use crate::kinds::{self, Kind};
 use crate::script::{Asked, Script};
 use cases::answer::Answer;
+use cases::codes::all_ones;
+use matches::codes::{alike as alike_codes, too_large};
 use matches::counts::{PAIRS, Shown, WRONG};
+use matches::given::markers_of;
+use records::Shot;
 use std::collections::{BTreeMap, BTreeSet};
+
+/// Places of codes, the first being 0. A code that is too large is refused at each of them, if no other is: a match holds the first
+/// 512 in a list and reads the others in the record, of which there are up to 1,024.
+pub const TOO_LARGE_AT: [usize; 6] = [100, 101, 511, 512, 513, 1023];
+
+/// Places of two codes that are alike, of a board of 512 markers on which no others are, and the answer: the last marker is one of
+/// the markers, and the code past it is not.
+pub const ALIKE_AT: [([usize; 2], u32); 4] = [
+    ([0, 511], 22),
+    ([510, 511], 22),
+    ([0, 512], 0),
+    ([511, 512], 0),
+];
 
 /// What no input tells apart.
 struct Alike {
@@ -68,9 +85,33 @@ pub fn check(script: &Script) {
     let mut matches = of_repeats().filter(|asked| asked.kind == kinds::MATCH);
     assert!(matches.all(|asked| asked.answer.number != 0));
     check_text(asked);
+    check_codes(asked);
     let [without_mark, marked] = &script.counts;
     check_counts("matches", without_mark);
     check_counts("matches of legacy boards", marked);
+}
+
+/// Question 8 is asked of every code, and 22 of the code of every marker and of no other.
+fn check_codes(asked: &[Asked]) {
+    let has_match = |number: u32, is_it: &dyn Fn(&Shot) -> bool| {
+        let of_number = asked.iter().filter(|asked| asked.answer.number == number);
+        let mut shots = of_number.filter_map(|asked| asked.shot.as_ref());
+        shots.any(is_it)
+    };
+    for place in TOO_LARGE_AT {
+        let only_it = |shot: &Shot| too_large(shot) == [place];
+        assert!(has_match(8, &only_it), "code {place} too large");
+        let largest = |shot: &Shot| shot.codes.get(place) == Some(&all_ones(shot.bits));
+        assert!(has_match(0, &largest), "code {place} not too large");
+    }
+    for (pair, number) in ALIKE_AT {
+        let only_these =
+            |shot: &Shot| markers_of(shot.rows, shot.cols) == 512 && alike_codes(shot) == [pair];
+        assert!(has_match(number, &only_these), "codes {pair:?} alike");
+    }
+    let none =
+        |shot: &Shot| markers_of(shot.rows, shot.cols) == 512 && alike_codes(shot).is_empty();
+    assert!(has_match(0, &none), "no codes alike");
 }
 
 /// Every wrong count would show in the best and in the runner-up, and every pair of counts comes up.

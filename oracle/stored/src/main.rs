@@ -4,6 +4,7 @@
 mod covered;
 mod entries;
 mod kinds;
+mod many_codes;
 mod matches;
 mod parts;
 mod records;
@@ -23,8 +24,8 @@ fn main() -> io::Result<()> {
     entries::ask_corners(&mut script, false);
     entries::ask_links(&mut script, false);
     matches::ask(&mut script);
-    // Legacy boards come after all others, look-alikes after them, then cells at one point, and counts last, so that the rows before
-    // stay.
+    // Legacy boards come after all others, look-alikes after them, then cells at one point, then counts, and many codes last, so that
+    // the rows before stay.
     parts::ask_layouts(&mut script, true);
     records::ask_marked(&mut script);
     entries::ask_corners(&mut script, true);
@@ -36,6 +37,7 @@ fn main() -> io::Result<()> {
     matches::ask_repeats(&mut script, true);
     matches::ask_counts(&mut script, false);
     matches::ask_counts(&mut script, true);
+    many_codes::ask(&mut script);
     covered::check(&script);
     for &kind in kinds::ALL {
         let rows = script.asked.iter().filter(|asked| asked.kind == kind);

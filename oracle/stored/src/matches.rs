@@ -105,7 +105,7 @@ pub fn ask_counts(script: &mut Script, legacy: bool) {
     ask_all(script, &chosen);
 }
 
-fn ask_all(script: &mut Script, chosen: &[Given]) {
+pub fn ask_all(script: &mut Script, chosen: &[Given]) {
     for (number, given) in chosen.iter().enumerate() {
         script.give_bytes(&given.record);
         let answer = told(given);
@@ -257,7 +257,7 @@ fn with_every_refusal(kinds: &[GivenKind]) -> Vec<Given> {
 }
 
 /// A list with a place for each cell.
-fn with_places(shot: Shot) -> Given {
+pub fn with_places(shot: Shot) -> Given {
     Given {
         record: write(&shot).bytes,
         places: MARKER_WORDS * shot.cells.len(),
@@ -276,7 +276,7 @@ fn no_evidence_of_the_next() -> Shot {
 }
 
 /// The board of document 01 by the built-in table.
-fn with_cells(cells: Vec<Cell>) -> Shot {
+pub fn with_cells(cells: Vec<Cell>) -> Shot {
     Shot {
         map: 0,
         table: built_in_table(),

@@ -3,7 +3,7 @@
 use crate::kinds::{Kind, MATCH};
 use cases::answer::{Answer, after};
 use matches::counts::Shown;
-use records::{read, settings};
+use records::{Shot, read, settings};
 use std::collections::{HashMap, HashSet};
 use std::fmt::Write;
 
@@ -28,6 +28,8 @@ pub struct Asked {
     pub is_marked: bool,
     /// Are two cells at one point, of no more than a match may have, if the bytes are a record?
     pub has_repeat: bool,
+    /// What is matched, if the row asks for a match and the bytes are a record.
+    pub shot: Option<Shot>,
     /// That of place, if the row asks for it.
     pub text: String,
 }
@@ -132,16 +134,17 @@ impl Script {
         row.extend(words.into_iter().map(u64::from));
         row.push(digest);
         self.row(&row);
-        if kind == MATCH
-            && let Some(read) = read(&self.bytes)
-        {
-            self.counts[usize::from(is_marked(&self.bytes))].add(&read.shot, &answer);
+        let read = (kind == MATCH).then(|| read(&self.bytes)).flatten();
+        let shot = read.map(|read| read.shot);
+        if let Some(shot) = &shot {
+            self.counts[usize::from(is_marked(&self.bytes))].add(shot, &answer);
         }
         self.asked.push(Asked {
             kind,
             answer,
             is_marked: is_marked(&self.bytes),
             has_repeat: has_repeat(&self.bytes),
+            shot,
             text: String::new(),
         });
     }

@@ -2,16 +2,16 @@
 use mathlib.Core.Path.{refl, sym, subst, ap, _∙_}
 use mathlib.Core.Bool.{not}
 use Prim.Native.Nat.{ℕ, _≤_}
+use native.Mathlib.Nat.{min-le-right}
 use native.Mathlib.Omega.{arith}
 use borrow.Author.Needs.{needs}
 use Rattle.alike.specs.Alike.{twoAlike}
-use Rattle.alike.proofs.Least.{is-lesser}
 use Rattle.alike.proofs.Laws.{answered}
 use Rattle.alike.proofs.none_alike.Statement.{statement}
 use Rattle.alike.proofs.none_alike.Tie as tie
 
 few : (c : tie.After-lesser) → c .lesser .result ≤ 512
-few c = subst (λ (n : ℕ). n ≤ 512) (sym (c .lesser .ensures)) (is-lesser (c .before .before .args .count) 512 .right)
+few c = subst (λ (n : ℕ). n ≤ 512) (sym (c .lesser .ensures)) (min-le-right (c .before .before .args .count) 512)
 
 put-least-requires : tie.Need-put-least-requires
 put-least-requires c κs = let s = c .before .before .before in (s .pre .0, s .pre .1, few (c .before), refl)

@@ -66,7 +66,7 @@ module _ (c : tie.After-index2) where
   w = table .before .before
 
   indexed : Indexed (bytes w) (w .before .locate .result) (filled .fill .last .0)
-  indexed = (w .before .locate .ensures, filled .fill .ensures, whole (table .before))
+  indexed = (w .before .locate .ensures, filled .fill .ensures .0, whole (table .before))
 
 before-15-requires : tie.Need-before-15-requires
 before-15-requires c κs = (indexed c, table c .table .ensures, filled c .before .before .codes2 .ensures)

@@ -1,12 +1,9 @@
 -- `grid_alignment::turned` meets its contract: the entries of a turn's matrix are small factors. Assumes nothing.
-use mathlib.Core.Path.{_≡_, sym, ap₂, _∙_, subst}
-use Prim.Native.Nat.{_^_, _<_}
-use lib.IntN.{ℤ}
-use lib.Signed.{mag}
-use mir.Syntax.{w16, w32}
+use mathlib.Core.Path.{sym, ap₂, _∙_, subst}
+use mir.Syntax.{w16}
 use mir.ValLaws.{toZ-ofZ}
 use borrow.Author.Needs.{needs}
-use Rattle.integers.proofs.Words.{word}
+use Rattle.integers.proofs.Words.{read-back}
 use Rattle.grid_alignment.specs.Alignment.{point}
 use Rattle.grid_alignment.proofs.Entries.{Small, entries-small, combined, combined-is}
 use Rattle.grid_alignment.proofs.turned.Statement.{statement}
@@ -14,10 +11,6 @@ use Rattle.grid_alignment.proofs.turned.Tie as tie
 
 small : (c : tie.After-turn-matrix) → Small (c .turn-matrix .result)
 small c = subst Small (sym (c .turn-matrix .ensures)) (entries-small (c .before .args .turn))
-
--- a call's result
-read-back : (z : ℤ) → mag z < 2 ^ 31 → word z ≡ z
-read-back z h = toZ-ofZ w32 z (record { sfits = h })
 
 returns : tie.Need-returns
 returns c =

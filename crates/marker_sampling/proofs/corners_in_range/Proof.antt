@@ -4,7 +4,8 @@ use mathlib.Core.Bool.{Bool, _&&_}
 use lib.ListN.{length}
 use borrow.Author.Needs.{needs}
 use borrow.Author.Tests.{not-true, not-false, lt-leb, le-leb}
-use Rattle.marker_sampling.specs.Entry.{corners, allPlaced, finiteScores}
+use Rattle.integers.specs.Tests.{every}
+use Rattle.marker_sampling.specs.Entry.{corners, placed, finiteScores}
 use Rattle.marker_sampling.proofs.corners_in_range.Statement.{statement}
 use Rattle.marker_sampling.proofs.corners_in_range.Tie as tie
 
@@ -12,7 +13,7 @@ returns : tie.Need-returns
 returns c =
     let s = c .before .before .args in
     let scores = s .scores .now in
-    sym (ap (λ (b : Bool). b && (allPlaced 4096 (corners scores (s .grid .now)) (length scores) && finiteScores scores))
+    sym (ap (λ (b : Bool). b && (every (placed 4096 (corners scores (s .grid .now))) (length scores) && finiteScores scores))
     (lt-leb (length scores) 1024 (c .if1 .taken)))
 
 returns-2 : tie.Need-returns-2

@@ -1,6 +1,5 @@
 -- `oracle_exports::oracle_turned` meets its contract. Assumes nothing.
 use mathlib.Core.Path.{ap, ap₂, _∙_}
-use Prim.Native.Nat.{_%_}
 use lib.IntN.{ℤ}
 use mir.Syntax.{w16, w32}
 use mir.ValLaws.{toZ-ofZ}

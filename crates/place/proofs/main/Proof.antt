@@ -11,6 +11,6 @@ slice-aggregate-write-all-2 c =
 
 pub main-spec : {M : Type 1} → statement M
 main-spec =
-    tie.close (tie.spec (λ c. search needs) (λ c κs. tt) (λ c. search needs) (λ c κs. tt) (λ c. search needs) (λ c. search needs)
-    (λ c κs. tt) (λ c κs. tt) (λ c. search needs) slice-aggregate-write-all-2 (λ c κs. tt) (λ c. search needs) (λ c κs. tt)
-    (λ c. search needs) (λ c. search needs))
+    tie.close (tie.spec (λ c. search needs) (λ c κs. tt) (λ c. search needs) (λ c. search needs) (λ c. search needs) (λ c. search needs)
+    (λ c κs. tt) (λ c. tt) (λ c κs. tt) (λ c. search needs) slice-aggregate-write-all-2 (λ c κs. tt) (λ c. search needs) (λ c κs. tt)
+    (λ c. tt) (λ c. tt))

@@ -1,15 +1,17 @@
 -- `shot_record::cell` meets its contract. Assumes nothing.
-use mathlib.Core.Path.{refl, ap₂, _∙_}
+use mathlib.Core.Path.{refl, ap, _∙_}
 use Prim.Native.Nat.{ℕ}
 use native.Mathlib.Omega.{arith}
 use mathlib.Core.List.{List}
 use mathlib.Core.Option.{some}
 use borrow.Author.Needs.{needs}
-use Rattle.shot_record.specs.Fields.{bitsOf, borderOf, gridSize, cellCount}
-use Rattle.shot_record.specs.Shots.{cellFrom, cellOf}
+use Rattle.shot_record.specs.declared.cells.Cursor.{Cursor}
+use Rattle.shot_record.specs.Fields.{cellCount}
+use Rattle.shot_record.specs.Shots.{cellOf}
 use Rattle.shot_record.specs.Answers.{cellRead}
 use Rattle.shot_record.proofs.Lists.{getElem?-list, getElem?-list-past}
-use Rattle.shot_record.proofs.Reading.{Found, found, starts-rise}
+use Rattle.shot_record.proofs.Reading.{Found, found}
+use Rattle.shot_record.proofs.Walks.{at-cell}
 use Rattle.shot_record.proofs.Whole.{Whole, whole-if, refused-if, parse-whole}
 use Rattle.shot_record.proofs.cell.Statement.{statement}
 use Rattle.shot_record.proofs.cell.Tie as tie
@@ -37,21 +39,17 @@ returns-2 c =
 
 cell-requires : tie.Need-cell-requires
 cell-requires c κs =
-    let d = c .before .before in
+    let d = c .before in
     let e = d .before .before in
-    let rise = starts-rise (bytes e) (k e) (cellCount (bytes e)) (omega (arith, f e .cell-count, d .if2 .left)) in
-    omega (arith, c .before .cell-start .ensures, rise, is-whole e .end, is-whole e .size)
+    at-cell (bytes e) _ _ (k e) (e .before .before .locate .ensures) (c .seek .ensures) (omega (arith, d .if2 .left))
 
 returns-3 : tie.Need-returns-3
 returns-3 c =
-    let d = c .before .before .before in
+    let d = c .before .before in
     let e = d .before .before in
     rw (parse-whole _ (is-whole e), getElem?-list (cellOf (bytes e)) (cellCount (bytes e)) (k e) (omega (arith, f e .cell-count, d .if2 .left)))
-    (let grid = gridSize (bitsOf (bytes e)) (borderOf (bytes e)) in
-    c .cell .ensures grid ∙ ap₂ (λ (b at : ℕ). cellRead (some (cellFrom b grid at (bytes e)))) (c .before .sampled .ensures)
-    (c .before .before .cell-start .ensures))
+    (c .cell .ensures ∙ ap (λ (w : Cursor). cellRead (some (cellOf (bytes e) (w .cell)))) (c .before .seek .ensures))
 
 pub cell-spec : {M : Type 1} → statement M
 cell-spec =
-    tie.close (tie.spec (λ c κs. search needs) (λ c κs. search needs) returns returns-2 (λ c κs. search needs) (λ c κs. search needs)
-    cell-requires returns-3)
+    tie.close (tie.spec (λ c κs. search needs) (λ c κs. search needs) returns returns-2 (λ c κs. search needs) cell-requires returns-3)

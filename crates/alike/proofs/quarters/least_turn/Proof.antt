@@ -1,14 +1,13 @@
 -- `alike::quarters::least_turn` meets its contract: each turn moves the quarters on. Assumes nothing.
 use mathlib.Core.Path.{_≡_, sym, ap, ap₂, subst, _∙_}
-use mathlib.Core.List.{List}
-use Prim.Native.Nat.{ℕ, _*_, _^_, _≤_, _<_}
+use Prim.Native.Nat.{ℕ, _*_, _^_, _≤_, _<_, min}
 use native.Mathlib.Nat.{mul-le-mul}
 use native.Mathlib.Omega.{arith}
 use lib.ListN.{getD}
 use borrow.Author.Needs.{needs}
-use Rattle.matcher.specs.Codes.{bit, fromBits, turned}
+use Rattle.matcher.specs.Codes.{bit, fromBits}
 use Rattle.matcher.proofs.Bits.{from-ext}
-use Rattle.alike.specs.Quarters.{quarter, quarterSource, quarters, QuarterSources, movedOn, lesser}
+use Rattle.alike.specs.Quarters.{quarter, quarterSource, quarters, QuarterSources, movedOn}
 use Rattle.alike.proofs.QuarterTurns.{quarter-small, quarter-source-below, quarters-below, moved-below, no-turn, turn-moves-on, two-turns, three-turns}
 use Rattle.alike.proofs.quarters.least_turn.Statement.{statement}
 use Rattle.alike.proofs.quarters.least_turn.Tie as tie
@@ -89,9 +88,9 @@ returns c =
     let code = one .before .before .args .code in
     let some = one .before .before .pre .0 in
     c .lesser3 .ensures
-    ∙ ap₂ lesser
-    (l1 .lesser .ensures ∙ ap₂ lesser (picked-is one ∙ sym (no-turn n some code)) (once-is second ∙ sym (turn-moves-on n some code)))
-    (l2 .lesser2 .ensures ∙ ap₂ lesser (twice-is third ∙ sym (two-turns n some code))
+    ∙ ap₂ min
+    (l1 .lesser .ensures ∙ ap₂ min (picked-is one ∙ sym (no-turn n some code)) (once-is second ∙ sym (turn-moves-on n some code)))
+    (l2 .lesser2 .ensures ∙ ap₂ min (twice-is third ∙ sym (two-turns n some code))
     (four .moved-on3 .ensures ∙ ap₂ movedOn quarter-is (twice-is third) ∙ sym (three-turns n some code)))
 
 pub least-turn-spec : {M : Type 1} → statement M

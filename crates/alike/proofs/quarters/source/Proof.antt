@@ -1,10 +1,9 @@
 -- `alike::quarters::source` meets its contract. Assumes nothing.
 use mathlib.Core.Path.{_≡_, sym, ap, subst, _∙_}
-use Prim.Native.Nat.{ℕ, _/_, _%_, _*_, _≤_, _<_}
+use Prim.Native.Nat.{ℕ, _/_, _%_, _<_}
 use native.Mathlib.Nat.{mul-le-mul, div-le-self}
 use native.Mathlib.Omega.{arith}
 use borrow.Author.Needs.{needs}
-use Rattle.matcher.specs.declared.Place.{Place}
 use Rattle.matcher.specs.Codes.{bitPlace, indexOf, source}
 use Rattle.matcher.proofs.Turns.{Inside}
 use Rattle.alike.specs.Quarters.{half, quarter, quarterSource}

@@ -1,11 +1,10 @@
 -- `board::questions::judged` meets its contract. Assumes nothing.
 use mathlib.Core.Path.{_≡_, refl, sym, ap, ap₂, _∙_}
 use mathlib.Core.Bool.{Bool, true, false, not}
-use Prim.Native.Nat.{ℕ}
+use Prim.Native.Nat.{ℕ, min}
 use borrow.Author.Needs.{needs}
 use borrow.Author.Tests.{not-true, not-false}
 use Rattle.alike.specs.Alike.{twoAlike}
-use Rattle.alike.specs.Quarters.{lesser}
 use Rattle.board.specs.Layout.{markerTotal}
 use Rattle.board.specs.Questions.{judgedBy}
 use Rattle.board.proofs.questions.judged.Statement.{statement}
@@ -18,12 +17,12 @@ module _ (c : tie.After-none-alike) where
   abbrev start : tie.Start
   start = c .before .before .before .before
 
-  apart-is : c .none-alike .result ≡ not (twoAlike (start .args .board .bits) (start .args .codes .now) (lesser (markerTotal (start .args .board)) 512))
+  apart-is : c .none-alike .result ≡ not (twoAlike (start .args .board .bits) (start .args .codes .now) (min (markerTotal (start .args .board)) 512))
   apart-is =
       c .none-alike .ensures
-      ∙ ap (λ (n : ℕ). not (twoAlike (start .args .board .bits) (start .args .codes .now) (lesser n 512))) (c .before .marker-count .ensures)
+      ∙ ap (λ (n : ℕ). not (twoAlike (start .args .board .bits) (start .args .codes .now) (min n 512))) (c .before .marker-count .ensures)
 
-  judged-as : (t : Bool) → c .none-alike .result ≡ t → judgedBy (start .args .in-range) (not (twoAlike (start .args .board .bits) (start .args .codes .now) (lesser (markerTotal (start .args .board)) 512))) (start .args .board) ≡ judgedBy true t (start .args .board)
+  judged-as : (t : Bool) → c .none-alike .result ≡ t → judgedBy (start .args .in-range) (not (twoAlike (start .args .board .bits) (start .args .codes .now) (min (markerTotal (start .args .board)) 512))) (start .args .board) ≡ judgedBy true t (start .args .board)
   judged-as t e = ap₂ (λ (x y : Bool). judgedBy x y (start .args .board)) (not-false (start .args .in-range) (c .before .before .if1 .left)) (sym apart-is ∙ e)
 
 returns-2 : tie.Need-returns-2

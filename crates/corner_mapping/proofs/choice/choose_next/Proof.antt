@@ -19,7 +19,7 @@ use Rattle.corner_mapping.proofs.choice.choose_next.Tie as tie
 -- what is asked of the calls
 module _ (x : Input) (r : InputInRange x) (k : ℕ) (l : k < length (x .scores)) where
   near : NearCorner (x .grid) k
-  near e = both-within 4096 (corners (x .scores) (x .grid)) (length (x .scores)) k l (r .placed) e
+  near e = both-within 4096 (corners (x .scores) (x .grid)) (length (x .scores)) k l (r .all-placed) e
 
   small : (id : ℕ) → idOf (x .board) (x .alignment) (x .grid) k ≡ numbered.Id id → id < 1024
   small id e = omega (arith, id-below (x .board) (x .alignment) (x .grid) k id e, few-corners (x .board .rows) (x .board .cols) (r .rows) (r .cols))

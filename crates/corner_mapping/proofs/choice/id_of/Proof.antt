@@ -11,12 +11,11 @@ use mir.ValLaws.{toZ-ofZ}
 use borrow.Author.Needs.{needs}
 use borrow.Author.Tests.{not-true, not-false}
 use Rattle.integers.proofs.Distances.{within-abs}
-use Rattle.integers.proofs.Words.{word as read, half}
+use Rattle.integers.proofs.Words.{word as read, half, read-back}
 use Rattle.grid_alignment.specs.declared.Coord.{Coord}
 use Rattle.grid_alignment.specs.Alignment.{point, applied}
 use Rattle.board.specs.Layout.{cornerAt}
 use Rattle.marker_sampling.specs.Cells.{word, labelled, cornersOf}
-use Rattle.marker_sampling.proofs.Tests.{read-back}
 use Rattle.corner_mapping.proofs.Ids.{half-fits, no-point, at-point}
 use Rattle.corner_mapping.proofs.choice.id_of.Statement.{statement}
 use Rattle.corner_mapping.proofs.choice.id_of.Tie as tie

@@ -1,6 +1,5 @@
 -- `corner_mapping::words::put_corner` meets its contract: by whether a corner is chosen. Assumes nothing.
 use mathlib.Core.Path.{_≡_, ap}
-use Prim.Native.Nat.{_+_, _≤_}
 use native.Mathlib.Omega.{arith}
 use lib.ListN.{length}
 use borrow.Author.Needs.{needs}

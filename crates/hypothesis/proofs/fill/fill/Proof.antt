@@ -111,7 +111,7 @@ loop-again c =
     let b = x d in
     let adds = c .before .before .before .likelihoods in (
       omega (arith, i .loop-test .taken),
-      sums-with (bytes b) (index b) _ _ _ (t b) (turning b) (k i) (inside i) (cell d) (d .counted .ensures) (adds .last .0) (adds .ensures .1)
+      sums-with (bytes b) (index b) _ _ _ (t b) (turning b) (k i) (inside i) (cell d) (d .counted .ensures) (adds .last .0) (adds .ensures .1 .0)
           (i .before .loop .sums) (c .add-counted .last .0) (i .before .loop .contributing) (c .add-counted .result) (c .add-counted .ensures)
           (i .before .loop .inv .1),
       adds .ensures .0,

@@ -1,5 +1,5 @@
 -- `hypothesis::fill::likelihoods` meets its contract. Assumes nothing.
-use mathlib.Core.Path.{_≡_, sym, ap, _∙_}
+use mathlib.Core.Path.{_≡_, refl, sym, ap, _∙_}
 use mathlib.Core.Bool.{true, false≢true}
 use mathlib.Core.List.{List}
 use Prim.Native.Nat.{ℕ, _*_, _≤_}
@@ -19,7 +19,7 @@ use Rattle.hypothesis.proofs.fill.likelihoods.Tie as tie
 
 returns : tie.Need-returns
 unfolding ofBits ofFields odd
-returns c = (c .before .before .pre .4, λ t. absurd (false≢true (sym (not-true _ (c .if1 .taken)) ∙ t)))
+returns c = (c .before .before .pre .4, (λ t. absurd (false≢true (sym (not-true _ (c .if1 .taken)) ∙ t)), λ i h. refl))
 
 module _ (c : tie.Else1) where
   abbrev start : tie.Start
@@ -98,8 +98,11 @@ returns-2 c =
     let x = b t in
     let done = c .bit-likelihoods in (
       done .ensures .0,
-      λ h. same-holds (x .args .table .now) _ (sample t) (samplesOf (s (e t)) (k (e t))) (x .args .inputs .board .bits * x .args .inputs .board .bits)
-          (done .last .0) (x .pre .1) (sample-is t) (done .ensures .1),
+      (
+        λ h. same-holds (x .args .table .now) _ (sample t) (samplesOf (s (e t)) (k (e t))) (x .args .inputs .board .bits * x .args .inputs .board .bits)
+            (done .last .0) (x .pre .1) (sample-is t) (done .ensures .1 .0),
+        done .ensures .1 .1,
+      ),
     )
 
 pub likelihoods-spec : {M : Type 1} → statement M

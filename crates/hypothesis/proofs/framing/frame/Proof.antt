@@ -4,12 +4,12 @@ use Prim.Native.Nat.{ℕ, _+_, _^_, _≤_, _<_}
 use native.Mathlib.Omega.{arith}
 use lib.IntN.{ℤ, natAbs, _-ℤ_}
 use lib.Signed.{mag}
-use mir.Syntax.{w16, w32, w64}
+use mir.Syntax.{w16, w64}
 use mir.Val.{Fits, SFits}
 use mir.ValLaws.{toZ-ofZ}
 use borrow.Author.Needs.{needs}
 use Rattle.integers.proofs.Parts.{abs-sub, fits-small}
-use Rattle.integers.proofs.Words.{word, word-is, half}
+use Rattle.integers.proofs.Words.{word, word-is, half, read-back}
 use Rattle.grid_alignment.specs.declared.Coord.{Coord}
 use Rattle.grid_alignment.specs.Alignment.{point, sends}
 use Rattle.grid_alignment.proofs.Entries.{sends-small}
@@ -74,10 +74,6 @@ add-t12 : tie.Need-add-t12
 add-t12 c =
     let t = c .before .before .before .before .before .before .before .before .before .before .before .before in
     fits (word (second t .v)) (word (first t .v)) (c .distance2 .result) (q t .near-v) (p t .near-v) (c .distance2 .ensures)
-
--- a call's result
-read-back : (z : ℤ) → mag z < 2 ^ 31 → word z ≡ z
-read-back z h = toZ-ofZ w32 z (record { sfits = h })
 
 returns : tie.Need-returns
 returns c =

@@ -1,5 +1,5 @@
 -- `hypothesis::search::clear` meets its contract. The loop's invariant: the first k sums are nought. Assumes nothing.
-use mathlib.Core.Path.{_≡_, refl}
+use mathlib.Core.Path.{refl}
 use Prim.Native.Nat.{ℕ, _-_, _≤_, _<_}
 use native.Mathlib.Omega.{arith}
 use lib.Ieee.{Float, nan, ofBits, ofFields, odd}

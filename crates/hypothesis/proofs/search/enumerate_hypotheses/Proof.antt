@@ -41,7 +41,7 @@ module _ (c : tie.After-best) where
 
 capacity-requires : tie.Need-capacity-requires
 capacity-requires c κs =
-    let p = placed (c .before) in
+    let p = placed (c .before) .small in
     (start (found (c .before)) .pre .ready, (omega (arith, p .tx), omega (arith, p .ty)))
 
 returns : tie.Need-returns

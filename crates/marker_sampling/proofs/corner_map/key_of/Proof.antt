@@ -4,12 +4,11 @@ use mathlib.Core.Path.{_≡_, sym, ap, _∙_}
 use mathlib.Core.Bool.{Bool, true, false}
 use borrow.Author.Needs.{needs}
 use borrow.Author.Tests.{not-true, not-false, lt-ltb, le-ltb}
-use Rattle.integers.proofs.Words.{word as read}
+use Rattle.integers.proofs.Words.{word as read, read-back}
 use Rattle.marker_sampling.specs.Cells.{Corners, word, labelled, cornersOf}
 use Rattle.integers.specs.Distance.{isWithin}
 use Rattle.marker_sampling.proofs.Keyed.{passed-over, keyed}
 use Rattle.marker_sampling.proofs.Placing.{both-within}
-use Rattle.marker_sampling.proofs.Tests.{read-back}
 use Rattle.marker_sampling.proofs.corner_map.key_of.Statement.{statement}
 use Rattle.marker_sampling.proofs.corner_map.key_of.Tie as tie
 

@@ -5,7 +5,7 @@ use borrow.Author.Needs.{needs}
 use borrow.Author.Tests.{not-true, not-false}
 use Rattle.marker_sampling.specs.Cells.{Corners, word, labelled, cornersOf}
 use Rattle.integers.specs.Distance.{isWithin}
-use Rattle.marker_sampling.proofs.Tests.{read-back}
+use Rattle.integers.proofs.Words.{read-back}
 use Rattle.marker_sampling.proofs.questions.placed.Statement.{statement}
 use Rattle.marker_sampling.proofs.questions.placed.Tie as tie
 

@@ -8,12 +8,11 @@ use lib.ListN.{length}
 use lib.IntN.{ℤ}
 use lib.Signed.{mag}
 use borrow.Author.Needs.{needs}
-use Rattle.integers.proofs.Words.{word}
+use Rattle.integers.proofs.Words.{word, read-back}
 use Rattle.grid_alignment.specs.declared.Coord.{Coord}
 use Rattle.grid_alignment.specs.Alignment.{corner}
 use Rattle.marker_sampling.specs.Cells.{Corners, holder, pointAt}
 use Rattle.marker_sampling.specs.Keys.{LowerBound, indexOrMinusOne}
-use Rattle.marker_sampling.proofs.Tests.{read-back}
 use Rattle.marker_sampling.proofs.Keyed.{corner-0, corner-1, corner-2, corner-3}
 use Rattle.marker_sampling.proofs.Searched.{still-below, searched-below}
 use Rattle.marker_sampling.proofs.walk.cell_at.Statement.{statement}

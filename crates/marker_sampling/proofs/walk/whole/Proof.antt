@@ -7,9 +7,9 @@ use lib.IntN.{ℤ, pos}
 use lib.ListN.{getD}
 use lib.Signed.{leZ, ltZ, mag}
 use borrow.Author.Needs.{needs}
-use Rattle.integers.proofs.Words.{word}
+use Rattle.integers.proofs.Words.{word, read-back}
 use Rattle.marker_sampling.specs.Keys.{present, wholeWords}
-use Rattle.marker_sampling.proofs.Tests.{read-back, not-negative}
+use Rattle.marker_sampling.proofs.Tests.{not-negative}
 use Rattle.marker_sampling.proofs.walk.whole.Statement.{statement}
 use Rattle.marker_sampling.proofs.walk.whole.Tie as tie
 

@@ -32,7 +32,7 @@ returns c t =
     record {
       long = w .long;
       holds = λ i h k. w .holds i h k ∙ picked-score (s .table .now) (samples (s .bits) (s .border) (s .threshold) (s .grid .now))
-          (s .bits * s .bits) (l .bit-likelihoods .last .0) (getD (s .codes .now) i 0) (l .bit-likelihoods .ensures .1);
+          (s .bits * s .bits) (l .bit-likelihoods .last .0) (getD (s .codes .now) i 0) (l .bit-likelihoods .ensures .1 .0);
     }
 
 returns-2 : tie.Need-returns-2

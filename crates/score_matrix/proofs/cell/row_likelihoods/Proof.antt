@@ -1,6 +1,7 @@
--- `score_matrix::cell::row_likelihoods` meets its contract. The loop's invariant: the list holds what the bits before bit x of the row add.
+-- `score_matrix::cell::row_likelihoods` meets its contract. The loop's invariant: the list holds what the bits before bit x of the row add,
+-- and past them what was lent.
 -- Assumes nothing.
-use mathlib.Core.Path.{_≡_, sym, ap, _∙_}
+use mathlib.Core.Path.{_≡_, refl, sym, ap, _∙_}
 use mathlib.Core.List.{List}
 use Prim.Native.Nat.{ℕ, _+_, _-_, _*_, _≤_, _<_}
 use native.Mathlib.Nat.{add-zero, add-assoc}
@@ -12,15 +13,16 @@ use Rattle.matcher.specs.declared.Place.{Place}
 use Rattle.matcher.proofs.Turns.{Inside, place-index}
 use Rattle.score_matrix.specs.Table.{entry}
 use Rattle.score_matrix.specs.Scores.{Samples, samples, gridIndex, grey, likelihood}
-use Rattle.score_matrix.specs.Likelihoods.{HoldsLikelihoods}
+use Rattle.score_matrix.specs.Likelihoods.{HoldsLikelihoods, KeptFrom}
 use Rattle.score_matrix.proofs.Places.{area, index-inside, read-grey}
-use Rattle.score_matrix.proofs.Likelihoods.{holds-next}
+use Rattle.score_matrix.proofs.Likelihoods.{holds-next, kept-next}
 use Rattle.score_matrix.proofs.cell.row_likelihoods.Statement.{statement}
 use Rattle.score_matrix.proofs.cell.row_likelihoods.Tie as tie
 
 abbrev Inv-loop : tie.InvT-loop
 Inv-loop likelihoods₀ table grid threshold bits border y n first at x₀ likelihoods x =
     (x ≤ n) × (length likelihoods ≡ 128) × HoldsLikelihoods table (samples bits border threshold grid) (y * bits + x) likelihoods
+    × KeptFrom (2 * (y * bits + x)) likelihoods₀ likelihoods
 
 abbrev μ-loop : tie.MeasureT-loop
 μ-loop likelihoods₀ table grid threshold bits border y n first at x₀ likelihoods x = n - x
@@ -33,7 +35,7 @@ row : (c : tie.After-grid-index Inv-loop μ-loop) → c .before .before .args .y
 row c = let s = c .before .before in omega (arith, digits-lt (s .pre .0 .1) (s .pre .0 .1), area (s .args .bits) (s .pre .0 .0))
 
 loop-holds : tie.Need-loop-holds Inv-loop μ-loop
-loop-holds c = let s = c .before .before in (omega arith, s .pre .0 .2, rw add-zero (s .pre .0 .3))
+loop-holds c = let s = c .before .before in (omega arith, s .pre .0 .2, rw add-zero (s .pre .0 .3), λ i h. refl)
 
 -- in the loop
 module _ (c : tie.In-loop Inv-loop μ-loop) where
@@ -89,12 +91,14 @@ loop-again c =
       simp length-set (before .inv .1),
       rw (at l, ← add-assoc) (holds-next (table c) (cell l) (k l) (before .likelihoods) (c .before .entry .result) (c .entry2 .result)
           (before .inv .2) (rw (before .inv .1) (omega (arith, small l))) (zeros c) (ones c)),
+      rw (at l, ← add-assoc) (kept-next (k l) (before .likelihoods) (c .before .entry .result) (c .entry2 .result) (start l .args .likelihoods .now)
+          (before .inv .3)),
     )
 
 returns : tie.Need-returns Inv-loop μ-loop
 returns c =
     let l = c .before .loop in
-    (l .inv .1, λ k h. l .inv .2 k (omega (arith, h, l .inv .0, c .loop-test .left)))
+    (l .inv .1, (λ k h. l .inv .2 k (omega (arith, h, l .inv .0, c .loop-test .left)), λ i h. l .inv .3 i (omega (arith, h, l .inv .0))))
 
 pub row-likelihoods-spec : {M : Type 1} → statement M
 row-likelihoods-spec =

@@ -1,5 +1,5 @@
 -- `shot_record::cells::is_whole` meets its contract. Assumes nothing.
-use mathlib.Core.Path.{_≡_, ap, sym, _∙_}
+use mathlib.Core.Path.{_≡_, ap, ap₂, sym, _∙_}
 use mathlib.Core.Bool.{true, false}
 use Prim.Native.Nat.{ℕ, _^_, _<_, zero-le}
 use native.Mathlib.Omega.{arith}
@@ -8,15 +8,19 @@ use lib.Dec.{leb, ltb, eqb}
 use lib.ListN.{length}
 use borrow.Author.Needs.{needs}
 use borrow.Author.Tests.{le-leb, lt-leb, lt-ltb, le-ltb, ne-eqb, not-true, not-false}
-use Rattle.shot_record.specs.Fields.{mapByte, cellCount, cellMap, cellsAt, cellAt}
+use Rattle.shot_record.specs.declared.cells.Cursor.{Cursor}
+use Rattle.shot_record.specs.Fields.{mapByte, cellCount, cellMap, mapOf, cellsAt, cellAt}
 use Rattle.shot_record.specs.Shots.{wholeRecord}
-use Rattle.shot_record.proofs.Reading.{Found, found, starts-rise}
+use Rattle.shot_record.proofs.Reading.{Found, found, Small, map-reach, count-reach, starts-rise}
 use Rattle.shot_record.proofs.cells.is_whole.Statement.{statement}
 use Rattle.shot_record.proofs.cells.is_whole.Tie as tie
 
 module _ (c : tie.After-shared-slice-known) where
   abbrev bytes : List ℕ
   bytes = c .before .args .bytes .now
+
+  small : Small bytes
+  small i = c .shared-slice-known .given i .fits
 
   f : Found (c .before .args .f) bytes
   f = found (c .before .args .f) bytes (c .before .pre)
@@ -30,9 +34,22 @@ known c =
     let x = c .before .before .before in
     lt-ltb (mapByte (bytes x)) 32 (omega (arith, f x .map, c .if2 .left))
 
+is-clear-requires : tie.Need-is-clear-requires
+is-clear-requires c κs =
+    let x = c .before .before .before in
+    (omega (arith, f x .cell-map-at, map-reach (bytes x) (small x)), omega (arith, f x .cell-count, count-reach (bytes x) (small x)))
+
+-- the spare bits of the cell map
+map-answer : (c : tie.After-is-clear) → c .is-clear .result ≡ ltb (cellMap (bytes (c .before .before .before .before)))
+    (2 ^ cellCount (bytes (c .before .before .before .before)))
+unfolding cellMap
+map-answer c =
+    let x = c .before .before .before .before in
+    c .is-clear .ensures ∙ ap₂ (λ (n at : ℕ). ltb (mapOf n at (bytes x)) (2 ^ n)) (f x .cell-count) (f x .cell-map-at)
+
 clear : (c : tie.Else3) → ltb (cellMap (bytes (c .before .before .before .before .before)))
     (2 ^ cellCount (bytes (c .before .before .before .before .before))) ≡ true
-clear c = sym (c .before .has-clear-map .ensures) ∙ not-false (c .before .has-clear-map .result) (c .if3 .left)
+clear c = sym (map-answer (c .before)) ∙ not-false (c .before .is-clear .result) (c .if3 .left)
 
 returns : tie.Need-returns
 unfolding wholeRecord
@@ -48,7 +65,7 @@ returns-3 : tie.Need-returns-3
 unfolding wholeRecord
 returns-3 c =
     let last = c .before in
-    rw (short (last .before .before .before), known (last .before), sym (last .has-clear-map .ensures) ∙ not-true (last .has-clear-map .result) (c .if3 .taken))
+    rw (short (last .before .before .before), known (last .before), sym (map-answer last) ∙ not-true (last .is-clear .result) (c .if3 .taken))
 
 -- a record that ends before its cells
 cut : (bytes : List ℕ) → length bytes < cellsAt bytes → eqb (cellAt bytes (cellCount bytes)) (length bytes) ≡ false
@@ -66,11 +83,12 @@ returns-4 c =
 returns-5 : tie.Need-returns-5
 unfolding wholeRecord
 returns-5 c =
-    let e = c .before .before .before in
+    let e = c .before .before .before .before in
     let x = e .before .before .before .before .before in
-    rw (short (e .before .before .before .before), known (e .before .before), clear e)
-    (ap (λ (n : ℕ). eqb n (length (bytes x))) (c .cell-start .ensures ∙ ap (cellAt (bytes x)) (f x .cell-count)))
+    let end : c .before .seek .result .start ≡ cellAt (bytes x) (cellCount (bytes x)) =
+    ap (λ (d : Cursor). d .start) (c .before .seek .ensures) ∙ ap (cellAt (bytes x)) (f x .cell-count) in
+    rw (short (e .before .before .before .before), known (e .before .before), clear e) (ap (λ (n : ℕ). eqb n (length (bytes x))) end)
 
 pub is-whole-spec : {M : Type 1} → statement M
 is-whole-spec =
-    tie.close (tie.spec returns returns-2 (λ c κs. search needs) returns-3 returns-4 (λ c κs. search needs) returns-5)
+    tie.close (tie.spec returns returns-2 is-clear-requires returns-3 returns-4 (λ c κs. search needs) returns-5)

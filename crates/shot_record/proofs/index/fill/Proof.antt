@@ -1,5 +1,6 @@
--- `shot_record::index::fill` meets its contract. The loop's invariant: the index has the words of the cells before k. Assumes nothing.
-use mathlib.Core.Path.{_≡_, ap, ap₂, _∙_}
+-- `shot_record::index::fill` meets its contract. The loop's invariant: the index has the words of the cells before that of the walk,
+-- and the places behind all cells have the words that they had. Assumes nothing.
+use mathlib.Core.Path.{_≡_, refl, ap, _∙_}
 use mathlib.Core.Logic.{_⊎_, inl, inr}
 use Prim.Native.Nat.{ℕ, _+_, _-_, _*_, _≤_, _<_}
 use native.Mathlib.Nat.{eq-or-lt-of-le}
@@ -8,24 +9,24 @@ use mathlib.Core.List.{List}
 use lib.ListN.{length, getD, set, length-set}
 use lib.Seq.{getD-set-same, getD-set-other}
 use borrow.Author.Needs.{needs}
-use Rattle.shot_record.specs.Fields.{sampled, cellCount, cellAt}
-use Rattle.shot_record.specs.Index.{wordsFrom, withWords, pointIn, fractionIn, gridIn}
+use Rattle.shot_record.specs.declared.cells.Cursor.{Cursor}
+use Rattle.shot_record.specs.Fields.{cellCount, cursorAt, AtCell}
+use Rattle.shot_record.specs.Index.{wordsOf, withWords, pointIn, fractionIn, gridIn}
 use Rattle.shot_record.proofs.Reading.{found}
-use Rattle.shot_record.proofs.Whole.{passed}
-use Rattle.shot_record.proofs.CellReads.{starts-inside}
+use Rattle.shot_record.proofs.Walks.{arrived}
 use Rattle.shot_record.proofs.Entries.{entry-of}
 use Rattle.shot_record.proofs.index.fill.Statement.{statement}
 use Rattle.shot_record.proofs.index.fill.Tie as tie
 
 -- the words of cell k
 pub record Words (bytes index : List ℕ) (k : ℕ) : Type 0 where
-  pub point : pointIn index k ≡ getD (wordsFrom (sampled bytes k) (cellAt bytes k) bytes) 0 0
-  pub fraction : fractionIn index k ≡ getD (wordsFrom (sampled bytes k) (cellAt bytes k) bytes) 1 0
-  pub grid : gridIn index k ≡ getD (wordsFrom (sampled bytes k) (cellAt bytes k) bytes) 2 0
+  pub point : pointIn index k ≡ getD (wordsOf bytes k) 0 0
+  pub fraction : fractionIn index k ≡ getD (wordsOf bytes k) 1 0
+  pub grid : gridIn index k ≡ getD (wordsOf bytes k) 2 0
 
 -- an index with the words of a further cell
 module _ (bytes index words : List ℕ) (k : ℕ) (inside : k < 256) (size : length index ≡ 768)
-    (e : words ≡ wordsFrom (sampled bytes k) (cellAt bytes k) bytes) where
+    (e : words ≡ wordsOf bytes k) where
   abbrev one : List ℕ
   one = set index (3 * k) (getD words 0 0)
 
@@ -38,11 +39,11 @@ module _ (bytes index words : List ℕ) (k : ℕ) (inside : k < 256) (size : len
   two-size : length two ≡ 768
   two-size = length-set one (3 * k + 1) (getD words 1 0) ∙ one-size
 
-  unchanged : (i : ℕ) → i < 3 * k → getD (withWords index k words) i 0 ≡ getD index i 0
-  unchanged i h =
-      getD-set-other two (3 * k + 2) i (getD words 2 0) 0 (λ z. absurd (omega arith))
-      ∙ getD-set-other one (3 * k + 1) i (getD words 1 0) 0 (λ z. absurd (omega arith))
-      ∙ getD-set-other index (3 * k) i (getD words 0 0) 0 (λ z. absurd (omega arith))
+  other-words : (i : ℕ) → (3 * k ≤ i → i < 3 * k + 3 → ⊥) → getD (withWords index k words) i 0 ≡ getD index i 0
+  other-words i apart =
+      getD-set-other two (3 * k + 2) i (getD words 2 0) 0 (λ z. apart (omega (arith, z)) (omega (arith, z)))
+      ∙ getD-set-other one (3 * k + 1) i (getD words 1 0) 0 (λ z. apart (omega (arith, z)) (omega (arith, z)))
+      ∙ getD-set-other index (3 * k) i (getD words 0 0) 0 (λ z. apart (omega (arith, z)) (omega (arith, z)))
 
   new-words : Words bytes (withWords index k words) k
   new-words =
@@ -63,85 +64,95 @@ module _ (bytes index words : List ℕ) (k : ℕ) (inside : k < 256) (size : len
       go (inr l) =
           let old = before j l in
           record {
-            point = unchanged (3 * j) (omega arith) ∙ old .point;
-            fraction = unchanged (3 * j + 1) (omega arith) ∙ old .fraction;
-            grid = unchanged (3 * j + 2) (omega arith) ∙ old .grid;
+            point = other-words (3 * j) (λ x y. absurd (omega arith)) ∙ old .point;
+            fraction = other-words (3 * j + 1) (λ x y. absurd (omega arith)) ∙ old .fraction;
+            grid = other-words (3 * j + 2) (λ x y. absurd (omega arith)) ∙ old .grid;
           }
 
   new-size : length (withWords index k words) ≡ 768
   new-size = length-set two (3 * k + 2) (getD words 2 0) ∙ two-size
 
 abbrev Inv-loop : tie.InvT-loop
-Inv-loop index₀ bytes f count start₀ k₀ index start k =
-    (k ≤ count) × (start ≡ cellAt bytes k) × (length index ≡ 768) × ((j : ℕ) → j < k → Words bytes index j)
+Inv-loop index₀ bytes f count c₀ index c =
+    (c .cell ≤ count) × (c ≡ cursorAt bytes (c .cell)) × (length index ≡ 768) × ((j : ℕ) → j < c .cell → Words bytes index j)
+    × ((i : ℕ) → 3 * cellCount bytes ≤ i → getD index i 0 ≡ getD index₀ i 0)
 
 abbrev μ-loop : tie.MeasureT-loop
-μ-loop index₀ bytes f count start₀ k₀ index start k = count - k
+μ-loop index₀ bytes f count c₀ index c = count - c .cell
 
 loop-holds : tie.Need-loop-holds Inv-loop μ-loop
-unfolding cellAt
 loop-holds c =
-    let s = c .before .before in
-    (omega arith, found (s .args .f) (s .args .bytes .now) (s .pre .0) .cells-at, s .pre .2, λ j h. absurd (omega arith))
+    let s = c .before .before .before in
+    let none = ap (λ (d : Cursor). d .cell) (c .first .ensures) in
+    (omega (arith, none), arrived _ _ 0 (c .first .ensures), s .pre .2, λ j h. absurd (omega (arith, none)), λ i h. refl)
 
 -- in the loop
-module _ (c : tie.In-loop Inv-loop μ-loop) where
+module _ (c : tie.Then1 Inv-loop μ-loop) where
+  abbrev loop : tie.At-loop Inv-loop μ-loop
+  loop = c .before .before
+
   abbrev s : tie.Start Inv-loop μ-loop
-  s = c .before .before .before .before
+  s = loop .before .before .before .before
 
   abbrev bytes : List ℕ
   bytes = s .args .bytes .now
 
   abbrev k : ℕ
-  k = c .before .loop .k
+  k = loop .loop .c .cell
 
   low : (k < s .args .f .«cell_count») × (k < 256)
-  low = let n = c .before .before .at-most .ensures .0 in (omega (arith, c .loop-test .taken, n), omega (arith, c .loop-test .taken, n))
+  low = let n = loop .before .before .at-most .ensures .0 in (omega (arith, c .if1 .taken, n), omega (arith, c .if1 .taken, n))
 
   inside : k < cellCount bytes
   inside = omega (arith, low, found (s .args .f) bytes (s .pre .0) .cell-count)
 
-  reach : c .before .loop .start ≤ 65535
-  reach =
-      let w = passed bytes (s .pre .1) in
-      omega (arith, c .before .loop .inv .1, starts-inside bytes w k inside, w .size)
-
-sampled-requires : tie.Need-sampled-requires Inv-loop μ-loop
-sampled-requires c κs = (s c .pre .0, low c .0)
+  walk : AtCell bytes (s .args .f) (loop .loop .c)
+  walk = (s .pre .0, loop .loop .inv .1, low .0)
 
 words-requires : tie.Need-words-requires Inv-loop μ-loop
-words-requires c κs = reach (c .before)
+words-requires c κs = (walk c, s c .pre .1)
 
 put-requires : tie.Need-put-requires Inv-loop μ-loop
-put-requires c κs = let i = c .before .before .before .before in (low i .1, i .before .loop .inv .2)
+put-requires c κs = let i = c .before .before .before in (low i .1, loop i .loop .inv .2)
 
-next-start-requires : tie.Need-next-start-requires Inv-loop μ-loop
-next-start-requires c κs = let i = c .before .before .before .before .before in (s i .pre .0, low i .0, i .before .loop .inv .1)
+next-requires : tie.Need-next-requires Inv-loop μ-loop
+next-requires c κs = walk (c .before .before .before .before)
+
+-- one cell further
+further : (c : tie.After-next Inv-loop μ-loop) → c .next .result .cell ≡ k (c .before .before .before .before .before) + 1
+further c = ap (λ (d : Cursor). d .cell) (c .next .ensures)
+
+loop-less : tie.Need-loop-less Inv-loop μ-loop
+loop-less c = omega (arith, further c, c .before .before .before .before .before .if1 .taken)
 
 loop-again : tie.Need-loop-again Inv-loop μ-loop
 loop-again c =
     let u = c .before in
-    let i = u .before .before .before .before .before in
-    let l = i .before .loop in
-    let e : u .before .before .before .words .result ≡ wordsFrom (sampled (bytes i) (k i)) (cellAt (bytes i) (k i)) (bytes i)
-    = u .before .before .before .words .ensures
-    ∙ ap₂ (λ (b at : ℕ). wordsFrom b at (bytes i)) (u .before .before .before .before .sampled .ensures) (l .inv .1) in (
-      omega (arith, i .loop-test .taken),
-      c .next-start .ensures,
-      ap length (u .put .ensures) ∙ new-size (bytes i) (l .index) _ (k i) (low i .1) (l .inv .2) e,
-      λ j h. rw (u .put .ensures) (one-more (bytes i) (l .index) (u .before .before .before .words .result) (k i) (low i .1) (l .inv .2) e (l .inv .3) j h),
+    let i = u .before .before .before .before in
+    let l = loop i .loop in
+    let found = u .before .before .before .words in (
+      omega (arith, further c, i .if1 .taken),
+      arrived _ _ _ (c .next .ensures),
+      ap length (u .put .ensures) ∙ new-size (bytes i) (l .index) _ (k i) (low i .1) (l .inv .2) (found .ensures),
+      λ j h. rw (u .put .ensures) (one-more (bytes i) (l .index) (found .result) (k i) (low i .1) (l .inv .2) (found .ensures) (l .inv .3) j (omega (arith, h, further c))),
+      λ n h. ap (λ (x : List ℕ). getD x n 0) (u .put .ensures)
+          ∙ other-words (bytes i) (l .index) (found .result) (k i) (low i .1) (l .inv .2) (found .ensures) n (λ x y. absurd (omega (arith, h, inside i)))
+          ∙ l .inv .4 n h,
     )
 
 returns : tie.Need-returns Inv-loop μ-loop
-returns c n h t =
-    let l = c .before in
-    let known = l .before .before in
+returns c =
+    let l = c .before .before in
+    let known = l .before .before .before in
     let x = known .before in
-    let count = found (x .args .f) (x .args .bytes .now) (x .pre .0) .cell-count in
-    let words = l .loop .inv .3 n (omega (arith, c .loop-test .left, l .before .at-most .ensures .1 n t (omega (arith, h, count)))) in
-    entry-of _ (l .loop .index) n (λ i. known .shared-slice-known .given i .fits) (words .point) (words .fraction) (words .grid)
+    let count = found (x .args .f) (x .args .bytes .now) (x .pre .0) .cell-count in (
+      λ n h t.
+          let words = l .loop .inv .3 n (omega (arith, c .if1 .left, l .before .before .at-most .ensures .1 n t (omega (arith, h, count)))) in
+          entry-of _ (l .loop .index) n (λ i. known .shared-slice-known .given i .fits) (words .point) (words .fraction) (words .grid),
+      l .loop .inv .4,
+    )
 
 pub fill-spec : {M : Type 1} → statement M
 fill-spec =
-    tie.close (tie.spec Inv-loop μ-loop (λ c κs. tt) loop-holds sampled-requires words-requires put-requires next-start-requires (λ c. search needs)
-    (λ c. search needs) loop-again returns)
+    tie.close (tie.spec Inv-loop μ-loop (λ c κs. tt) (λ c κs. search needs) loop-holds words-requires put-requires next-requires loop-less loop-again
+    returns)

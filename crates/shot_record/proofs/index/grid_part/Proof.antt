@@ -6,7 +6,7 @@ use native.Mathlib.Omega.{arith}
 use mathlib.Core.List.{List}
 use lib.ListN.{length, take, drop}
 use borrow.Author.Needs.{needs}
-use Rattle.shot_record.specs.Fields.{bitsOf, borderOf, gridSize, cellCount, sampled, cellAt}
+use Rattle.shot_record.specs.Fields.{bitsOf, borderOf, gridSize, cellCount, sampled, samplePlace, gridFrom}
 use Rattle.shot_record.specs.Index.{Entry, placeIn}
 use Rattle.shot_record.proofs.Reading.{Found, found}
 use Rattle.shot_record.proofs.Whole.{Whole, passed}
@@ -40,7 +40,7 @@ module _ (c : tie.Start) where
   entry = c .pre .0 .1 k inside (c .pre .2)
 
 -- a cell without words of a sample is not sampled
-unmarked : (b word at : ℕ) → ((b ≡ 0 → ⊥) → word / 256 ≡ at + 9) → word ≡ 0 → b ≡ 0
+unmarked : (b word at : ℕ) → ((b ≡ 0 → ⊥) → word / 256 ≡ gridFrom at) → word ≡ 0 → b ≡ 0
 unmarked zero word at h e = refl
 unmarked (suc b) word at h e = absurd (omega (arith, h (λ z. absurd (omega arith)), e))
 
@@ -48,7 +48,7 @@ returns : tie.Need-returns
 returns c =
     let s = c .before .before in (
       (le-refl 0, zero-le),
-      without-grid (sampled (bytes s) (k s)) (size s) (cellAt (bytes s) (k s)) (bytes s)
+      without-grid (sampled (bytes s) (k s)) (size s) (samplePlace (bytes s) (k s)) (bytes s)
           (unmarked (sampled (bytes s) (k s)) _ _ (entry s .place) (c .if1 .taken)),
     )
 
@@ -60,10 +60,10 @@ module _ (c : tie.Else1) where
   marked : sampled (bytes s) (k s) ≡ 0 → ⊥
   marked z = c .if1 .left (entry s .unsampled z)
 
-  lies : cellAt (bytes s) (k s) + (9 + size s) ≤ length (bytes s)
+  lies : gridFrom (samplePlace (bytes s) (k s)) + size s ≤ length (bytes s)
   lies = grid-lies (bytes s) (is-whole s) (k s) (inside s) marked
 
-  place : placeIn (index s) (k s) ≡ cellAt (bytes s) (k s) + 9
+  place : placeIn (index s) (k s) ≡ gridFrom (samplePlace (bytes s) (k s))
   place = entry s .place marked
 
 cast-first : tie.Need-cast-first
@@ -82,7 +82,7 @@ returns-2 c =
     let length : at + x .args .f .«grid_size» - at ≡ size x = omega (arith, f x .grid-size) in (
       (omega arith, omega (arith, place e, lies e, f x .grid-size)),
       ap₂ (λ (n at : ℕ). take n (drop at (bytes x))) length (place e)
-          ∙ with-grid (sampled (bytes x) (k x)) (size x) (cellAt (bytes x) (k x)) (bytes x) (marked e),
+          ∙ with-grid (sampled (bytes x) (k x)) (size x) (samplePlace (bytes x) (k x)) (bytes x) (marked e),
     )
 
 pub grid-part-spec : {M : Type 1} → statement M

@@ -11,5 +11,6 @@ abbrev μ-loop : tie.MeasureT-loop
 
 pub next-line-spec : {M : Type 1} → statement M
 next-line-spec =
-    tie.close (tie.spec Inv-loop μ-loop (λ c κs. tt) (λ c. tt) (λ c. search needs) (λ c κs. tt) (λ c κs. tt) (λ c. tt) (λ c κs. tt) (λ c. tt)
-    (λ c κs. tt) (λ c. search needs) (λ c. tt) (λ c κs. tt) (λ c. tt))
+    tie.close (tie.spec Inv-loop μ-loop (λ c κs. tt) (λ c. tt) (λ c. search needs) (λ c κs. tt) (λ c. search needs) (λ c κs. tt) (λ c. tt)
+    (λ c κs. tt) (λ c. search needs) (λ c. tt) (λ c. search needs) (λ c κs. tt) (λ c. tt) (λ c. search needs) (λ c κs. tt) (λ c. tt)
+    (λ c κs. tt) (λ c. tt))
