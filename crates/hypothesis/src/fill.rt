@@ -4,9 +4,10 @@ ghost use mathlib.Core.Bool.{true};
 ghost use Prim.Native.Nat.{_*_, _<_, _≤_};
 ghost use lib.ListN.{length};
 ghost use lib.IntN.{natAbs};
-ghost use lib.Ieee.{lt};
+ghost use lib.Ieee.{nan, lt};
 ghost use Rattle.floats.specs.Units.{nought};
-ghost use Rattle.score_matrix.specs.Likelihoods.{HoldsLikelihoods, KeptFrom};
+ghost use Rattle.lent_list.specs.Parts.{KeptFrom};
+ghost use Rattle.score_matrix.specs.Likelihoods.{HoldsLikelihoods};
 ghost use Rattle.shot_record.specs.Shots.{shot};
 ghost use Rattle.shot_record.specs.Index.{uIn, vIn};
 ghost use Rattle.hypothesis.specs.Placements.{cellTotal};
@@ -83,7 +84,7 @@ fn likelihoods(
     ensures size { λ _. ⌜ length (now (adds .exit)) ≡ 128 ⌝ }
     ensures holds { λ _. ⌜ (lt nought weight ≡ true → HoldsLikelihoods (tableOf (shot (now (bytes .entry)))) (samplesOf (shot (now (bytes .entry))) k)
         (inputs .board .bits * inputs .board .bits) (now (adds .exit))) ⌝ }
-    ensures rest { λ _. ⌜ KeptFrom (2 * (inputs .board .bits * inputs .board .bits)) (now (adds .entry)) (now (adds .exit)) ⌝ }
+    ensures rest { λ _. ⌜ KeptFrom nan (2 * (inputs .board .bits * inputs .board .bits)) (now (adds .entry)) (now (adds .exit)) ⌝ }
 {
     if !(0.0 < weight) {
         return;

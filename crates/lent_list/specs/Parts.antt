@@ -1,8 +1,13 @@
--- A part of a list.
+-- Parts of a list.
+use mathlib.Core.Path.{_≡_}
 use mathlib.Core.List.{List}
-use Prim.Native.Nat.{ℕ}
-use lib.ListN.{take, drop}
+use Prim.Native.Nat.{ℕ, _≤_}
+use lib.ListN.{take, drop, getD}
 
 -- n elements from a place on
 abbrev pub part : {A : Type 0} → ℕ → ℕ → List A → List A
 part at n list = take n (drop at list)
+
+-- from place n on a list holds what it held before; d is read past the end
+abbrev pub KeptFrom : {A : Type 0} → A → ℕ → List A → List A → Type 0
+KeptFrom d n before after = (i : ℕ) → n ≤ i → getD after i d ≡ getD before i d

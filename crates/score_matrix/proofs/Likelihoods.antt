@@ -10,11 +10,12 @@ use lib.Ieee.{Float, nan}
 use borrow.Author.Count.{below-more}
 use Rattle.floats.specs.Units.{sumTo}
 use Rattle.floats.proofs.Folds.{sum-ext}
+use Rattle.lent_list.specs.Parts.{KeptFrom}
 use Rattle.matcher.specs.Codes.{bit, turned}
 use Rattle.matcher.proofs.Bits.{bit-small}
 use Rattle.matcher.proofs.Turns.{bit-turned}
 use Rattle.score_matrix.specs.Scores.{Samples, bitCount, likelihood, term, score}
-use Rattle.score_matrix.specs.Likelihoods.{HoldsLikelihoods, KeptFrom, picked, Sources, pickedFrom}
+use Rattle.score_matrix.specs.Likelihoods.{HoldsLikelihoods, picked, Sources, pickedFrom}
 
 -- what is written of bit k leaves the other places
 module _ (k : ℕ) (l : List Float) (zeros ones : Float) where
@@ -24,7 +25,7 @@ module _ (k : ℕ) (l : List Float) (zeros ones : Float) where
   elsewhere : (i : ℕ) → (i ≡ 2 * k → ⊥) → (i ≡ 2 * k + 1 → ⊥) → getD written i nan ≡ getD l i nan
   elsewhere i a b = getD-set-other (set l (2 * k) zeros) (2 * k + 1) i ones nan b ∙ getD-set-other l (2 * k) i zeros nan a
 
-  pub kept-next : (first : List Float) → KeptFrom (2 * k) first l → KeptFrom (2 * (k + 1)) first written
+  pub kept-next : (first : List Float) → KeptFrom nan (2 * k) first l → KeptFrom nan (2 * (k + 1)) first written
   kept-next first kept i h = elsewhere i (λ e. absurd (omega (arith, e, h))) (λ e. absurd (omega (arith, e, h))) ∙ kept i (omega (arith, h))
 
 -- one bit more is written

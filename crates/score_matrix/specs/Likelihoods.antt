@@ -1,7 +1,7 @@
 -- What each bit of a code adds to the score of a cell, as it is held in a list: bit k adds entry 2 k where it is 0, and entry 2 k + 1 where it is 1.
 use mathlib.Core.Path.{_≡_}
 use mathlib.Core.List.{List}
-use Prim.Native.Nat.{ℕ, zero, suc, _+_, _*_, _^_, _<_, _≤_}
+use Prim.Native.Nat.{ℕ, zero, suc, _+_, _*_, _^_, _<_}
 use lib.ListN.{getD}
 use lib.Ieee.{Float, nan}
 use Rattle.matcher.specs.Codes.{bit, sourceBit}
@@ -10,10 +10,6 @@ use Rattle.score_matrix.specs.Scores.{Samples, likelihood}
 -- l holds them for the bits below n
 abbrev pub HoldsLikelihoods : List Float → Samples → ℕ → List Float → Type 0
 HoldsLikelihoods table s n l = (k : ℕ) → k < n → (getD l (2 * k) nan ≡ likelihood table s k 0) × (getD l (2 * k + 1) nan ≡ likelihood table s k 1)
-
--- from place n on a list holds what it held before
-abbrev pub KeptFrom : ℕ → List Float → List Float → Type 0
-KeptFrom n before after = (i : ℕ) → n ≤ i → getD after i nan ≡ getD before i nan
 
 -- what a bit adds, by what it adds where it is 0 and where it is 1
 abbrev pub byBit : ℕ → Float → Float → Float

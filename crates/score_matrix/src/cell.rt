@@ -4,10 +4,12 @@ ghost use mathlib.Core.Bool.{cond};
 ghost use Prim.Native.Nat.{ℕ, _+_, _*_, _<_, _≤_};
 ghost use lib.Dec.{ltb};
 ghost use lib.ListN.{length};
+ghost use lib.Ieee.{nan};
 ghost use Rattle.floats.specs.Units.{sumTo};
+ghost use Rattle.lent_list.specs.Parts.{KeptFrom};
 ghost use Rattle.matcher.specs.Codes.{bitPlace};
 ghost use Rattle.score_matrix.specs.Scores.{samples, side, gridIndex, score as scoreOf, readCode};
-ghost use Rattle.score_matrix.specs.Likelihoods.{HoldsLikelihoods, KeptFrom, picked};
+ghost use Rattle.score_matrix.specs.Likelihoods.{HoldsLikelihoods, picked};
 use super::table;
 use matcher::Place;
 
@@ -46,7 +48,7 @@ fn row_likelihoods(
     ensures size { λ _. ⌜ length (now (likelihoods .exit)) ≡ 128 ⌝ }
     ensures holds { λ _. ⌜ HoldsLikelihoods (now (table .entry)) (samples bits border threshold (now (grid .entry))) (y * bits + bits)
         (now (likelihoods .exit)) ⌝ }
-    ensures rest { λ _. ⌜ KeptFrom (2 * (y * bits + bits)) (now (likelihoods .entry)) (now (likelihoods .exit)) ⌝ }
+    ensures rest { λ _. ⌜ KeptFrom nan (2 * (y * bits + bits)) (now (likelihoods .entry)) (now (likelihoods .exit)) ⌝ }
 {
     let n = bits as usize;
     let first = grid_index(bits as u64, border as u64, Place { x: 0, y });
@@ -75,7 +77,7 @@ pub fn bit_likelihoods(
     ensures size { λ _. ⌜ length (now (likelihoods .exit)) ≡ 128 ⌝ }
     ensures holds { λ _. ⌜ HoldsLikelihoods (now (table .entry)) (samples bits border threshold (now (grid .entry))) (bits * bits)
         (now (likelihoods .exit)) ⌝ }
-    ensures rest { λ _. ⌜ KeptFrom (2 * (bits * bits)) (now (likelihoods .entry)) (now (likelihoods .exit)) ⌝ }
+    ensures rest { λ _. ⌜ KeptFrom nan (2 * (bits * bits)) (now (likelihoods .entry)) (now (likelihoods .exit)) ⌝ }
 {
     let n = bits as u64;
     let mut y = 0;

@@ -1,5 +1,5 @@
 -- Document 01, "The shot record": where each field of a record starts. A byte past the end of the record counts as 0; such a record is
--- refused (`whole` in Shots.antt).
+-- refused (`wholeRecord` in Shots.antt).
 use mathlib.Core.Path.{_≡_}
 use Prim.Native.Nat.{ℕ, zero, suc, _+_, _*_, _/_, _<_}
 use mathlib.Core.Bool.{Bool, not}

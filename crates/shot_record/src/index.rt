@@ -1,8 +1,9 @@
 // The index of the cells: each cell is read once, in one pass over the record, and a match looks it up here. Grids stay in the record.
 ghost use mathlib.Core.Path.{_≡_};
 ghost use mathlib.Core.Bool.{true};
-ghost use Prim.Native.Nat.{ℕ, _+_, _-_, _*_, _≤_, _<_};
-ghost use lib.ListN.{length, getD, take, drop};
+ghost use Prim.Native.Nat.{_+_, _-_, _*_, _≤_, _<_};
+ghost use lib.ListN.{length, take, drop};
+ghost use Rattle.lent_list.specs.Parts.{KeptFrom};
 ghost use Rattle.shot_record.specs.Fields.{fieldsOf, cellCount, AtCell};
 ghost use Rattle.shot_record.specs.Shots.{wholeRecord, cellOf};
 ghost use Rattle.shot_record.specs.Answers.{gridWith};
@@ -46,7 +47,7 @@ fn put(index: &mut [u32; 768], k: usize, words: &[u32; 3])
 pub fn fill(index: &mut [u32; 768], bytes: &[u8], f: Fields)
     requires { ⌜ (f ≡ fieldsOf (now bytes)) × (wholeRecord (now bytes) ≡ true) × (length (now index) ≡ 768) ⌝ }
     ensures filled { λ _. ⌜ Index (now (bytes .entry)) (now (index .exit)) ⌝ }
-    ensures kept { λ _. ⌜ ((i : ℕ) → 3 * cellCount (now (bytes .entry)) ≤ i → getD (now (index .exit)) i 0 ≡ getD (now (index .entry)) i 0) ⌝ }
+    ensures kept { λ _. ⌜ KeptFrom 0 (3 * cellCount (now (bytes .entry))) (now (index .entry)) (now (index .exit)) ⌝ }
 {
     let count = numbers::at_most(f.cell_count, 256);
     let mut c = cells::first(bytes, f);

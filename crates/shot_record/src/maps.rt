@@ -6,7 +6,7 @@ ghost use Rattle.matcher.specs.Codes.{bit as bitOf};
 ghost use Rattle.shot_record.specs.Fields.{mapOf};
 use super::numbers;
 
-// Bit k of a map that has one: 0 or 1.
+// Bit k of a map with more than k bits: 0 or 1.
 pub fn bit(bytes: &[u8], at: usize, k: usize) -> usize
     requires { ⌜ (at ≤ 2 ^ 30) × (k ≤ 2 ^ 30) ⌝ }
     ensures { λ r. ⌜ ((n : ℕ) → k < n → r ≡ bitOf (mapOf n at (now (bytes .entry))) k) ⌝ }
@@ -14,7 +14,7 @@ pub fn bit(bytes: &[u8], at: usize, k: usize) -> usize
     numbers::bit(numbers::byte_at(bytes, at + k / 8), k % 8)
 }
 
-// Are the bits of a map of n bits that stand for nothing 0? All of them are in its last byte.
+// Are the spare bits of a map of n bits 0? All of them are in its last byte.
 pub fn is_clear(bytes: &[u8], at: usize, n: usize) -> bool
     requires { ⌜ (at ≤ 2 ^ 30) × (n ≤ 2 ^ 30) ⌝ }
     ensures { λ r. ⌜ r ≡ ltb (mapOf n at (now (bytes .entry))) (2 ^ n) ⌝ }

@@ -1,9 +1,10 @@
 // Reads the standard input to its end, into the caller's list. Uses `libc`.
 //
 // Proved: what follows from each answer of `libc::read` (`after_read`); that a read leaves the bytes of the reads before it as they are
-// (`read_part`); that reading stops only where a read found the end of the input, where one failed, or where the list is full to its last byte
+// (`read_part`); that a list which is said to be full is full to its last byte, and that the end of the input is said with room for a byte more
 // (`read_all`). The contract of `libc::read` tells nothing of the bytes, and no contract can name what it answered. Tested in place of that
-// (tests/programs): that the list holds the input's bytes, and that the answer that is judged is the one of `read`.
+// (tests/programs): that the list holds the input's bytes, and that the answer that is judged is the one of `read`, so that the end is said only where
+// a read found it.
 ghost use mathlib.Core.Path.{_≡_};
 ghost use Prim.Native.Nat.{_+_, _<_, _^_};
 ghost use lib.IntN.{natAbs};

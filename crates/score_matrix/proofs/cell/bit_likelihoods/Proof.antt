@@ -5,16 +5,18 @@ use Prim.Native.Nat.{_-_, _*_, _≤_}
 use native.Mathlib.Nat.{zero-mul}
 use native.Mathlib.Omega.{arith}
 use lib.ListN.{length}
+use lib.Ieee.{nan}
 use borrow.Author.Count.{below-none}
 use Rattle.score_matrix.specs.Scores.{samples}
-use Rattle.score_matrix.specs.Likelihoods.{HoldsLikelihoods, KeptFrom}
+use Rattle.lent_list.specs.Parts.{KeptFrom}
+use Rattle.score_matrix.specs.Likelihoods.{HoldsLikelihoods}
 use Rattle.score_matrix.proofs.cell.bit_likelihoods.Statement.{statement}
 use Rattle.score_matrix.proofs.cell.bit_likelihoods.Tie as tie
 
 abbrev Inv-loop : tie.InvT-loop
 Inv-loop likelihoods₀ table grid threshold bits border n y₀ likelihoods y =
     (y ≤ n) × (length likelihoods ≡ 128) × HoldsLikelihoods table (samples bits border threshold grid) (y * bits) likelihoods
-    × KeptFrom (2 * (y * bits)) likelihoods₀ likelihoods
+    × KeptFrom nan (2 * (y * bits)) likelihoods₀ likelihoods
 
 abbrev μ-loop : tie.MeasureT-loop
 μ-loop likelihoods₀ table grid threshold bits border n y₀ likelihoods y = n - y

@@ -8,12 +8,13 @@ use native.Mathlib.Nat.{add-zero, add-assoc}
 use native.Mathlib.Omega.{arith}
 use lib.Arith.{digits-lt}
 use lib.ListN.{length, getD, length-set}
-use lib.Ieee.{Float}
+use lib.Ieee.{Float, nan}
 use Rattle.matcher.specs.declared.Place.{Place}
 use Rattle.matcher.proofs.Turns.{Inside, place-index}
 use Rattle.score_matrix.specs.Table.{entry}
 use Rattle.score_matrix.specs.Scores.{Samples, samples, gridIndex, grey, likelihood}
-use Rattle.score_matrix.specs.Likelihoods.{HoldsLikelihoods, KeptFrom}
+use Rattle.lent_list.specs.Parts.{KeptFrom}
+use Rattle.score_matrix.specs.Likelihoods.{HoldsLikelihoods}
 use Rattle.score_matrix.proofs.Places.{area, index-inside, read-grey}
 use Rattle.score_matrix.proofs.Likelihoods.{holds-next, kept-next}
 use Rattle.score_matrix.proofs.cell.row_likelihoods.Statement.{statement}
@@ -22,7 +23,7 @@ use Rattle.score_matrix.proofs.cell.row_likelihoods.Tie as tie
 abbrev Inv-loop : tie.InvT-loop
 Inv-loop likelihoods₀ table grid threshold bits border y n first at x₀ likelihoods x =
     (x ≤ n) × (length likelihoods ≡ 128) × HoldsLikelihoods table (samples bits border threshold grid) (y * bits + x) likelihoods
-    × KeptFrom (2 * (y * bits + x)) likelihoods₀ likelihoods
+    × KeptFrom nan (2 * (y * bits + x)) likelihoods₀ likelihoods
 
 abbrev μ-loop : tie.MeasureT-loop
 μ-loop likelihoods₀ table grid threshold bits border y n first at x₀ likelihoods x = n - x

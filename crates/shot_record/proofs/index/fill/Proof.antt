@@ -9,6 +9,7 @@ use mathlib.Core.List.{List}
 use lib.ListN.{length, getD, set, length-set}
 use lib.Seq.{getD-set-same, getD-set-other}
 use borrow.Author.Needs.{needs}
+use Rattle.lent_list.specs.Parts.{KeptFrom}
 use Rattle.shot_record.specs.declared.cells.Cursor.{Cursor}
 use Rattle.shot_record.specs.Fields.{cellCount, cursorAt, AtCell}
 use Rattle.shot_record.specs.Index.{wordsOf, withWords, pointIn, fractionIn, gridIn}
@@ -75,7 +76,7 @@ module _ (bytes index words : List ℕ) (k : ℕ) (inside : k < 256) (size : len
 abbrev Inv-loop : tie.InvT-loop
 Inv-loop index₀ bytes f count c₀ index c =
     (c .cell ≤ count) × (c ≡ cursorAt bytes (c .cell)) × (length index ≡ 768) × ((j : ℕ) → j < c .cell → Words bytes index j)
-    × ((i : ℕ) → 3 * cellCount bytes ≤ i → getD index i 0 ≡ getD index₀ i 0)
+    × KeptFrom 0 (3 * cellCount bytes) index₀ index
 
 abbrev μ-loop : tie.MeasureT-loop
 μ-loop index₀ bytes f count c₀ index c = count - c .cell
