@@ -1,5 +1,5 @@
-# Sourced by the programs of this folder: closed streams, messages, options, the record of a file, and refusals in words. A program sets `name`, its own,
-# before it sources this, and has a function `usage`.
+# Sourced by the programs in this folder: closed streams, messages, options, reading a record, and messages for refused records. Before sourcing it a
+# program sets `name` to its own name; it also defines a function `usage`.
 # shellcheck shell=bash
 set -euo pipefail
 export LC_ALL=C
@@ -11,22 +11,22 @@ fail() {
     exit "$2"
 }
 
-# Standard input, output and error that are closed: no pipe or file of this script may take their place.
+# If standard input, output or error is closed, no pipe or file of this script may take its descriptor.
 [ -e /dev/fd/2 ] || exec 2>/dev/null
 [ -e /dev/fd/1 ] || fail 'cannot write the standard output' 3
 has_input=true
 [ -e /dev/fd/0 ] || { has_input=false && exec </dev/null; }
 
 root=$(CDPATH='' cd -- "$(dirname -- "${BASH_SOURCE[0]}")/.." && pwd)
-values=$root/target/bin/refusal_values # its source says what it prints
+values=$root/target/bin/refusal_values # its source documents its output
 worst=0
 
-# The exit status is the highest that applies.
+# Raises the exit status to $1: the highest that applies is used.
 at_least() { [ "$worst" -ge "$1" ] || worst=$1; }
 
 put() { printf '%s\n' "$1" 2>/dev/null || fail 'cannot write the standard output' 3; }
 
-# A name as one line of text.
+# Prints a file name as one line of text.
 shown() {
     case $1 in
     *[[:cntrl:]]*) printf '%s' "${1@Q}" ;;
@@ -34,7 +34,7 @@ shown() {
     esac
 }
 
-# The names after the options, into `files`.
+# Handles the options and sets `files` to the names after them.
 options() {
     while [ $# -gt 0 ]; do
         case $1 in
@@ -47,14 +47,14 @@ options() {
     files=("$@")
 }
 
-# Builds the program and what a refusal's words want, where that is due, and makes the work folder.
+# Builds the program, and refusal_values for the messages, if needed; creates the temporary folder.
 begin() {
     "$root/bin/build" "$name" refusal_values </dev/null >&2 || exit 2
     work=$(mktemp -d) || fail 'cannot make a temporary folder' 2
     trap 'rm -rf -- "$work"' EXIT
 }
 
-# The record of $1 into the work folder. A record has at most 65,535 bytes; one more tells a longer input.
+# Copies the record $1 to the temporary folder. A record has at most 65,535 bytes; one more byte is read to detect a longer input.
 take() {
     local why
     if [ "$1" = - ]; then
@@ -65,48 +65,56 @@ take() {
     fi
 }
 
-# A sentence of refusals.tsv, with what $values prints in place of its names.
-filled() { # SENTENCE FIRST SECOND MINIMUM
-    awk -v sentence="$1" -v first="$2" -v second="$3" -v minimum="$4" '
-        function number(bits,    exponent, fraction) { # of a float that is finite
+# Prints a message of tables/refusals.tsv with its placeholders replaced: NAMES is the column of values, the numbers are what $values prints.
+filled() { # MESSAGE NAMES FIRST SECOND MINIMUM
+    awk -v message="$1" -v names="$2" -v first="$3" -v second="$4" -v minimum="$5" '
+        function number(bits,    exponent, fraction) { # of a finite float, from its bit pattern
             exponent = int(bits / 8388608) % 256
             fraction = bits % 8388608
             fraction = exponent ? (fraction + 8388608) * 2 ^ (exponent - 150) : fraction * 2 ^ -149
             return bits >= 2147483648 ? -fraction : fraction
         }
         function fill(name, value,    at) {
-            if (at = index(sentence, name)) sentence = substr(sentence, 1, at - 1) value substr(sentence, at + length(name))
+            if (at = index(message, name)) message = substr(message, 1, at - 1) value substr(message, at + length(name))
         }
         BEGIN {
-            fill("{needed}", first)
-            fill("{available}", second)
-            for (digits = 3; digits < 10; digits++) { # nine tell any two apart
-                low = sprintf("%." digits "g", number(first))
-                high = sprintf("%." digits "g", number(minimum))
-                if (low != high) break
+            n = split(names, name, " ")
+            for (digits = 3; digits < 10; digits++) { # nine digits distinguish any two floats
+                distinct = 1
+                split("", seen)
+                for (i = 1; i <= n; i++) {
+                    split(name[i], part, ":")
+                    value[i] = sub(/^\+/, "", part[1]) ? minimum : i == 1 ? first : second # + marks the value that the record has
+                    if (part[2] == "f32") {
+                        value[i] = sprintf("%." digits "g", number(value[i]))
+                        if (value[i] in seen) distinct = 0
+                        seen[value[i]] = 1
+                    }
+                    text[i] = "{" part[1] "}"
+                }
+                if (distinct) break
             }
-            fill("{margin}", low)
-            fill("{minimum}", high)
-            print sentence
+            for (i = 1; i <= n; i++) fill(text[i], value[i])
+            print message
         }'
 }
 
-# A refusal in words: $1 is the line that the program printed, the record is in the work folder.
+# Prints the message for the line $1 that the program printed; the record is in the temporary folder.
 words() {
-    local number sentence of first second minimum
+    local number names='' message='' of first second minimum
     read -r _ number _ <<<"$1"
-    sentence=$(awk -F '\t' -v number="$number" '$1 == number { print $3 }' "$root/bin/refusals.tsv")
-    case $sentence in
+    { read -r names && read -r message; } < <(awk -F '\t' -v number="$number" '$1 == number { print $4; print $6 }' "$root/tables/refusals.tsv") || true
+    case $message in
     *'{'*)
         read -r of first second minimum < <("$values" <"$work/record") || return 1
         [ "$of" = "$number" ] || return 1
-        sentence=$(filled "$sentence" "$first" "$second" "$minimum")
+        message=$(filled "$message" "$names" "$first" "$second" "$minimum")
         ;;
     esac
-    printf 'refused %s%s' "$number" "${sentence:+: $sentence}"
+    printf 'refused %s%s' "$number" "${message:+: $message}"
 }
 
-# Tells a refusal on standard error: $1 is said before its words, $2 is the line that the program printed.
+# Prints the message for a refused record on standard error: $1 is the prefix, $2 the line that the program printed.
 tell() {
     local text
     text=$(words "$2") || { say "$values failed" && at_least 2 && return; }

@@ -1,17 +1,17 @@
 /*
- * A cabinet's loop: each record file in, markers and corners out, refusals by number. Every corner of a cell of the record passes for a
- * detected corner; a marker found is linked with the corners of its cell, and the links are checked.
+ * A cabinet's loop: reads each record file and prints markers and corners, or the error number. Every corner of a cell of the record serves as
+ * a detected corner; each marker found is linked with the corners of its cell, and the links are checked.
  *
  *     cabinet FILE...
  *
- * Exit status: 0 every record was answered, 2 a file cannot be read, 3 the answers cannot be written.
+ * Exit status: 0 every record was processed, 2 a file cannot be read, 3 the output cannot be written.
  */
 #include <stdio.h>
 #include <string.h>
 
 #include "charuco.h"
 
-/* One byte more than a record may have, so that a longer file is refused. */
+/* One byte more than the longest record, so that a longer file is refused. */
 static uint8_t record[CHARUCO_MAX_RECORD_BYTES + 1];
 static uint64_t codes[CHARUCO_MAX_CODES];
 static uint32_t markers[CHARUCO_MAX_CELLS * CHARUCO_MARKER_WORDS];
@@ -23,7 +23,7 @@ static uint32_t violations[4 * CHARUCO_MAX_CELLS * CHARUCO_VIOLATIONS_PER_LINK *
 
 #define LENGTH(list) (sizeof(list) / sizeof((list)[0]))
 
-/* From the top left one on, as the four corners of a cell are ordered. */
+/* Offsets of a cell's four corners: top left, top right, bottom right, bottom left. */
 static const int32_t right[4] = {0, 1, 1, 0};
 static const int32_t down[4] = {0, 0, 1, 1};
 
@@ -51,7 +51,7 @@ static void print_refusal(uint32_t number, const uint32_t *values)
     printf("\n");
 }
 
-/* How many bytes of the file there are; more than a record may have are not all read. */
+/* Reads the file into `record` and sets the length; stops one byte past the longest record. */
 static int read_file(const char *name, size_t *length)
 {
     FILE *file = fopen(name, "rb");
@@ -63,7 +63,7 @@ static int read_file(const char *name, size_t *length)
     return !failed;
 }
 
-/* The codes of a record that was read, and the corners of its cells. */
+/* Fills `codes`, `scores` and `grid` from the codes and cells of the record. */
 static void read_lists(size_t length, uint32_t n_codes, uint32_t n_cells)
 {
     uint32_t words[CHARUCO_CELL_WORDS];
@@ -89,7 +89,7 @@ static int same_point(uint32_t a, uint32_t b)
                   CHARUCO_GRID_POINT_WORDS * sizeof grid[0]) == 0;
 }
 
-/* A link for each marker and each corner of its cell that was mapped: how many words these are. */
+/* Writes a link for each marker and each mapped corner of its cell; returns the number of words. */
 static size_t make_links(uint32_t n_markers, uint32_t n_corners)
 {
     size_t n = 0;
@@ -121,7 +121,7 @@ static void print_match(const uint32_t *match)
     }
 }
 
-/* The corners under a match, and the links of its markers. */
+/* Prints the corners for a match, and checks the links of its markers. */
 static void corners_and_links(const uint32_t *header, const uint32_t *match)
 {
     uint32_t values[CHARUCO_REFUSAL_WORDS];
@@ -165,7 +165,7 @@ static void place(size_t length)
         return;
     }
     print_match(match);
-    /* The record was placed, so it is whole and has at most CHARUCO_MAX_CODES codes and CHARUCO_MAX_CELLS cells. */
+    /* The record was placed, so it is well-formed and has at most CHARUCO_MAX_CODES codes and CHARUCO_MAX_CELLS cells. */
     charuco_read_header(record, length, header, LENGTH(header));
     read_lists(length, header[CHARUCO_HEADER_CODES], header[CHARUCO_HEADER_CELLS]);
     corners_and_links(header, match);

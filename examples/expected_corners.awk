@@ -1,9 +1,9 @@
-# The lines that `minimal` is to print for a shot record that is placed, by a rule of their own: from the board and its cells, as the record's readers tell
-# them, and from the line `best` that the second model prints for it (samples/*.txt).
+# Prints the lines expected of `minimal` for a placed shot record, by an independent rule: from the board and its cells, as the functions that
+# read the record return them, and from the line `best` that the second model prints (samples/*.txt).
 #
 #     from_header --fields FILE | awk -v turn=TURN -v tx=TX -v ty=TY -f expected_corners.awk | sort -k2n
 #
-# A cell's centre lies on the centre of its square, and its corners lie around it as the turn says. Points are counted in halves of a cell.
+# A cell's centre is the centre of its square; its corners are offsets from it, rotated by the turn. Coordinates are in half cells.
 
 function turn_x(x, y) { return turn == 0 ? x : turn == 1 ? y : turn == 2 ? -x : -y }
 function turn_y(x, y) { return turn == 0 ? y : turn == 1 ? -x : turn == 2 ? -y : x }

@@ -1,17 +1,18 @@
 /*
- * A shot record on standard input, its numbered corners on standard output: for each inner corner of the board that a cell of the record
- * has, its id, its grid point and its point on the printed board. Exit status: 0 placed, 1 refused, 2 not read, 3 not written.
+ * Reads a shot record from standard input and prints its numbered corners: for each inner corner of the board that belongs to a cell of the
+ * record, its id, its grid point and its point on the printed board. A program that relies on them first checks the match by the rule of
+ * docs/SHEETS.md, "When to accept a placement". Exit status: 0 placed, 1 refused, 2 not read, 3 not written.
  */
 #include <stdio.h>
 #include <string.h>
 
 #include "charuco.h"
 
-static uint8_t record[CHARUCO_MAX_RECORD_BYTES + 1]; /* one byte more, so that a longer input is refused */
+static uint8_t record[CHARUCO_MAX_RECORD_BYTES + 1]; /* one more byte, so that a longer input is refused */
 static uint32_t header[CHARUCO_HEADER_WORDS], match[CHARUCO_MATCH_WORDS], values[CHARUCO_CELL_WORDS];
 static uint32_t markers[CHARUCO_MAX_CELLS * CHARUCO_MARKER_WORDS], corners[CHARUCO_MAX_BOARD_CORNERS * CHARUCO_CORNER_WORDS];
 static uint64_t codes[CHARUCO_MAX_CODES];
-static float scores[4 * CHARUCO_MAX_CELLS]; /* all 0: one corner is as good as another */
+static float scores[4 * CHARUCO_MAX_CELLS]; /* all 0: no corner is preferred */
 static int32_t grid[4 * CHARUCO_MAX_CELLS * CHARUCO_GRID_POINT_WORDS];
 
 static int told(const char *what, unsigned number, int status)

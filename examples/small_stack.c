@@ -1,10 +1,10 @@
 /*
- * Every function on a thread with a stack of 64 KiB and a page below it that nothing may touch: do the answers equal those on the main
- * thread, and how much stack does each function take? The record is as large as a match takes it: 256 cells of 8 by 8 bits on a board of
- * 32 by 32, with a table of its own.
+ * Runs every function on a thread with a 64 KiB stack above a guard page, compares the results with those on the main thread, and measures
+ * the stack that each function takes. The record is as large as a match allows: 256 cells of 8 by 8 bits on a board of 32 by 32, with its own
+ * likelihood table.
  *
- * The stack below the caller is filled before a call, and looked through after it for the lowest byte that has changed. The same call of a
- * function that only returns shows where the return address lies; from there on the bytes are counted, the return address with them.
+ * The stack below the caller is filled with a pattern before a call; afterwards the lowest changed byte is searched. The same call of a
+ * function that only returns shows the position of the return address; bytes are counted from there, including the return address.
  */
 #define _GNU_SOURCE
 #include <pthread.h>
@@ -34,7 +34,7 @@ static int32_t grid[CHARUCO_MAX_CORNERS * CHARUCO_GRID_POINT_WORDS];
 static size_t inliers[CHARUCO_MAX_CORNERS];
 static uint32_t links[CHARUCO_MAX_LINKS * CHARUCO_LINK_WORDS];
 
-/* Everything that the entries answer and write. */
+/* Everything that the entry points return and write. */
 struct answers {
     uint32_t numbers[9];
     uint32_t header[CHARUCO_HEADER_WORDS];
@@ -84,7 +84,7 @@ static uint64_t next_code(void)
     return x;
 }
 
-/* The grey of a marker's cell: black is 0. A bit that is set is black, and so is the border. */
+/* The grey level at a field of a marker's cell: black is 0. A set bit is black, and so is the border. */
 static unsigned grey(uint64_t code, int column, int row)
 {
     int x = column - BORDER, y = row - BORDER;
@@ -93,7 +93,7 @@ static unsigned grey(uint64_t code, int column, int row)
     return code >> (y * BITS + x) & 1 ? 0 : 255;
 }
 
-/* Cell (x, y) lies on square (x + 1, y), and shows that square's marker, or for a plain square the code 0. */
+/* Cell (x, y) is on square (x + 1, y) and shows that square's marker, or code 0 for a square without one. */
 static void put_cell(int x, int y)
 {
     int i = x + 1, j = y;
@@ -130,7 +130,7 @@ static void make_record(void)
         put_cell(k % CELLS_ACROSS, k / CELLS_ACROSS);
 }
 
-/* Corners of a grid of 32 by 32, of which 17 by 15 are inliers, and links of every marker with corners of which most are wrong. */
+/* Corners of a 32 by 32 grid, 17 by 15 of them inliers, and links of every marker with corners, most of them wrong. */
 static void make_lists(void)
 {
     for (int k = 0; k < CHARUCO_MAX_CORNERS; k++) {
@@ -146,7 +146,7 @@ static void make_lists(void)
     }
 }
 
-/* A function that only returns, and for each function of the library a name for it that has the same type. */
+/* A function that only returns, with an alias of the same type for each function of the library. */
 __asm__(".pushsection .text\nidle:\n\txorl %eax, %eax\n\tret\n.popsection\n");
 #define IDLE(name) extern __typeof__(charuco_##name) idle_##name __asm__("idle")
 IDLE(read_header);
@@ -159,7 +159,7 @@ IDLE(match_board);
 IDLE(map_charuco_corners);
 IDLE(validate_marker_corner_links);
 
-/* One call with the last place that each list has; of the idle function, or of the library's. */
+/* One call of the idle function or of the library's, with the largest valid index and the full length of each array. */
 #define ASK(k, name, ...)                                                                     \
     static __attribute__((noinline)) void ask_##name(struct answers *a, int idle)             \
     {                                                                                         \
@@ -205,7 +205,7 @@ static void check(int holds, const char *what)
 
 static uint8_t *stack;
 
-/* 64 KiB of memory, and below them a page without access. */
+/* 64 KiB of memory above a page without access. */
 static void make_stack(void)
 {
     size_t page = (size_t)sysconf(_SC_PAGESIZE);
@@ -226,7 +226,7 @@ static void run(void *(*start)(void *), void *argument)
     pthread_attr_destroy(&attributes);
 }
 
-/* Where the lowest byte lies that a call changes, counted from the stack's lowest one. Nothing is called between filling and looking. */
+/* Offset of the lowest byte that a call changes, from the bottom of the stack. Nothing else is called between filling and searching. */
 static __attribute__((noinline)) size_t lowest(size_t k, struct answers *a, int idle)
 {
     volatile uint8_t *bytes = stack, *here;
@@ -257,7 +257,7 @@ static void *touch_below(void *argument)
     return argument;
 }
 
-/* A thread that goes below its stack ends its process: so the page holds. */
+/* A thread that writes below its stack is killed with its process, so the guard page works. */
 static int guard_holds(void)
 {
     int status;
@@ -285,14 +285,14 @@ int main(void)
     check(on_main.match[CHARUCO_BEST_TX] == 1 && on_main.match[CHARUCO_BEST_TY] == 0 && on_main.match[CHARUCO_BEST_TURN] == 0,
           "the board is placed elsewhere");
     check(on_main.match[CHARUCO_MATCH_MARKERS] == CHARUCO_MAX_CELLS / 2, "not every marker was found");
-    check(on_main.match[CHARUCO_BEST_CONTRIBUTING_CELLS] == CHARUCO_MAX_CELLS / 2, "not every cell on a marker's square is counted, or another one");
-    check(memcmp(&on_main, &on_small, sizeof on_main) == 0, "the answers differ");
-    printf("small_stack: the same answers on a stack of %d bytes; record of %lu bytes; stack taken, and at most, by the header:\n", STACK_BYTES,
+    check(on_main.match[CHARUCO_BEST_CONTRIBUTING_CELLS] == CHARUCO_MAX_CELLS / 2, "the cells on markers' squares are not counted exactly");
+    check(memcmp(&on_main, &on_small, sizeof on_main) == 0, "the results differ");
+    printf("small_stack: the same results on a stack of %d bytes; record of %lu bytes; stack taken, and the header's limit:\n", STACK_BYTES,
            (unsigned long)record_length);
     for (size_t k = 0; k < LENGTH(functions); k++) {
         printf("%8lu %8lu  %s\n", (unsigned long)taken[k], (unsigned long)functions[k].promised, functions[k].name);
-        check(taken[k] <= functions[k].promised, "more stack is taken than the header says");
-        check(functions[k].promised <= taken[k] + 64, "far less stack is taken than the header says");
+        check(taken[k] <= functions[k].promised, "more stack is taken than the header states");
+        check(functions[k].promised <= taken[k] + 64, "far less stack is taken than the header states");
     }
     return 0;
 }

@@ -1,6 +1,6 @@
-"""The boards of the sample sheets as OpenCV draws them, and what surrounds them in a picture.
+"""The boards of the sample sheets as OpenCV draws them, and their surroundings in an image.
 
-Boards, markers and codes are OpenCV's. A drawing that does not have the layout of documents 01 and 02 stops the script.
+Boards, markers and codes are OpenCV's. The script stops if a drawing differs from the layout of documents 01 and 02.
 """
 
 import sys
@@ -14,7 +14,7 @@ except ImportError as error:
 if not hasattr(getattr(cv2, "aruco", None), "CharucoBoard_create"):
     sys.exit(f"OpenCV {cv2.__version__} has no aruco.CharucoBoard_create (Debian's 4.6.0 has)")
 
-SQUARE_PX = 96      # of a square in the drawing: 12 pixels a module of a 4 x 4 marker, 9 of a 6 x 6 one
+SQUARE_PX = 96      # width of a square in the drawing: 12 pixels per module of a 4 x 4 marker, 9 of a 6 x 6 one
 MARKER_REL = 0.75
 BORDER = 1
 INK, PAPER, ROOM = 28.0, 205.0, 110.0
@@ -31,7 +31,7 @@ class Board:
         self.codes = [self.code(id) for id in range(codes)]
 
     def marker(self, id):
-        """The marker as OpenCV draws it, one pixel a module: 0 is black."""
+        """The marker as OpenCV draws it, one pixel per module; 0 is black."""
         return cv2.aruco.drawMarker(self.dictionary, id, self.side, borderBits=BORDER)
 
     def code(self, id):
@@ -39,10 +39,10 @@ class Board:
         return sum(1 << k for k, grey in enumerate(inner.flatten()) if grey == 0)
 
     def drawn(self):
-        """OpenCV's picture of the board.
+        """OpenCV's image of the board.
 
-        OpenCV 4.6.0 begins every board with a black square. A board that begins with a white one is its board of one row
-        more without the top row, whose markers get the last ids, so that the others count from 0.
+        OpenCV 4.6.0 begins every board with a black square. A board that begins with a white one is drawn with one row more,
+        and the top row is cut off; the markers in it get the last ids, so that the others count from 0.
         """
         cut = 1 - self.parity
         board = cv2.aruco.CharucoBoard_create(self.cols, self.rows + cut, 1.0, MARKER_REL, self.dictionary)
@@ -52,7 +52,7 @@ class Board:
         return picture[cut * SQUARE_PX:]
 
     def drawing(self):
-        """The picture, held against the layout of documents 01 and 02 module by module."""
+        """The image, compared module by module with the layout of documents 01 and 02."""
         picture = self.drawn()
         rim = round(SQUARE_PX * (1 - MARKER_REL) / 2)
         module = (SQUARE_PX - 2 * rim) // self.side
@@ -77,7 +77,7 @@ OLD = Board(7, 6, cv2.aruco.DICT_4X4_50, 50, legacy=True)
 
 
 def printed(board):
-    """The board on its sheet of paper, with one square of room around."""
+    """The board on its paper, surrounded by half a square of paper and half a square of room."""
     greys = np.where(board.drawing() == 0, INK, PAPER)
     sheet = cv2.copyMakeBorder(greys, *[SQUARE_PX // 2] * 4, cv2.BORDER_CONSTANT, value=PAPER)
     return cv2.copyMakeBorder(sheet, *[SQUARE_PX // 2] * 4, cv2.BORDER_CONSTANT, value=ROOM)

@@ -1,13 +1,13 @@
 """What `place` should print for a shot record: a plain model of Match, written from documents 01 and 02.
 
-usage: python3 check_samples.py              hold every sheet's model against its stored text and truth.tsv
-       python3 check_samples.py --write      store the texts
+usage: python3 check_samples.py              compare the model's text for every sheet with its stored text and truth.tsv
+       python3 check_samples.py --write      store the texts, then compare
        python3 check_samples.py FILE...      print the model's text for each record
 
-It uses nothing of the library but the likelihood table's bits, which it reads from the definition `patterns` in
+Of the library it uses only the likelihood table's bit patterns, which it reads from the definition `patterns` in
 crates/score_matrix/specs/Table.antt. All arithmetic is in numpy's float32, one operation at a time.
 
-Exit status 0: all agrees. 1: something differs. 2: a file is missing.
+Exit status 0: everything agrees. 1: something differs. 2: a file is missing.
 """
 
 import re
@@ -30,7 +30,7 @@ def hex_bits(x):
 
 
 def built_in_table():
-    """`patterns`: lists of bits and runs `replicate COUNT BITS`, joined in the order in which they stand."""
+    """`patterns`: lists of bit patterns and runs `replicate COUNT BITS`, concatenated in the order of the text."""
     text = TABLE.read_text(encoding="utf-8").split("patterns =", 1)[1].split("\n\n", 1)[0]
     bits = []
     for count, run, one in re.findall(r"replicate (\d+) 0x([0-9A-F]{8})|0x([0-9A-F]{8})", text):
@@ -52,7 +52,7 @@ def ask(number, yes, values=""):
 # ---------------------------------------------------------------- the record
 
 class Shot:
-    """A shot record, field after field; question 21."""
+    """A shot record, field by field; question 21."""
 
     def __init__(self, data):
         ask(21, len(data) <= 65535)
@@ -103,7 +103,7 @@ class Match:
         self.scores = {}
 
     def questions(self):
-        """1 to 13, 22 and 23. The program's list has a place for each of 256 cells, so 14 is always yes."""
+        """1 to 13, 22 and 23. The program's output array has room for 256 cells, so check 14 always passes."""
         s = self.shot
         ask(1, s.rows >= 2 and s.cols >= 2)
         ask(2, np.isfinite(s.cell_size) and s.cell_size > 0)
@@ -141,7 +141,7 @@ class Match:
         return out
 
     def inner(self, grid):
-        """The greys at the code's bits, in their order."""
+        """The grey levels at the code's bits, in the order of the bits."""
         n, border = self.shot.bits, self.shot.border
         return [grid[(border + k // n) * self.shot.side + border + k % n] for k in range(n * n)]
 
@@ -161,7 +161,7 @@ class Match:
         return self.ids.get((u + tx, v + ty))
 
     def placement(self, turn, tx, ty):
-        """Evidence, None where no cell contributes, capacity, and how many cells contribute."""
+        """Evidence (None if no cell contributes), capacity, and number of contributing cells."""
         evidence, capacity, contributing_cells = f32(0), f32(0), 0
         for cell, weight in enumerate(self.weights):
             id = self.expected(cell, turn, tx, ty)
@@ -182,7 +182,7 @@ class Match:
     def search(self):
         all_placements = list(self.placements())
         ask(15, all_placements)
-        # `max` takes the first of equal ones
+        # `max` returns the first of equal elements
         key = lambda p: -np.inf if p[3] is None else p[3]
         best = max(all_placements, key=key)
         rest = [p for p in all_placements if p is not best]
@@ -265,12 +265,12 @@ def without_table(data):
 
 
 def without_mark(data):
-    """The record without the mark of a legacy board."""
+    """The record without the legacy flag."""
     return bytes([data[0] & ~16]) + data[1:]
 
 
 def without_repeats(shot):
-    """The shot with the first cell at each point alone."""
+    """The shot with only the first cell at each point."""
     first = {}
     for u, v, samples in shot.cells:
         first.setdefault((u, v), (u, v, samples))
@@ -279,18 +279,18 @@ def without_repeats(shot):
 
 
 def placement(text):
-    """Turn, tx and ty of the line `best`, or None for a refusal."""
+    """Turn, tx and ty of the line `best`, or None for a refused record."""
     return tuple(int(number) for number in text.splitlines()[1].split()[1:4]) if text.startswith("placed") else None
 
 
 def faults(name, truth, word):
-    """What does not hold of one sheet."""
+    """Yields a message for each check that fails for one sheet."""
     data = (HERE / f"{name}.shot").read_bytes()
     text = model(data)
     if text != (HERE / f"{name}.txt").read_text():
         yield "not the stored text"
     if word != "repeats" and not (HERE / f"{name}.png").exists():
-        yield "no picture"
+        yield "no image"
     placed = placement(text)
     if word == "wrong":
         if placed is None or placed == truth:
@@ -307,7 +307,7 @@ def faults(name, truth, word):
     if data[0] & 8 and model(without_table(data)) == text:
         yield "its own table changes nothing"
     if data[0] & 16 and placement(model(without_mark(data))) == truth:
-        yield "without its mark it is placed the same"
+        yield "without its legacy flag it is placed the same"
 
 
 def check():

@@ -3,8 +3,8 @@
 
     python3 samples/make_example.py SCOPE
 
-SCOPE is document 01. crates/place/stdin is the record that its sentence describes, crates/place/stdout the lines that it prints, with 1
-appended to `best` and `next`, as document 02 says.
+SCOPE is the file of document 01. It writes the record described there to crates/place/stdin, and the lines printed there to
+crates/place/stdout, with the count 1 of document 02, 2.5, appended to `best` and `next`.
 """
 import pathlib
 import re

@@ -1,12 +1,12 @@
-"""Draw ChArUco boards with OpenCV, lay them into pictures as a camera would see them and write what was sampled as shot records.
+"""Draw ChArUco boards with OpenCV, render images of them as a camera would take them, sample these and write shot records.
 
 usage: python3 make_samples.py [--full] [directory]
 
-The sheets go to the given directory, or to the one of this file, each with a small picture, and `truth.tsv`: the
-placement that each picture was taken with. One sheet is another one with a cell filed twice, without a picture of its
-own. With --full the pictures that were sampled go there too, as NAME-full.png. All noise comes from fixed seeds, so a
-second run writes the same bytes. Nothing here comes from the library: boards, markers and codes are OpenCV's, the
-record is written from documents 01 and 02.
+Writes the sheets to the given directory, or to that of this file, each with a small image, and `truth.tsv`: the true
+placement of each sheet. One sheet is another one with a cell recorded twice, without an image of its own. With --full it
+also writes the images that were sampled, as NAME-full.png. All noise comes from fixed seeds, so a second run writes the
+same bytes. Nothing here comes from the library: boards, markers and codes are OpenCV's, the record is written from
+documents 01 and 02.
 """
 
 import math
@@ -21,31 +21,31 @@ sys.dont_write_bytecode = True  # no __pycache__ beside the sources
 from boards import (BORDER, LANE, MARKER_REL, OLD, OTHER, ROOM, SQUARE_PX, WALL,
                     Board, cv2, np, printed, tiles)
 
-WIDTH, HEIGHT = 640, 480        # of the picture
-RIM_PX = 10                     # a cell with a corner nearer to the picture's rim is not sampled
+WIDTH, HEIGHT = 640, 480        # of the image
+RIM_PX = 10                     # a cell with a corner nearer to the image's edge is not sampled
 
-# Quarter turns, document 01: where (u, v) goes
+# Rotations by 90 degrees x turn, as in document 01: matrices that are applied to (u, v)
 TURNS = [((1, 0), (0, 1)), ((0, 1), (-1, 0)), ((-1, 0), (0, -1)), ((0, -1), (1, 0))]
 
 
-# ---------------------------------------------------------------- a picture
+# ---------------------------------------------------------------- an image
 
 class View(NamedTuple):
-    """Where the board is seen."""
-    turn: int       # the quarter turn that takes the picture's grid to the board's
-    quad: list      # the grid's corners top left, top right, bottom right, bottom left in the picture, in pixels
-    origin: tuple   # what the corner finder calls the grid's top left corner
+    """Position of the board in the image."""
+    turn: int       # rotation from the image's grid to the board's, 0 to 3
+    quad: list      # the grid's corners top left, top right, bottom right, bottom left in the image, in pixels
+    origin: tuple   # the corner finder's coordinates of the grid's top left corner
 
 
 class Light(NamedTuple):
-    """How well it is seen."""
-    glare: tuple = None     # place and radius of a bright spot, in pixels
-    haze: float = None      # what a haze leaves of the contrast
-    blur: float = 1.1       # in pixels
+    """Image quality."""
+    glare: tuple = None     # position and radius of a bright spot, in pixels
+    haze: float = None      # contrast left by haze
+    blur: float = 1.1       # standard deviation in pixels
 
 
 class Asked(NamedTuple):
-    """What the record asks for; None is left out of it."""
+    """Board and settings of the record; None is left out of it."""
     board: Board
     minimum: float = None
     border_threshold: float = None
@@ -54,7 +54,7 @@ class Asked(NamedTuple):
 
 
 class Shot:
-    """A board seen by a camera."""
+    """A rendered image of a board."""
 
     def __init__(self, name, seed, board, view, light=Light(), asked=None, drawn=printed):
         self.name, self.board, self.turn, self.origin = name, board, view.turn, view.origin
@@ -63,7 +63,7 @@ class Shot:
         self.is_board = drawn is printed and self.asked.board is board
         size = (board.cols, board.rows) if self.turn % 2 == 0 else (board.rows, board.cols)
         self.width, self.height = size
-        # picture's grid corner -> board corner: the turn, moved so that all is on the board
+        # grid corner of the image -> board corner: rotated, then moved so that all corners are on the board
         matrix = np.array(TURNS[self.turn])
         rectangle = np.array([(0, 0), (self.width, 0), (self.width, self.height), (0, self.height)])
         self.to_board = lambda point: matrix @ np.array(point) - (rectangle @ matrix.T).min(axis=0)
@@ -73,7 +73,7 @@ class Shot:
     def taken(self, scene, rectangle, quad, light):
         on_scene = [(self.to_board(corner) + 1) * SQUARE_PX for corner in rectangle]
         lens = cv2.getPerspectiveTransform(np.array(on_scene, np.float32), np.array(quad, np.float32))
-        # drawn four times as large and averaged, so that edges fall between pixels
+        # rendered four times as large and averaged, so that edges are antialiased
         fine = np.diag([4.0, 4.0, 1.0]) @ lens
         large = cv2.warpPerspective(scene, fine, (4 * WIDTH, 4 * HEIGHT), flags=cv2.INTER_LINEAR, borderValue=ROOM)
         picture = large.reshape(HEIGHT, 4, WIDTH, 4).mean(axis=(1, 3))
@@ -89,7 +89,7 @@ class Shot:
         return np.clip(np.rint(picture), 0, 255).astype(np.uint8)
 
     def corners(self):
-        """Grid corner -> its place in the picture, as a corner finder has it: inner corners in view, a little off."""
+        """Grid corner -> its position in the image as a corner finder returns it: inner corners in view, with a small error."""
         found = {}
         for b in range(self.height + 1):
             for a in range(self.width + 1):
@@ -102,7 +102,7 @@ class Shot:
         return found
 
     def cells(self):
-        """The whole cells row by row: point, board square, samples or None."""
+        """The complete cells in row-major order: grid point, board square, samples or None."""
         found = self.corners()
         cells = []
         for b in range(self.height):
@@ -115,7 +115,7 @@ class Shot:
         return cells
 
     def sample(self, four):
-        """Fraction, threshold and grid of the marker in the middle of a cell; None where it cannot be read."""
+        """Fraction, threshold and grid of the marker in the middle of a cell; None if it cannot be sampled."""
         near = np.concatenate([four.min(axis=0), (WIDTH - 1, HEIGHT - 1) - four.max(axis=0)])
         if near.min() < RIM_PX:
             return None
@@ -146,13 +146,13 @@ class Shot:
 
 
 def otsu(greys):
-    """The threshold t with the greatest variance between greys below t and the others; of equal ones the middle."""
+    """Otsu's threshold t: the greatest variance between greys below t and the others; of several the middle one."""
     greys = [int(grey) for grey in greys]
     best, chosen = 0, [min(greys)]
     for t in range(min(greys) + 1, max(greys) + 1):
         dark = [grey for grey in greys if grey < t]
         n0, n1 = len(dark), len(greys) - len(dark)
-        # between-class variance, exact, times the square of their count
+        # exact between-class variance, times the square of the number of greys
         variance = Fraction((sum(dark) * len(greys) - sum(greys) * n0) ** 2, n0 * n1)
         if variance > best:
             best, chosen = variance, [t]
@@ -175,7 +175,7 @@ def likelihood_table(slope, floor):
 
 
 def record(asked, cells):
-    """The shot record of document 01, with document 02's mark of a legacy board."""
+    """The shot record of document 01, with the legacy flag of document 02."""
     board, *settings, table = asked
     given = [*(value is not None for value in (*settings, table)), board.legacy]
     out = bytes([sum(1 << k for k in range(5) if given[k])])
@@ -196,7 +196,7 @@ def record(asked, cells):
 
 
 def truth(shot, cells):
-    """Turn and translation that take every cell to the square that it was drawn on."""
+    """Turn and translation that map every cell to the square on which it was drawn."""
     shifts = set()
     for point, square, _ in cells:
         u, v = np.array(TURNS[shot.turn]) @ point
@@ -205,10 +205,10 @@ def truth(shot, cells):
     return shot.turn, *shifts.pop()
 
 
-# A sheet with one cell of another one filed a second time, as its last: its name, the other sheet, and the cell, counted from 0.
+# A sheet that repeats a cell of another one as its last cell: its name, the other sheet, and the index of the cell.
 REPEATED, SOURCE, CELL = "repeated", "narrow", 7
 
-# The study's sheets are not made here. Their truth is the board's place in the study's pictures.
+# The study's sheets are not made here. Their truth was found from the study's images (README.md).
 STUDY = ["glare-two-squares\t0\t-33\t21\twrong\n",
          "splash-one-cell\t2\t-12\t44\twrong\n"]
 
@@ -232,13 +232,13 @@ SHOTS = [
 
 
 def small(picture):
-    """Half as wide and high, in steps of 8 greys, which keeps the file small."""
+    """Half as wide and high, in steps of 8 grey levels, to keep the file small."""
     mean = picture.reshape(HEIGHT // 2, 2, WIDTH // 2, 2).mean(axis=(1, 3))
     return np.clip(np.rint(mean / 8) * 8, 0, 255).astype(np.uint8)
 
 
 def write_sheet(directory, name, shot, cells, word=""):
-    """Writes the record, and gives its row of truth.tsv."""
+    """Writes the record and returns its row of truth.tsv."""
     data = record(shot.asked, cells)
     assert len(data) <= 65535
     (directory / f"{name}.shot").write_bytes(data)

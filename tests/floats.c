@@ -1,13 +1,13 @@
 /*
- * The caller's floats: records answered under other settings of MXCSR, with charuco_floats_enter and charuco_floats_leave and without them.
- * With them every answer must be that of the default setting, bit for bit. Without them at least one must differ under each setting, so that
- * the comparison can fail; with exceptions unmasked the process must end by a signal.
+ * The caller's floating-point settings: results for records under other settings of MXCSR, with charuco_floats_enter and charuco_floats_leave and
+ * without them. With them every result must be that of the default setting, bit for bit. Without them at least one must differ under each setting,
+ * so that the comparison can fail; with exceptions unmasked a signal must end the process.
  *
  *     floats [--other] FILE...
  *
- * The records are those of the files and thousands that are made here, by whole numbers alone, so that no setting changes them. The setting
- * that the program started with is one of those tried; with --other it must not be the default, as in a program linked with -ffast-math.
- * The last line has a digest of the answers under the default setting: it is the same in every build.
+ * The records are those of the files and thousands that are made here with integers only, so that no setting changes them. The setting at the
+ * start of the program is one of those tried; with --other it must not be the default, as in a program linked with -ffast-math. The last line
+ * has a digest of the results under the default setting: it is the same in every build.
  */
 #define _POSIX_C_SOURCE 200809L
 #include <signal.h>
@@ -68,7 +68,7 @@ static void put(uint64_t x, int bytes)
         record[record_length++] = (uint8_t)(x >> (8 * k));
 }
 
-/* Bits of a float above 0 and at most 1: a subnormal one, one of any exponent, 1, or mostly one from 2^-12 on. */
+/* Bit pattern of a float above 0 and at most 1: subnormal, of any exponent, 1, or in most cases at least 2^-12. */
 static uint32_t fraction_bits(void)
 {
     switch (below(8)) {
@@ -83,7 +83,7 @@ static uint32_t fraction_bits(void)
     }
 }
 
-/* A table entry, from -8 to 0: one of four is 0 or subnormal. */
+/* A table entry from -8 to 0: one in four is 0 or subnormal. */
 static uint32_t entry_bits(void)
 {
     if (below(4) == 0)
@@ -125,7 +125,7 @@ static uint64_t turned(uint64_t code, uint32_t n)
     return out;
 }
 
-/* A code of side n that is alike to none of the codes before it. */
+/* A code of side n that is not equal up to rotation to a code before it. */
 static uint64_t new_code(const uint64_t *codes, uint32_t count, uint32_t n)
 {
     uint64_t code = random64() >> (64 - n * n);
@@ -176,7 +176,7 @@ static void read_record(const char *name)
     fclose(file);
 }
 
-/* ---- answers */
+/* ---- results */
 
 struct answers {
     uint32_t numbers[9];
@@ -190,7 +190,7 @@ struct answers {
     uint32_t violations[8 * CHARUCO_VIOLATIONS_PER_LINK * CHARUCO_VIOLATION_WORDS];
 };
 
-/* What the lists of a record are: read once, under the default setting. */
+/* The arrays of a record, read once, under the default setting. */
 static uint32_t header[CHARUCO_HEADER_WORDS];
 static uint64_t codes[CHARUCO_MAX_CODES];
 static float sizes[2], scores[36];
@@ -218,7 +218,7 @@ static void read_lists(void)
     }
 }
 
-/* A call, between the two functions or plainly. */
+/* A call, between the two functions or without them. */
 static int guarded;
 #define ASK(k, call)                                            \
     do {                                                        \
@@ -253,7 +253,7 @@ static void ask(struct answers *a)
 static struct {
     const char *name;
     uint32_t bits;
-    unsigned long plain, plain_match; /* how many records differ without the two functions, and how many of them in Match */
+    unsigned long plain, plain_match; /* the number of records that differ without the two functions, and of those that differ in Match */
 } settings[] = {
     {"flush-to-zero", DEFAULT | 0x8000, 0, 0}, {"denormals-are-zero", DEFAULT | 0x0040, 0, 0}, {"both", DEFAULT | 0x8040, 0, 0},
     {"round down", DEFAULT | 0x2000, 0, 0},    {"round up", DEFAULT | 0x4000, 0, 0},           {"round toward zero", DEFAULT | 0x6000, 0, 0},
@@ -279,10 +279,10 @@ static void ask_under(uint32_t bits, int with)
     uint32_t left = mxcsr();
     set_mxcsr(DEFAULT);
     if (with && left != bits)
-        fail("MXCSR is not as it was", "charuco_floats_leave");
+        fail("MXCSR is not restored", "charuco_floats_leave");
 }
 
-/* The record under each setting. With exceptions unmasked it is asked between the two functions alone, as a signal would end the process. */
+/* The record under each setting. With exceptions unmasked it is tried only between the two functions, as a signal would end the process. */
 static void try_record(const char *name)
 {
     memset(&expected, 0, sizeof expected);
@@ -295,7 +295,7 @@ static void try_record(const char *name)
     for (size_t k = 0; k < LENGTH(settings); k++) {
         ask_under(settings[k].bits, 1);
         if (differ(sizeof expected))
-            fail(name, "an answer between the two functions is not that of the default setting");
+            fail(name, "a result between the two functions is not that of the default setting");
         ask_under(settings[k].bits, 0);
         settings[k].plain += (unsigned long)differ(sizeof expected);
         settings[k].plain_match += expected.numbers[0] != answers.numbers[0] || memcmp(expected.match, answers.match, sizeof answers.match) != 0
@@ -303,10 +303,10 @@ static void try_record(const char *name)
     }
     ask_under(DEFAULT & ~MASKS, 1);
     if (differ(sizeof expected))
-        fail(name, "an answer differs with exceptions unmasked");
+        fail(name, "a result differs with exceptions unmasked");
 }
 
-/* A process that unmasks exceptions and asks without the two functions ends by SIGFPE. */
+/* SIGFPE ends a process that unmasks exceptions and calls without the two functions. */
 static int signal_comes(void)
 {
     int status = 0;
@@ -345,7 +345,7 @@ int main(int argc, char **argv)
         printf("floats: %-18s %04lX: %lu of %d records differ without the two functions (%lu in Match), 0 with them\n", settings[k].name,
                (unsigned long)settings[k].bits, settings[k].plain, MADE + argc - 1 - other, settings[k].plain_match);
         if (settings[k].plain_match == 0)
-            fail("no answer differs", settings[k].name);
+            fail("no result differs", settings[k].name);
     }
     printf("floats: %lu records placed, digest %016llX\n", placed, (unsigned long long)digest);
     return 0;

@@ -1,8 +1,8 @@
-# The lines that from_header is to print for a record, but for its corners: from the text that the second model has for it (samples/*.txt).
+# Prints the lines expected of from_header for a record, without its corners, from the output of the second model (samples/*.txt).
 #
 #     awk -f from_header.awk FILE.txt
 #
-# Floats, told there by their bits, are printed as C does it.
+# Floats, which are bit patterns there, are printed as C prints them.
 
 function hex(digits,   x, k) {
     for (k = 1; k <= length(digits); k++) x = 16 * x + index("0123456789ABCDEF", substr(digits, k, 1)) - 1

@@ -1,11 +1,11 @@
 /*
- * What charuco_match_board says of each shot record, and its numbered corners. It was written from include/charuco.h alone and not from the
- * library's sources: what the header says otherwise than the library does shows in the answers, which examples/run holds to the texts in samples/.
+ * Prints the result of charuco_match_board for each shot record, and its numbered corners. Written from include/charuco.h alone, not from the
+ * library's sources: where the header and the library disagree the output is wrong. examples/run compares it with the output in samples/.
  *
  *     from_header FILE...
  *     from_header --fields FILE...    rows, columns and cell size of the board, then u and v of each cell, for examples/expected_corners.awk
  *
- * Exit status: 0 every record was answered, 1 a file cannot be read or the answers cannot be written, 2 no file is named.
+ * Exit status: 0 every record was processed, 1 a file cannot be read or the output cannot be written, 2 no file is named.
  */
 #include <errno.h>
 #include <inttypes.h>
@@ -55,7 +55,7 @@ static void print_strength(uint32_t is_number, uint32_t evidence, uint32_t contr
     printf(" contributing cells %" PRIu32 "\n", contributing_cells);
 }
 
-/* 0, or -1 and a message on stderr. */
+/* Returns 0, or -1 after a message on stderr. */
 static int read_file(const char *name, size_t *len)
 {
     FILE *file;
@@ -78,7 +78,7 @@ static int read_file(const char *name, size_t *len)
     return failed ? -1 : 0;
 }
 
-/* Adds grid point (u, v) unless it is there; 0, or -1 if there is no room. */
+/* Adds grid point (u, v) unless it is present; returns 0, or -1 if the array is full. */
 static int add_corner(size_t *count, int32_t u, int32_t v)
 {
     size_t k;
@@ -95,7 +95,7 @@ static int add_corner(size_t *count, int32_t u, int32_t v)
     return 0;
 }
 
-/* 1 if the record has a header, which is then in head; else the refusal is printed. */
+/* Returns 1 and writes the header to head, or prints the refusal and returns 0. */
 static int read_header(size_t len, uint32_t *head)
 {
     const uint32_t saved = charuco_floats_enter();
@@ -107,7 +107,7 @@ static int read_header(size_t len, uint32_t *head)
     return number == CHARUCO_OK;
 }
 
-/* 1 if the record has a cell k, which is then in cell; else a line says what was answered. */
+/* Returns 1 and writes cell k to cell, or prints the result and returns 0. */
 static int read_cell(size_t len, size_t k, uint32_t *cell)
 {
     const uint32_t saved = charuco_floats_enter();

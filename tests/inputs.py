@@ -1,7 +1,7 @@
-"""Standard inputs of tests/programs that a file and a redirection do not give.
+"""Standard inputs of tests/programs that redirection from a file cannot produce.
 
-    python3 tests/inputs.py parts FILE AT... | COMMAND    FILE, cut at these bytes: a part is written when COMMAND has read all of those before it
-    python3 tests/inputs.py fails FILE COMMAND...         runs COMMAND on an input from which FILE can be read, and then a read fails
+    python3 tests/inputs.py parts FILE AT... | COMMAND    writes FILE in parts, cut at these bytes, each when COMMAND has read those before it
+    python3 tests/inputs.py fails FILE COMMAND...         runs COMMAND on an input that yields FILE and then fails to read
 """
 
 import fcntl
@@ -16,7 +16,7 @@ from pathlib import Path
 
 
 def wait_until_read(pipe):
-    """Until the pipe is empty, or nobody reads it."""
+    """Waits until the pipe is empty or has no reader."""
     poll = select.poll()
     poll.register(pipe, 0)
     for _ in range(20000):
@@ -35,12 +35,12 @@ def write_parts(data, cuts):
             while part:
                 part = part[os.write(pipe, part):]
             wait_until_read(pipe)
-    except BrokenPipeError:  # COMMAND has ended: what it printed tells whether it was right to
+    except BrokenPipeError:  # COMMAND has ended: its output shows whether that was right
         pass
 
 
 def run_on_failing(data, command):
-    """A connection that is closed with a byte unread is reset: the other end reads what was sent to it, and then fails."""
+    """Closing a socket with an unread byte resets the connection: the other end reads what was sent, then a read fails."""
     ours, its = socket.socketpair()
     its.sendall(b"\0")
     ours.sendall(data)

@@ -1,4 +1,4 @@
-# Sourced by the tests. Runs in the repository's folder, with a folder $work of its own that goes away at the end.
+# Sourced by the tests. Changes to the repository's folder, and makes a temporary folder $work that is removed at the end.
 # shellcheck shell=bash
 set -euo pipefail
 export LC_ALL=C
@@ -15,23 +15,23 @@ fail() {
     exit 1
 }
 
-# expect LABEL STATUS OUT ERR COMMAND...: COMMAND ends with STATUS, prints what the file OUT has, and tells on standard error what matches the
-# pattern ERR (lines with no feed after the last; '' for nothing).
+# expect LABEL STATUS OUT ERR COMMAND...: COMMAND exits with STATUS and prints the contents of the file OUT; its standard error, without the last line
+# feed, matches the pattern ERR ('' for nothing).
 expect() {
     local label=$1 status=$2 out=$3 err=$4 got=0
     shift 4
     "$@" >"$work/out" 2>"$work/err" || got=$?
     told "$label" "$status" "$got" "$err"
-    cmp -- "$out" "$work/out" || fail "$label: standard output is not that of $out"
+    cmp -- "$out" "$work/out" || fail "$label: standard output differs from $out"
 }
 
 # The same for a command that redirected its own output.
 told() {
     local label=$1 status=$2 got=$3 err=$4 text
     text=$(cat -- "$work/err")
-    [ "$got" -eq "$status" ] || fail "$label: exit status $got in place of $status; on standard error: $text"
+    [ "$got" -eq "$status" ] || fail "$label: exit status $got, expected $status; on standard error: $text"
     # shellcheck disable=SC2053 # a pattern
-    [[ $text == $err ]] || fail "$label: on standard error: '$text' in place of '$err'"
+    [[ $text == $err ]] || fail "$label: on standard error: '$text', expected '$err'"
     cases=$((cases + 1))
 }
 

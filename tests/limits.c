@@ -1,7 +1,7 @@
 /*
- * What the header says of sizes, tried at both sides of each limit: the most codes and cells that a whole record holds, and the most corners
- * that a board has. What it says of lists of corners: which words question 18 looks at, and which corner an id gets. And what it says of the
- * mark of a legacy board, of codes that are alike and of two cells with the same (u, v).
+ * Tests what the header states. Sizes, on both sides of each limit: the most codes and cells of a well-formed record, and the most corners of a
+ * board. Arrays of corners: which words check 18 reads, and which corner is taken for an id. The legacy flag, codes that are equal up to rotation,
+ * and two cells with the same (u, v).
  */
 #include <stdio.h>
 #include <stdlib.h>
@@ -23,7 +23,7 @@ static void check(int holds, const char *what)
     }
 }
 
-/* Codes of side 8 that look random, so that no two of them are alike. */
+/* Pseudorandom codes of side 8; no two of them are equal up to rotation. */
 static void make_codes(void)
 {
     for (uint64_t k = 0; k < CHARUCO_MAX_CODES; k++)
@@ -36,7 +36,7 @@ static void put_u16(size_t at, size_t x)
     record[at + 1] = (uint8_t)(x >> 8);
 }
 
-/* A record of zeros but for its two counts: with no optional field, and with no sampled cell. */
+/* A record of zeros except for its two counts, without optional fields and sampled cells. */
 static uint32_t read_counts(size_t n_codes, size_t n_cells, uint32_t *words)
 {
     memset(record, 0, sizeof record);
@@ -45,7 +45,7 @@ static uint32_t read_counts(size_t n_codes, size_t n_cells, uint32_t *words)
     return charuco_read_header(record, 17 + 8 * n_codes + (n_cells + 7) / 8 + 4 * n_cells, words, CHARUCO_HEADER_WORDS);
 }
 
-/* All corners of a board of 32 by 32, and its rim, with room for so many words. */
+/* All corners of a board of 32 by 32, and those on its edge, with an output array of so many words. */
 static uint32_t map_corners(size_t words, uint32_t *count)
 {
     for (int32_t k = 0; k < CHARUCO_MAX_CORNERS; k++) {
@@ -57,7 +57,7 @@ static uint32_t map_corners(size_t words, uint32_t *count)
                                        CHARUCO_MAX_CORNERS * CHARUCO_GRID_POINT_WORDS, 0, 0, 0, corners, words, count, 1);
 }
 
-/* Corners on the diagonal of a board of 5 by 5, from (1, 1) on; one corner more, of this score and these words; and words past the last corner. */
+/* Corners on the diagonal of a board of 5 by 5, from (1, 1) on; one more corner, with this score and these words; and words past the last corner. */
 static uint32_t map_diagonal(float score, int32_t labelled, int32_t u, int32_t v, size_t words, uint32_t *count)
 {
     const int32_t last[2 * CHARUCO_GRID_POINT_WORDS] = {labelled, u, v, 1, 4097, 4097};
@@ -81,16 +81,16 @@ static void check_corner_lists(void)
     check(map_diagonal(0.0f, 1, 1, 2, all - 3, &count) == 0 && count == 4, "a corner without words has a grid point");
     check(map_diagonal(0.0f, 1, 1, 2, all + 3, &count) == 0 && count == 5, "words past the last corner are read");
     check(map_diagonal(0.0f, 1, 4097, 0, all, &count) == CHARUCO_CORNERS_OUT_OF_RANGE, "a grid point out of range passes");
-    check(map_diagonal(0.0f, 0, 4097, 0, all, &count) == 0 && count == 4, "u is judged without a grid point");
-    check(map_diagonal(infinite, 0, 0, 0, all, &count) == CHARUCO_CORNERS_OUT_OF_RANGE, "a score is not judged without a grid point");
+    check(map_diagonal(0.0f, 0, 4097, 0, all, &count) == 0 && count == 4, "u is checked without a grid point");
+    check(map_diagonal(infinite, 0, 0, 0, all, &count) == CHARUCO_CORNERS_OUT_OF_RANGE, "a score is not checked without a grid point");
     check(map_diagonal(0.0f, 1, 2, 2, all, &count) == 0 && count == 4 && corners[CHARUCO_CORNER_WORDS + CHARUCO_CORNER_INDEX] == 1,
-          "of two corners with one score the later one is taken");
+          "of two corners with the same score the later one is taken");
     check(map_diagonal(1.0f, 1, 2, 2, all, &count) == 0 && count == 4 && corners[CHARUCO_CORNER_WORDS + CHARUCO_CORNER_INDEX] == 4,
-          "the corner with the lesser score is taken");
+          "the corner with the lower score is taken");
 }
 
-/* How many violations the link of marker 3 and corner 0 has on a board of 4 rows and 5 columns: without the mark the marker is on square (2, 1), with
- * it on (1, 1), whose top left corner is corner 0. */
+/* The number of violations of the link of marker 3 and corner 0 on a board of 4 rows and 5 columns: without the legacy flag the marker is on square
+ * (2, 1), with it on (1, 1), whose top left corner is corner 0. */
 static uint32_t violations_with(uint32_t legacy_pattern)
 {
     static const uint32_t link[CHARUCO_LINK_WORDS] = {3, 0};
@@ -101,7 +101,7 @@ static uint32_t violations_with(uint32_t legacy_pattern)
     return count;
 }
 
-/* Markers 0 and 1 of a board of 2 by 2 with these codes, and one code more. */
+/* A board of 2 by 2 with these codes for markers 0 and 1, and one more code. */
 static uint32_t board_with(uint64_t first, uint64_t second, uint64_t past)
 {
     const uint64_t of_board[3] = {first, second, past};
@@ -114,19 +114,19 @@ static void check_codes_alike(void)
 {
     const uint64_t corner[4] = {1, 1ull << 7, 1ull << 63, 1ull << 56};
     for (int turn = 0; turn < 4; turn++)
-        check(board_with(1, corner[turn], 0) == CHARUCO_CODES_ALIKE, "a turned code passes");
-    check(board_with(1, 2, 1) == CHARUCO_OK && board_with(1, 2, 2) == CHARUCO_OK, "a code past those of the markers is judged");
-    check(board_with(0, UINT64_MAX, 0) == CHARUCO_OK, "a code that looks the same when turned is refused");
+        check(board_with(1, corner[turn], 0) == CHARUCO_CODES_ALIKE, "a rotated code passes");
+    check(board_with(1, 2, 1) == CHARUCO_OK && board_with(1, 2, 2) == CHARUCO_OK, "a code past those of the markers is checked");
+    check(board_with(0, UINT64_MAX, 0) == CHARUCO_OK, "a code that is equal to its own rotation is refused");
 }
 
 static void check_mark(void)
 {
-    check(violations_with(0) == 1, "a legacy pattern of 0 marks the board");
-    check(violations_with(1) == 0 && violations_with(256) == 0 && violations_with(UINT32_MAX) == 0, "a legacy pattern that is not 0 does not mark the board");
+    check(violations_with(0) == 1, "a legacy flag of 0 makes a legacy board");
+    check(violations_with(1) == 0 && violations_with(256) == 0 && violations_with(UINT32_MAX) == 0, "a legacy flag that is not 0 makes no legacy board");
 }
 
-/* Document 01's record with the built-in table and its cell twice, at (u, v) and (x, y); the second is sampled or not. The fraction is 2, so that 13
- * refuses every record that 23 lets through. How many bytes it has. */
+/* Document 01's record with the built-in table and its cell twice, at (u, v) and (x, y); the second is sampled or not. The fraction is 2, so check 13
+ * fails for every record that passes check 23. Returns the number of bytes. */
 static size_t put_cells(int u, int v, int x, int y, int sampled)
 {
     static const uint8_t front[] = {0, 2, 2, 2, 1, 0, 0, 128, 63, 0, 0, 0, 63, 2, 0, 1, 0, 0, 0, 0, 0, 0, 0, 15, 0, 0, 0, 0, 0, 0, 0, 2, 0};
@@ -143,13 +143,13 @@ static size_t put_cells(int u, int v, int x, int y, int sampled)
     return second + 4 + (sampled ? sizeof sample : 0);
 }
 
-/* What a match says of these cells, with so many words lent. It refuses them, so the lists stay as they were. */
+/* The error number of a match of these cells, with an output array of so many words. An error changes no array. */
 static uint32_t match_cells(int u, int v, int x, int y, int sampled, size_t words)
 {
     uint32_t markers[2 * CHARUCO_MARKER_WORDS] = {0}, match[CHARUCO_MATCH_WORDS] = {0};
     static const uint32_t zeros[2 * CHARUCO_MARKER_WORDS];
     uint32_t number = charuco_match_board(record, put_cells(u, v, x, y, sampled), markers, words, match, CHARUCO_MATCH_WORDS);
-    check(memcmp(markers, zeros, sizeof markers) == 0 && memcmp(match, zeros, sizeof match) == 0, "a refusal writes to a list");
+    check(memcmp(markers, zeros, sizeof markers) == 0 && memcmp(match, zeros, sizeof match) == 0, "a refusal writes to an output array");
     return number;
 }
 
@@ -161,20 +161,20 @@ static void check_same_cells(void)
         const int u = k % 5 - 2, v = k / 5 % 5 - 2, x = k / 25 % 5 - 2, y = k / 125 - 2;
         const uint32_t number = u == x && v == y ? CHARUCO_REPEATED_POINT : CHARUCO_INVALID_SAMPLE;
         check(match_cells(u, v, x, y, 1, room) == number && match_cells(u, v, x, y, 0, room) == number,
-              number == CHARUCO_REPEATED_POINT ? "a point that is filed twice passes" : "two points are refused as one");
+              number == CHARUCO_REPEATED_POINT ? "a duplicate position passes" : "two different positions are refused");
     }
-    check(match_cells(4096, -4096, 4096, -4096, 1, room) == CHARUCO_REPEATED_POINT, "a point far out that is filed twice passes");
+    check(match_cells(4096, -4096, 4096, -4096, 1, room) == CHARUCO_REPEATED_POINT, "a duplicate position at the limit passes");
     check(match_cells(0, 4096, 1, -4096, 1, room) == CHARUCO_INVALID_SAMPLE && match_cells(4096, 0, -4096, 1, 1, room) == CHARUCO_INVALID_SAMPLE,
-          "the last point of a line is refused as the first of the next");
-    check(match_cells(4097, 0, 4097, 0, 1, room) == CHARUCO_CELLS_OUT_OF_RANGE, "23 is asked before 12");
-    check(match_cells(0, 0, 0, 0, 1, 0) == CHARUCO_REPEATED_POINT, "14 is asked before 23");
+          "the last position of a row is refused as the first of the next");
+    check(match_cells(4097, 0, 4097, 0, 1, room) == CHARUCO_CELLS_OUT_OF_RANGE, "check 23 is made before check 12");
+    check(match_cells(0, 0, 0, 0, 1, 0) == CHARUCO_REPEATED_POINT, "check 14 is made before check 23");
     const size_t length = put_cells(-1, 2, -1, 2, 1);
-    check(charuco_read_header(record, length, words, CHARUCO_HEADER_WORDS) == 0 && words[CHARUCO_HEADER_CELLS] == 2, "two cells at one point are not read");
+    check(charuco_read_header(record, length, words, CHARUCO_HEADER_WORDS) == 0 && words[CHARUCO_HEADER_CELLS] == 2, "two cells at the same position are not read");
     for (size_t k = 0; k < 2; k++) {
         check(charuco_cell(record, length, k, words, CHARUCO_CELL_WORDS) == 0 && words[CHARUCO_CELL_STATE] == CHARUCO_CELL_SAMPLED
-              && words[CHARUCO_CELL_U] == UINT32_MAX && words[CHARUCO_CELL_V] == 2, "a cell whose point is filed twice is not read");
+              && words[CHARUCO_CELL_U] == UINT32_MAX && words[CHARUCO_CELL_V] == 2, "a cell at a duplicate position is not read");
         check(charuco_grid(record, length, k, words, CHARUCO_GRID_WORDS) == 0 && words[0] == length - 16 - (1 - k) * 25 && words[1] == 16,
-              "the grid of a cell whose point is filed twice is not read");
+              "the grid of a cell at a duplicate position is not read");
     }
 }
 

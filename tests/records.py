@@ -1,14 +1,14 @@
 """Writes the shot records of tests/programs, from documents 01 and 02 alone: python3 tests/records.py DIRECTORY
 
 full.shot     256 cells, each with a marker that is read, on a board of 32 x 32 squares
-whole.shot    65,535 bytes, the longest record that question 21 lets through
-longer.shot   one byte more, which question 21 refuses
+whole.shot    65,535 bytes, the longest record that passes check 21
+longer.shot   one byte more: check 21 fails
 longest.shot  two bytes more
 seven.shot    samples/lane4.shot with a board of 32 x 32 squares, for which its dictionary is too small
 neighbours.shot   samples/lane4.shot with a minimum margin that is the next float above its margin
 high.shot     samples/glare.shot with a minimum margin of 100
-unsampled.shot    samples/lane4.shot with an unsampled cell more, at the point of its last cell
-none.shot     a board of 2 x 3 squares, in two turns alone; in one of them no cell contributes
+unsampled.shot    samples/lane4.shot with one more cell, unsampled, at the position of its last cell
+none.shot     a board of 2 x 3 squares that fits in two turns only; in one of them no cell contributes
 """
 
 import struct
@@ -19,7 +19,7 @@ SAMPLES = Path(__file__).resolve().parent.parent / "samples"
 
 
 class Numbers:
-    """Whole numbers that look random, the same in each run."""
+    """Pseudorandom integers, the same in each run."""
 
     def __init__(self, seed):
         self.state = seed
@@ -64,7 +64,7 @@ def record(settings, bits, border, codes, cells):
 
 
 def sheet(settings, bits, border, code_count, squares, turn, tx, ty, numbers):
-    """A board of 32 x 32 squares of which `squares` are seen, so that `turn`, tx, ty bring the cells back to them."""
+    """A board of 32 x 32 squares of which `squares` are seen; `turn`, tx, ty map the cells to them."""
     codes = []
     while len(codes) < code_count:
         code = numbers.below(2**31) << 33 ^ numbers.below(2**31) << 11 ^ numbers.below(2**31)

@@ -3,11 +3,10 @@
 usage: python3 compare_layout.py [stored answers]
 
 The stored answers (default: ../../crates/replay/stdin, seen from this file)
-hold, in the lines of kind 11 and for legacy boards of kind 111, how many markers
-a board has and two digests of its whole layout; the comment at the top of that
-file says what is digested. This script works the same digests out from what
-OpenCV says about the board, and a second time from what can be seen in the board
-picture that OpenCV draws. Every marker square, corner id and object point comes
+have, in the lines of kind 11 and for legacy boards of kind 111, the number of
+markers of a board and two digests of its whole layout; the comment at the top of
+that file defines them. This script computes the same digests from OpenCV's data
+of the board, and a second time from the picture that OpenCV draws of it. Every marker square, corner id and object point comes
 from OpenCV; the one layout rule that is written down here is which boards begin
 with a white square (`Line.begins_white`).
 
@@ -28,7 +27,7 @@ DEFAULT_PATH = Path(__file__).resolve().parent / "../../crates/replay/stdin"
 
 SIZES = {(rows, cols) for rows in range(2, 33) for cols in range(2, 33)}
 
-KINDS = {"11": "boards without the mark", "111": "legacy boards"}
+KINDS = {"11": "boards without the legacy flag", "111": "legacy boards"}
 LEGACY = "111"
 
 ANSWERS = ("marker count", "D1", "D2")
@@ -64,7 +63,7 @@ class Line:
 
     @property
     def begins_white(self):
-        """OpenCV's document of setLegacyPattern: "Legacy setting creates chessboard
+        """OpenCV's documentation of setLegacyPattern: "Legacy setting creates chessboard
         patterns starting with a white box in the upper left corner if there is an
         even row count of chessboard boxes, otherwise it starts with a black box." """
         return self.kind == LEGACY and self.rows % 2 == 0
@@ -223,7 +222,7 @@ class Comparison:
                   f"the top left square is white in {white}")
 
     def print_nearest(self):
-        """The four corners are read at square length 1; say where that choice matters.
+        """The four corners are read at square length 1; print where that choice matters.
 
         For very small squares OpenCV lists every marker as nearest, for very
         large ones a single marker: as if squared distances in f32 had come out

@@ -1,16 +1,16 @@
-"""Ask the program place about boards of OpenCV's dictionaries: no two of their markers look alike.
+"""Give the program place boards with OpenCV's dictionaries: no two of their codes are equal up to rotation.
 
 usage: python3 dictionaries.py
 
 Document 02, 2.2: a board is refused by 22 if two of its markers are equal after some
-number of quarter turns. For each predefined dictionary of 4 x 4 to 7 x 7 bits the board
+number of rotations by 90°. For each predefined dictionary of 4 x 4 to 7 x 7 bits the board
 with the most markers up to 32 x 32 squares is written into a record whose one cell
 shows the last marker, and place must find that marker. Then a code is replaced by another
-one, turned: among the codes of markers place must refuse the board by 22, past the
+one, rotated: among the codes of markers place must refuse the board by 22, past the
 last marker it must find the marker as before.
 
 The program is the one that PLACE_BIN names, else ../../target/bin/place, seen from this
-file. Exit status 0: all is as said. 1: something is not.
+file. Exit status 0: all is so. 1: something is not.
 """
 
 import os
@@ -68,7 +68,7 @@ class Sheet:
         self.markers = rows * cols // 2
 
     def turned(self, id, turn):
-        """The code of a marker after quarter turns."""
+        """The code of a marker after rotations by 90°."""
         return code_of(np.rot90(self.board.marker(id), turn))
 
     def record(self, codes):
@@ -127,7 +127,7 @@ def check(name, number):
             if not sheet.is_found(codes):
                 wrong.append(f"{name}, past the last marker is 0 turned {turn} times: {sheet.printed(codes)}")
     print(f"{name}: {sheet.count} codes, {rows} x {cols} squares with {sheet.markers} markers; "
-          f"{refused} with two alike, {beside} with one past the last, {len(wrong)} wrong")
+          f"{refused} with two equal codes, {beside} with one past the last, {len(wrong)} wrong")
     return wrong
 
 

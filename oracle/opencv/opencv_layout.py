@@ -25,7 +25,7 @@ DICTIONARY = cv2.aruco.Dictionary_get(cv2.aruco.DICT_4X4_1000)
 
 # --------------------------------------------------------------------- digests
 
-# No board has as many markers or corners, so that unknown ids are asked too.
+# No board has as many markers or corners, so unknown ids are covered too.
 IDS = range(1025)
 NO_ID = (0xFFFFFFFF, 0xFFFFFFFF)
 NO_POINT = (0x7FC00000, 0x7FC00000)
@@ -44,7 +44,7 @@ def halves(number):
 
 
 def frame(size):
-    """The places that are asked for: those of the board, and beside it."""
+    """The places that are digested: those of the board, and beside it."""
     rows, cols = size
     return [(i, j) for j in range(-1, rows + 2) for i in range(-1, cols + 2)]
 
@@ -197,7 +197,7 @@ class Data(Layout):
         of the marker's corners (0 top left, then clockwise) looks at it. Turned
         round, this gives each marker's inner corners; off the rim it has four.
         Ids are counted from the cut: the markers and corners above it have those
-        below 0. Such a corner is passed over, and no other corner may be nearest
+        below 0. Such a corner is skipped, and no other corner may be nearest
         to such a marker.
         """
         ids = (board.ids.ravel() - markers_gone).tolist()

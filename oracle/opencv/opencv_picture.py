@@ -64,7 +64,7 @@ class Picture(Layout):
         return markers, list(zip(corners.ravel().tolist(), seen.reshape(-1, 2)))
 
     def marker_squares(self, markers):
-        """The square of each marker. Markers must stand upright: their first point,
+        """The square of each marker. Markers must be upright: their first point,
         by their own bits, is the top left one in the picture, and so on."""
         squares = []
         for marker, quad in markers:

@@ -1,6 +1,11 @@
-//! What the entries answer, and how each is read from its words.
+//! The results of the entry points, and how each is read from its words.
 
-/// A quarter turn, then a translation.
+use crate::words::{
+    CELL_WORDS, CORNER_WORDS, HEADER_WORDS, MARKER_CELL_WORDS, MARKER_WORDS, MATCH_WORDS,
+    VIOLATION_WORDS,
+};
+
+/// A rotation by 90° × `turn`, then a translation.
 #[derive(Clone, Copy, Debug, PartialEq, Eq)]
 pub struct Alignment {
     pub turn: u32,
@@ -18,7 +23,7 @@ impl Alignment {
     }
 }
 
-/// What a record says before its cells.
+/// Map byte, settings (the default where the record leaves one out), board, and numbers of codes and cells.
 #[derive(Clone, Copy, Debug, PartialEq)]
 #[non_exhaustive]
 pub struct Header {
@@ -30,8 +35,6 @@ pub struct Header {
     pub codes: usize,
     pub cells: usize,
 }
-
-pub(crate) const HEADER_WORDS: usize = 13;
 
 impl Header {
     pub(crate) fn new(words: [u32; HEADER_WORDS]) -> Self {
@@ -55,7 +58,7 @@ impl Header {
     }
 }
 
-/// What is sampled of a cell, beside its grid.
+/// The sample of a cell, without its grid.
 #[derive(Clone, Copy, Debug, PartialEq)]
 pub struct Sample {
     pub fraction: f32,
@@ -69,10 +72,8 @@ pub struct Cell {
     pub sample: Option<Sample>,
 }
 
-pub(crate) const CELL_WORDS: usize = 5;
-
 impl Cell {
-    /// Nothing for an absent cell.
+    /// `None` for an absent cell.
     pub(crate) fn new([kind, u, v, fraction, threshold]: [u32; CELL_WORDS]) -> Option<Self> {
         let sample = (kind == 2).then(|| Sample {
             fraction: f32::from_bits(fraction),
@@ -86,15 +87,13 @@ impl Cell {
     }
 }
 
-/// A cell of the cells entry: its point, and the indices of its corners, top left, top right, bottom right, bottom left.
+/// A cell that [`crate::build_marker_cells`] returns: its position, and the indices of its corners, top left, top right, bottom right, bottom left.
 #[derive(Clone, Copy, Debug, PartialEq, Eq)]
 pub struct MarkerCell {
     pub u: i32,
     pub v: i32,
     pub corners: [usize; 4],
 }
-
-pub(crate) const MARKER_CELL_WORDS: usize = 6;
 
 impl MarkerCell {
     pub(crate) fn new([u, v, corners @ ..]: [i32; MARKER_CELL_WORDS]) -> Self {
@@ -111,7 +110,7 @@ impl MarkerCell {
 pub struct Hypothesis {
     pub alignment: Alignment,
     pub evidence: Option<f32>,
-    /// How many cells contribute: those with weight above 0 that lie on a marker's square. It is 0 exactly where the evidence is none.
+    /// The number of contributing cells: those with weight above 0 on a marker's square. It is 0 exactly if the evidence is `None`.
     pub contributing_cells: usize,
 }
 
@@ -127,21 +126,19 @@ impl Hypothesis {
 
 #[derive(Clone, Copy, Debug, PartialEq)]
 pub struct Marker {
-    /// The cell's place in the record.
+    /// The cell's index in the record.
     pub cell: usize,
     pub id: u32,
     pub point: [i32; 2],
     pub turn: u32,
     pub differing_bits: u32,
     pub code: u64,
-    /// Score / bits².
+    /// Score / bits²: mean log-likelihood per bit.
     pub quotient: f32,
     pub fraction: f32,
     /// Top left, top right, bottom right, bottom left.
     pub rectified: [[f32; 2]; 4],
 }
-
-pub(crate) const MARKER_WORDS: usize = 18;
 
 impl Marker {
     pub(crate) fn new(words: [u32; MARKER_WORDS]) -> Self {
@@ -170,14 +167,12 @@ pub struct Match {
     pub placements: usize,
     /// The alignment of the corners of the best placement.
     pub corners: Alignment,
-    /// In the order of their cells. No two have the same id.
+    /// In the order of their cells; no two have the same id.
     pub markers: Vec<Marker>,
 }
 
-pub(crate) const MATCH_WORDS: usize = 19;
-
 impl Match {
-    /// How many markers there are.
+    /// The number of markers.
     pub(crate) fn count(words: [u32; MATCH_WORDS]) -> usize {
         words[16] as usize
     }
@@ -194,7 +189,7 @@ impl Match {
     }
 }
 
-/// An inner corner of the board, and the index of the corner that was taken for it.
+/// An inner corner of the board, and the index of the detected corner for it.
 #[derive(Clone, Copy, Debug, PartialEq)]
 pub struct MappedCorner {
     pub id: u32,
@@ -203,8 +198,6 @@ pub struct MappedCorner {
     pub at: [u32; 2],
     pub target: [f32; 2],
 }
-
-pub(crate) const CORNER_WORDS: usize = 6;
 
 impl MappedCorner {
     pub(crate) fn new([id, index, i, j, x, y]: [u32; CORNER_WORDS]) -> Self {
@@ -217,7 +210,7 @@ impl MappedCorner {
     }
 }
 
-/// What is wrong with a link, or with those of a marker. Four corners are the expected ones.
+/// What is wrong with a link, or with the links of a marker. `expected` are the four corners of its square.
 #[derive(Clone, Debug, PartialEq, Eq)]
 #[non_exhaustive]
 pub enum Violation {
@@ -244,11 +237,9 @@ pub enum Violation {
         expected: [u32; 4],
         missing: Vec<u32>,
     },
-    /// A kind that this crate has no name for: the library is a later one. These are its words.
+    /// A kind that this crate does not know, from a later library: its words.
     Unknown([u32; VIOLATION_WORDS]),
 }
-
-pub(crate) const VIOLATION_WORDS: usize = 12;
 
 impl Violation {
     pub(crate) fn new(words: [u32; VIOLATION_WORDS]) -> Self {

@@ -1,5 +1,5 @@
-//! The caller's floats. The library's answers are those of floats that round to nearest, keep subnormal numbers and mask exceptions. A
-//! program that was linked with `-ffast-math`, or a thread that set another rounding, has other floats.
+//! The caller's floating-point settings. The library's results need rounding to nearest, subnormal numbers and masked exceptions. A program that
+//! was linked with `-ffast-math`, or a thread that set another rounding mode, has other settings.
 
 use std::arch::asm;
 
@@ -10,10 +10,10 @@ use std::arch::asm;
 )))]
 compile_error!("libcharuco.a is compiled for x86-64 Linux with pointers of 64 bits");
 
-/// MXCSR as a program starts with it.
+/// MXCSR at the start of a program.
 static DEFAULT: u32 = 0x1F80;
 
-/// A question, and after it was asked its answer.
+/// A call, and its result afterwards.
 struct Call<F> {
     ask: Option<F>,
     answer: u32,
@@ -25,17 +25,17 @@ extern "C" fn run<F: FnOnce() -> u32>(call: &mut Call<F>) {
     }
 }
 
-/// Asks with the default floats, and leaves MXCSR as it was, its exception flags too.
+/// Calls with the default settings, then restores MXCSR with its exception flags.
 ///
-/// One assembly block sets, calls and restores: the compiler takes MXCSR for unchanged, and moves no float operation into the call or out of it.
+/// One assembly block sets, calls and restores: the compiler assumes that MXCSR is unchanged, and moves no float operation into or out of the call.
 pub(crate) fn with_default<F: FnOnce() -> u32>(ask: F) -> u32 {
     let mut call = Call {
         ask: Some(ask),
         answer: 0,
     };
     let mut saved = 0_u32;
-    // SAFETY: `run` is called with the one argument that it takes, on a stack that the compiler has aligned for a call, and does not unwind, as it
-    // is `extern "C"`. r12 and r13 are kept by a function that is called; both point to words that live until the block ends.
+    // SAFETY: `run` is called with its one argument, on a stack that the compiler has aligned for a call, and does not unwind, as it is `extern "C"`.
+    // r12 and r13 are callee-saved; both point to words that live until the block ends.
     unsafe {
         asm!(
             "stmxcsr dword ptr [r12]",

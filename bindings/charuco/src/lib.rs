@@ -1,13 +1,13 @@
 //! Places a ChArUco board from sampled marker cells: the verified library `libcharuco.a`, called from Rust. Every function accepts every
-//! argument. [`words`] has the entries as the library gives them, over lists of words. `include/charuco.h` says what a record holds, what a turn
-//! and a translation do to a point, and which corners a cell has.
+//! argument. [`words`] has the entry points as in C, over arrays of words. `include/charuco.h` states the fields of a record, the effect of a turn
+//! and a translation on a point, and the corners of a cell.
 //!
-//! The library's answers need floats that round to nearest and keep subnormal numbers. Every function sets them for its call and then puts
-//! back what the caller had.
+//! The library's results need rounding to nearest and subnormal numbers. Every function sets the default floating-point settings for its call and
+//! then restores those of the caller.
 //!
 //! # Example
 //!
-//! A record in, numbered corners out: all corners of the record's cells pass for detected ones.
+//! From a record to numbered corners: every corner of the record's cells serves as a detected corner.
 //!
 //! ```
 //! let record = std::fs::read("../../samples/turned.shot")?;
@@ -49,9 +49,9 @@ pub use answers::{
 pub use refusal::Refusal;
 pub use words::BoardSpec;
 
-use answers::{
+use words::{
     CELL_WORDS, CORNER_WORDS, HEADER_WORDS, MARKER_CELL_WORDS, MARKER_WORDS, MATCH_WORDS,
-    VIOLATION_WORDS,
+    MAX_BOARD_CORNERS, MAX_CELLS, MAX_LINKS, VIOLATION_WORDS, VIOLATIONS_PER_LINK,
 };
 
 /// A detected corner: its score, and its grid point if it has one.
@@ -67,13 +67,7 @@ pub enum LinkCheckMode {
     MustMatchAll4,
 }
 
-/// No entry wants more places than these, so that none of the functions below is refused 14.
-const MOST_CELLS: usize = 256;
-const MOST_CORNERS: usize = 31 * 31;
-const MOST_LINKS: usize = 4096;
-const VIOLATIONS_PER_LINK: usize = 3;
-
-/// The words of an answer, if it is no refusal. None has more words than a match.
+/// The words of a result, or the refusal. No result has more words than a match.
 fn told<const N: usize>(ask: impl FnOnce(&mut [u32]) -> u32) -> Result<[u32; N], Refusal> {
     let mut values = [0; MATCH_WORDS];
     match ask(&mut values) {
@@ -82,7 +76,7 @@ fn told<const N: usize>(ask: impl FnOnce(&mut [u32]) -> u32) -> Result<[u32; N],
     }
 }
 
-/// The first results of a list, with `N` words each.
+/// The first `count` results of an array, with `N` words each.
 fn results<W: Copy, T, const N: usize>(
     list: &[W],
     count: usize,
@@ -111,7 +105,7 @@ pub fn cell(record: &[u8], k: usize) -> Result<Option<Cell>, Refusal> {
     told::<CELL_WORDS>(|values| words::cell(record, k, values)).map(Cell::new)
 }
 
-/// The grey bytes of a cell, as a part of the record; none for an unsampled or absent cell.
+/// The grey levels of a cell, as a slice of the record; empty for an unsampled or absent cell.
 pub fn grid(record: &[u8], k: usize) -> Result<&[u8], Refusal> {
     let [start, length] = told(|values| words::grid(record, k, values))?.map(|word| word as usize);
     Ok(&record[start..start + length])
@@ -123,25 +117,26 @@ fn corner_lists(corners: &[Corner]) -> (Vec<f32>, Vec<i32>) {
     (scores, corners.iter().flat_map(point).collect())
 }
 
-/// The whole cells between the corners that the inliers name, row by row.
+/// The whole cells between the corners whose indices are `inliers`, in row-major order.
 pub fn build_marker_cells(
     corners: &[Corner],
     inliers: &[usize],
 ) -> Result<Vec<MarkerCell>, Refusal> {
     let (scores, grid) = corner_lists(corners);
-    let mut cells = vec![0; MOST_CELLS * MARKER_CELL_WORDS];
+    let mut cells = vec![0; MAX_CELLS * MARKER_CELL_WORDS];
     let [count] =
         told(|values| words::build_marker_cells(&scores, &grid, inliers, &mut cells, values))?;
     Ok(results(&cells, count as usize, MarkerCell::new))
 }
 
-/// Where the board lies under the cells of a shot record.
+/// Places the board of a shot record. `Ok` means that one placement scores best, not that it is right: see "What a match does not say" in
+/// include/charuco.h.
 pub fn match_board(record: &[u8]) -> Result<Match, Refusal> {
-    let mut markers = vec![0; MOST_CELLS * MARKER_WORDS];
+    let mut markers = vec![0; MAX_CELLS * MARKER_WORDS];
     let values = told::<MATCH_WORDS>(|values| {
         let number = words::match_board(record, &mut markers, values);
         if number == 16 {
-            // The library tells the margin alone; the minimum stands in the record.
+            // The library returns only the margin; the minimum is in the record.
             let header = told(|values| words::read_header(record, values)).map(Header::new);
             values[1] = header.map_or(0, |header| header.minimum_margin.to_bits());
         }
@@ -151,7 +146,7 @@ pub fn match_board(record: &[u8]) -> Result<Match, Refusal> {
     Ok(Match::new(values, markers))
 }
 
-/// Which inner corner of the board each corner is, by rising id. `alignment` is that of the corners.
+/// The inner corner of the board for each corner, by increasing id. `alignment` is that of the corners.
 pub fn map_charuco_corners(
     spec: &BoardSpec,
     codes: &[u64],
@@ -164,20 +159,20 @@ pub fn map_charuco_corners(
         grid: &grid,
         alignment: (alignment.turn, alignment.tx, alignment.ty),
     };
-    let mut mapped = vec![0; MOST_CORNERS * CORNER_WORDS];
+    let mut mapped = vec![0; MAX_BOARD_CORNERS * CORNER_WORDS];
     let [count] =
         told(|values| words::map_charuco_corners(spec, codes, input, &mut mapped, values))?;
     Ok(results(&mapped, count as usize, MappedCorner::new))
 }
 
-/// What is wrong with links of markers and corners: pairs of a marker's id and a corner's.
+/// What is wrong with links of markers and corners: pairs of a marker id and a corner id.
 pub fn validate_marker_corner_links(
     spec: &BoardSpec,
     codes: &[u64],
     links: &[[u32; 2]],
     mode: LinkCheckMode,
 ) -> Result<Vec<Violation>, Refusal> {
-    let places = VIOLATIONS_PER_LINK * links.len().min(MOST_LINKS);
+    let places = VIOLATIONS_PER_LINK * links.len().min(MAX_LINKS);
     let mut violations = vec![0; places * VIOLATION_WORDS];
     let mode = u32::from(mode == LinkCheckMode::MustMatchAll4);
     let [count] = told(|values| {

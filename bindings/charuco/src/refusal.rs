@@ -1,12 +1,13 @@
-//! The questions of documents 01 and 02 that can be answered with no.
+//! The checks of documents 01 and 02 that can fail.
 
 use std::error::Error;
 use std::fmt::{self, Display, Formatter};
 
-/// Why the library gave no result: the question that was answered with no. It is printed as its number and a sentence.
+/// Why the library returned no result: the check that failed. It is printed as its number and a message.
 #[derive(Clone, Copy, Debug, PartialEq)]
 #[non_exhaustive]
 pub enum Refusal {
+    // BEGIN generated variants
     InvalidSize,
     InvalidCellSize,
     InvalidMarkerSizeRel,
@@ -36,15 +37,16 @@ pub enum Refusal {
     InvalidRecord,
     CodesAlike,
     RepeatedPoint,
-    /// A number that this crate has no name for: the library is a later one.
+    // END generated variants
+    /// A number that this crate does not know, from a later library.
     Unknown(u32),
 }
 
 impl Refusal {
-    /// From the number of a refusal and its values.
+    /// From the number of a refusal and the values of its message.
     pub(crate) fn new(number: u32, values: [u32; 2]) -> Self {
-        let [first, second] = values;
         match number {
+            // BEGIN generated from-number
             1 => Self::InvalidSize,
             2 => Self::InvalidCellSize,
             3 => Self::InvalidMarkerSizeRel,
@@ -52,8 +54,8 @@ impl Refusal {
             5 => Self::EmptyDictionary,
             6 => Self::BoardOutOfRange,
             7 => Self::NotEnoughDictionaryCodes {
-                needed: first,
-                available: second,
+                needed: values[0],
+                available: values[1],
             },
             8 => Self::CodeOutOfRange,
             9 => Self::SettingsNotFinite,
@@ -64,8 +66,8 @@ impl Refusal {
             14 => Self::ListTooShort,
             15 => Self::TranslationWindow,
             16 => Self::Margin {
-                margin: f32::from_bits(first),
-                minimum: f32::from_bits(second),
+                margin: f32::from_bits(values[0]),
+                minimum: f32::from_bits(values[1]),
             },
             17 => Self::NoMarkers,
             18 => Self::CornersOutOfRange,
@@ -74,12 +76,14 @@ impl Refusal {
             21 => Self::InvalidRecord,
             22 => Self::CodesAlike,
             23 => Self::RepeatedPoint,
+            // END generated from-number
             _ => Self::Unknown(number),
         }
     }
 
     pub const fn number(&self) -> u32 {
         match self {
+            // BEGIN generated number
             Self::InvalidSize => 1,
             Self::InvalidCellSize => 2,
             Self::InvalidMarkerSizeRel => 3,
@@ -103,58 +107,58 @@ impl Refusal {
             Self::InvalidRecord => 21,
             Self::CodesAlike => 22,
             Self::RepeatedPoint => 23,
+            // END generated number
             Self::Unknown(number) => *number,
         }
     }
 }
 
-/// What was answered with no: the sentence of refusal n stands at place n - 1. They are those of bin/refusals.tsv.
-const SENTENCES: [&str; 23] = [
-    "the board has fewer than 2 rows or fewer than 2 columns",
-    "cell_size is not finite or is not above 0",
-    "marker_size_rel is not finite, is not above 0, or is above 1",
-    "the border is below 1",
-    "the dictionary has no code",
-    "the board has more than 32 rows or columns, a border above 4, bits that are not 1 to 8, or more than 1,024 codes",
-    "the board has {needed} markers and the dictionary has only {available} codes",
-    "a code is not below 2^(bits*bits)",
-    "the minimum margin, the border threshold or px_per_square is not finite",
-    "the likelihood table does not have 511 entries, or an entry is not from -8 to 0",
-    "there is no cell",
-    "there are more than 256 cells, or a cell's u or v is not from -4,096 to 4,096",
-    "a sampled cell has no whole grid, or its fraction is not from 0 to 1",
-    "the result list is too short",
-    "no turn and translation puts every cell on the board",
-    "the margin {margin} is below the minimum {minimum}",
-    "no marker was emitted",
-    "there are more than 1,024 corners or inliers, or a grid point, a score, the turn or the corner translation is out of range",
-    "there are more than 4,096 links",
-    "there are more than 256 whole cells",
-    "the record is above 65,535 bytes, a field is cut short, a spare bit is set, or bytes follow the last field",
-    "two codes that markers use are equal after some number of quarter turns",
-    "two cells, sampled or not, lie at one point (u, v)",
+// BEGIN generated messages
+#[rustfmt::skip]
+const MESSAGES: [(u32, &str); 23] = [
+    (1, "the board has fewer than 2 rows or fewer than 2 columns"),
+    (2, "cell_size is not finite or is not above 0"),
+    (3, "marker_size_rel is not finite, is not above 0, or is above 1"),
+    (4, "the border is below 1"),
+    (5, "the dictionary has no code"),
+    (6, "the board has more than 32 rows or columns, a border above 4, bits that are not 1 to 8, or more than 1,024 codes"),
+    (7, "the board has {needed} markers and the dictionary has only {available} codes"),
+    (8, "a code is not below 2^(bits*bits)"),
+    (9, "the minimum margin, the border threshold or px_per_square is not finite"),
+    (10, "the likelihood table does not have 511 entries, or an entry is not from -8 to 0"),
+    (11, "there is no cell"),
+    (12, "there are more than 256 cells, or a cell's u or v is not from -4,096 to 4,096"),
+    (13, "a sampled cell has no whole grid, or its fraction is not from 0 to 1"),
+    (14, "the output array is too short"),
+    (15, "no turn and translation puts every cell on the board"),
+    (16, "the margin {margin} is below the minimum {minimum}"),
+    (17, "no cell of the best placement has evidence above 0"),
+    (18, "there are more than 1,024 corners or inliers, or a grid point, a score, the turn or the corner translation is out of range"),
+    (19, "there are more than 4,096 links"),
+    (20, "there are more than 256 whole cells"),
+    (21, "the record is above 65,535 bytes, a field is cut short, a spare bit is set, or bytes follow the last field"),
+    (22, "the codes of two markers are equal up to rotation"),
+    (23, "two cells, sampled or not, have the same position (u, v)"),
 ];
+// END generated messages
 
 impl Display for Refusal {
     fn fmt(&self, f: &mut Formatter) -> fmt::Result {
         let number = self.number();
-        let place = number.wrapping_sub(1) as usize;
-        let unknown = "a question that this version has no name for";
-        let sentence = SENTENCES.get(place).unwrap_or(&unknown);
-        write!(f, "refused {number}: ")?;
-        match self {
-            Self::NotEnoughDictionaryCodes { needed, available } => f.write_str(
-                &sentence
-                    .replace("{needed}", &needed.to_string())
-                    .replace("{available}", &available.to_string()),
-            ),
-            Self::Margin { margin, minimum } => f.write_str(
-                &sentence
-                    .replace("{margin}", &margin.to_string())
-                    .replace("{minimum}", &minimum.to_string()),
-            ),
-            _ => f.write_str(sentence),
-        }
+        let known = MESSAGES.iter().find(|(of, _)| *of == number);
+        let message = known.map_or("a check that this version has no name for", |pair| pair.1);
+        let text = match self {
+            // BEGIN generated filled
+            Self::NotEnoughDictionaryCodes { needed, available } => message
+                .replace("{needed}", &needed.to_string())
+                .replace("{available}", &available.to_string()),
+            Self::Margin { margin, minimum } => message
+                .replace("{margin}", &margin.to_string())
+                .replace("{minimum}", &minimum.to_string()),
+            // END generated filled
+            _ => message.to_string(),
+        };
+        write!(f, "refused {number}: {text}")
     }
 }
 
@@ -162,11 +166,11 @@ impl Error for Refusal {}
 
 #[cfg(test)]
 mod tests {
-    use super::Refusal;
+    use super::{MESSAGES, Refusal};
 
     #[test]
     fn numbers_are_those_of_the_names() {
-        for number in 1..=23 {
+        for (number, _) in MESSAGES {
             let refusal = Refusal::new(number, [5, 3]);
             assert_eq!(refusal.number(), number);
             assert!(!matches!(refusal, Refusal::Unknown(_)));
@@ -174,8 +178,8 @@ mod tests {
     }
 
     #[test]
-    fn other_numbers_are_told() {
-        for number in [0, 24, u32::MAX] {
+    fn other_numbers_are_unknown() {
+        for number in [0, 100, u32::MAX] {
             assert_eq!(Refusal::new(number, [0; 2]), Refusal::Unknown(number));
             assert!(
                 Refusal::Unknown(number)
@@ -185,36 +189,24 @@ mod tests {
         }
     }
 
-    /// The sentences are those of the command `bin/place`, whose table stands in the repository.
+    /// A message with values has one for each of its placeholders.
     #[test]
-    fn sentences_are_those_of_the_table() {
-        let table = include_str!(concat!(
-            env!("CARGO_MANIFEST_DIR"),
-            "/../../bin/refusals.tsv"
-        ));
-        let mut next = 1;
-        for row in table.lines() {
-            let [number, name, sentence] = row.split('\t').collect::<Vec<_>>()[..] else {
-                panic!("a row has three fields: {row}");
-            };
-            let values = match next {
-                16 => [0.25_f32, 0.5].map(f32::to_bits),
-                _ => [10, 3],
-            };
-            let refusal = Refusal::new(next, values);
-            assert_eq!(number, next.to_string());
-            assert!(
-                format!("{refusal:?}").starts_with(name),
-                "{refusal:?} {name}"
-            );
-            let sentence = sentence
-                .replace("{needed}", "10")
-                .replace("{available}", "3")
-                .replace("{margin}", "0.25")
-                .replace("{minimum}", "0.5");
-            assert_eq!(refusal.to_string(), format!("refused {number}: {sentence}"));
-            next += 1;
+    fn values_are_in_their_messages() {
+        let pairs = [
+            (
+                Refusal::new(7, [10, 3]),
+                "refused 7: the board has 10 markers and the dictionary has only 3 codes",
+            ),
+            (
+                Refusal::new(16, [0.25_f32, 0.5].map(f32::to_bits)),
+                "refused 16: the margin 0.25 is below the minimum 0.5",
+            ),
+        ];
+        for (refusal, text) in pairs {
+            assert_eq!(refusal.to_string(), text);
         }
-        assert_eq!(next, 24);
+        for (number, _) in MESSAGES {
+            assert!(!Refusal::new(number, [1; 2]).to_string().contains('{'));
+        }
     }
 }

@@ -1,9 +1,40 @@
-//! The C functions over slices of words, as include/charuco.h has them: the answer is 0 or the number of the refusal, and every list
-//! may have every length. Each is asked with the default floats, whatever those of the caller are.
+//! The C functions of include/charuco.h over slices of words: each returns 0 or the error number, and accepts slices of every length. Each runs with
+//! the default floating-point settings, whatever those of the caller are.
 
 use crate::floats::with_default;
 
-/// What the corner and link entries are given of a board.
+// BEGIN generated constants
+// Words in `values`.
+pub const HEADER_WORDS: usize = 13;
+pub const TABLE_ENTRY_WORDS: usize = 2;
+pub const CODE_WORDS: usize = 3;
+pub const CELL_WORDS: usize = 5;
+pub const GRID_WORDS: usize = 2;
+pub const MATCH_WORDS: usize = 19;
+pub const COUNT_WORDS: usize = 1;
+pub const REFUSAL_WORDS: usize = 2; // at most
+
+// Words of an item of an array.
+pub const GRID_POINT_WORDS: usize = 3;
+pub const MARKER_CELL_WORDS: usize = 6;
+pub const MARKER_WORDS: usize = 18;
+pub const CORNER_WORDS: usize = 6;
+pub const LINK_WORDS: usize = 2;
+pub const VIOLATION_WORDS: usize = 12;
+
+// Limits and their checks.
+pub const MAX_RECORD_BYTES: usize = 65535; // 21
+pub const MAX_CELLS: usize = 256; // 12, 20
+pub const MAX_CORNERS: usize = 1024; // 18
+pub const MAX_CODES: usize = 1024; // 6
+pub const MAX_LINKS: usize = 4096; // 19
+pub const MAX_BOARD_CORNERS: usize = 961; // follows from 6
+pub const VIOLATIONS_PER_LINK: usize = 3; // 14
+pub const MAX_RECORD_CODES: usize = 8189; // follows from 21
+pub const MAX_RECORD_CELLS: usize = 15883; // follows from 21
+// END generated constants
+
+/// The board, as [`map_charuco_corners`] and [`validate_marker_corner_links`] take it.
 #[derive(Clone, Copy, Debug, PartialEq)]
 pub struct BoardSpec {
     pub rows: u32,
@@ -95,8 +126,8 @@ unsafe extern "C" {
     ) -> u32;
 }
 
-// SAFETY, in every function below: each pointer and the length behind it are those of one slice, so it is valid, aligned and not null.
-// What is lent as `&mut` overlaps nothing else. The C functions read and write within these lengths and keep no pointer.
+// SAFETY, in every function below: each pointer and the length after it are those of one slice, so it is valid, aligned and not null.
+// A `&mut` slice overlaps nothing else. The C functions read and write within these lengths and keep no pointer.
 
 pub fn read_header(record: &[u8], values: &mut [u32]) -> u32 {
     with_default(|| unsafe {
@@ -173,7 +204,7 @@ pub fn match_board(record: &[u8], markers: &mut [u32], values: &mut [u32]) -> u3
     })
 }
 
-/// The corners as they are given, and their alignment: turn, tx, ty.
+/// The detected corners, and their alignment: turn, tx, ty.
 #[derive(Clone, Copy)]
 pub struct CornerInput<'a> {
     pub scores: &'a [f32],

@@ -2,7 +2,7 @@
 
 use charuco::*;
 
-/// The record of document 01's example: one sampled cell, which shows marker 0's code.
+/// The record of document 01's example: one sampled cell, with marker 0's code.
 fn example() -> Vec<u8> {
     let mut record = vec![0x08];
     for entry in [-1.0_f32; 256].into_iter().chain([0.0; 255]) {
@@ -108,9 +108,9 @@ fn cut_record_is_refused() {
     assert_eq!(match_board(&[]), Err(Refusal::InvalidRecord));
 }
 
-/// Lists of every length, and what is left alone.
+/// Output arrays of every length, and the elements that do not change.
 #[test]
-fn short_lists_get_what_fits() {
+fn short_arrays_get_what_fits() {
     let record = example();
     let mut whole = [7; 22];
     let mut markers = [9; 20];
@@ -131,7 +131,7 @@ fn short_lists_get_what_fits() {
     assert_eq!((too_short, values), ([9; 17], [7; 19]));
 }
 
-/// Questions 7 and 16 give values.
+/// Refusals 7 and 16 have values.
 #[test]
 fn values_of_refusals() {
     let corners = &[];
@@ -183,7 +183,7 @@ fn cells_between_corners() {
     );
 }
 
-/// P3 of the table: corner (1, 1) is 0 and (4, 3) is 11, and (5, 3) and (0, 1) have none.
+/// P3 of the table: corner (1, 1) has id 0 and (4, 3) has id 11; (5, 3) and (0, 1) have none.
 #[test]
 fn corners_of_a_board() {
     let corner = |score, u, v| Corner {

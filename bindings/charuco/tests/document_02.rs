@@ -1,4 +1,4 @@
-//! What document 02 says of single requests, asked through the wrapper.
+//! Single requests of document 02, through the wrapper.
 
 use charuco::{
     BoardSpec, Hypothesis, LinkCheckMode, Refusal, cell, grid, match_board, read_header,
@@ -15,14 +15,14 @@ const BOARD: BoardSpec = BoardSpec {
     marker_size_rel: 0.75,
 };
 
-/// No two are alike: 8 would be 1 turned.
+/// No two are equal up to rotation: 8 would be a rotation of 1.
 const CODES: [u64; 10] = [1, 2, 3, 4, 5, 6, 7, 9, 10, 11];
 
 fn sample(name: &str) -> Vec<u8> {
     std::fs::read(format!("../../samples/{name}.shot")).expect("a sample")
 }
 
-/// The four corners that are expected of a marker, by a link to a corner that no board has.
+/// The four corners that are expected of a marker, from a link to a corner that no board has.
 fn expected(spec: &BoardSpec, marker: u32) -> Option<[u32; 4]> {
     let links = [[marker, 1000]];
     let mode = LinkCheckMode::SubsetOk;
@@ -33,7 +33,7 @@ fn expected(spec: &BoardSpec, marker: u32) -> Option<[u32; 4]> {
     }
 }
 
-/// 2.1: with an even row count the markers are on the squares with i + j even, numbered row by row. Marker 3 is on (1, 1).
+/// 2.1: with an even row count the markers are on the squares with i + j even, numbered in row-major order. Marker 3 is on (1, 1).
 #[test]
 fn legacy_board_has_other_squares() {
     assert_eq!(expected(&BOARD, 3), Some([0, 1, 5, 4]));
@@ -58,10 +58,10 @@ fn odd_rows_are_as_before() {
     }
 }
 
-/// 2.2: two codes that markers use are equal after some number of quarter turns. Codes past the last marker may repeat, and a
-/// code may look the same when turned.
+/// 2.2: two codes of markers are equal up to rotation. Codes past the last marker may repeat, and a code may be equal to its own
+/// rotation.
 #[test]
-fn markers_look_alike() {
+fn codes_are_equal_up_to_rotation() {
     let board = BoardSpec {
         rows: 2,
         cols: 2,
@@ -80,9 +80,9 @@ fn markers_look_alike() {
     assert_eq!(check(&[16, 16]), Err(Refusal::CodeOutOfRange));
 }
 
-/// Bit 4 of the map byte is the mark, and adds no field; bits 5 to 7 are spare.
+/// Bit 4 of the map byte is the legacy flag, and adds no field; bits 5 to 7 are spare.
 #[test]
-fn map_byte_marks_the_board() {
+fn map_byte_has_the_legacy_flag() {
     let sheet = sample("legacy");
     let marked = read_header(&sheet).expect("a whole record");
     assert!(marked.spec.legacy_pattern && marked.map & 16 != 0);
@@ -105,7 +105,7 @@ fn map_byte_marks_the_board() {
     }
 }
 
-/// 2.3: a sheet whose last cell is its cell 7 again. The match refuses it; every field is read as before.
+/// 2.3: a record whose last cell repeats its cell 7. The match refuses it; every field can still be read.
 #[test]
 fn repeated_point_is_read_and_not_matched() {
     let sheet = sample("repeated");
@@ -124,7 +124,7 @@ fn repeated_point_is_read_and_not_matched() {
     }
 }
 
-/// The last cell of that sheet, sampled or not, at every point around: it is refused exactly where another cell lies.
+/// The last cell of that record, sampled or not, at every nearby position: it is refused exactly where another cell is.
 #[test]
 fn points_beside_are_not_repeated() {
     let sheet = sample("repeated");
@@ -133,7 +133,7 @@ fn points_beside_are_not_repeated() {
         [there.u, there.v]
     };
     let others: Vec<_> = (0..15).map(point).collect();
-    // A cell has its point in 4 bytes; if it is sampled, 5 more and a grid of 6 by 6.
+    // A cell has its position in 4 bytes; if it is sampled, 5 more and a grid of 6 by 6.
     let at = sheet.len() - 45;
     let map = at - 15 * 45 - 2;
     let mut unsampled = sheet[..at + 4].to_vec();
@@ -155,10 +155,10 @@ fn points_beside_are_not_repeated() {
     }
 }
 
-/// A cell of the records below: unsampled, or its fraction and the code that it shows.
+/// A cell of the records below: unsampled, or its fraction and its code.
 type Seen = Option<(f32, u64)>;
 
-/// A record of a board of 2 rows and 3 columns, codes of side 2 and a border of 1, with a cell at every (u, v), row by row.
+/// A record of a board of 2 rows and 3 columns, codes of side 2 and a border of 1, with a cell at every (u, v), in row-major order.
 fn whole_board(cells: [Seen; 6]) -> Vec<u8> {
     let mut record = vec![0, 2, 3, 2, 1];
     for size in [1.0_f32, 0.5] {
@@ -176,7 +176,7 @@ fn whole_board(cells: [Seen; 6]) -> Vec<u8> {
         if let Some((fraction, code)) = seen {
             record.extend(fraction.to_le_bytes());
             record.push(128);
-            // The border is black, and so is a bit that is set.
+            // The border and set bits are black.
             record.extend((0..16).map(|at| match (at % 4, at / 4) {
                 (x @ 1..=2, y @ 1..=2) if code >> (2 * (y - 1) + x - 1) & 1 == 0 => 255,
                 _ => 0_u8,
@@ -186,7 +186,7 @@ fn whole_board(cells: [Seen; 6]) -> Vec<u8> {
     record
 }
 
-/// Counts of the best and of the runner-up, and whether the runner-up's evidence is a number. The best is the board as it lies.
+/// Counts of the best and of the runner-up, and whether the runner-up's evidence is a number. The best is the identity.
 fn counts(cells: [Seen; 6]) -> (usize, usize, bool) {
     let record = whole_board(cells);
     let placed = match_board(&record).expect("a placed shot");
@@ -205,18 +205,19 @@ fn counts(cells: [Seen; 6]) -> (usize, usize, bool) {
     (counts[0], counts[1], next.evidence.is_some())
 }
 
-/// 2.5: the cells with weight above 0 that land on a marker square are counted, and the evidence is none exactly where there are none.
+/// 2.5: the cells with weight above 0 on a marker's square are counted, and the evidence is `None` exactly if there are none.
 ///
-/// On a board of 2 rows and 3 columns the markers 0, 1, 2 are on (1, 0), (0, 1), (2, 1). Six cells fit in turns 0 and 2 alone. In turn 0 cell k is on square
-/// (k mod 3, k / 3): cells 1, 3, 5 are on markers' squares. Turn 2 takes (u, v) to (2 - u, 1 - v): cells 0, 2, 4 are, on those of markers 2, 1, 0.
+/// On a board of 2 rows and 3 columns the markers 0, 1, 2 are on (1, 0), (0, 1), (2, 1). Six cells fit in turns 0 and 2 only. In turn 0 cell k
+/// is on square (k mod 3, k / 3): cells 1, 3, 5 are on markers' squares. Turn 2 maps (u, v) to (2 - u, 1 - v): cells 0, 2, 4 are
+/// on the squares of markers 2, 1, 0.
 #[test]
 fn contributing_cells_are_counted() {
     let (first, second, black) = (Some((1.0, 1)), Some((0.25, 15)), Some((1.0, 15)));
     let weightless = Some((0.0, 7));
-    // In turn 0 cells 1 and 3 count, the second with weight 0.5, and cell 5 has weight 0. In turn 2 cells 0 and 4 are unsampled, cell 2 has weight 0.
+    // In turn 0 cells 1 and 3 contribute, the second with weight 0.5; cell 5 has weight 0. In turn 2 cells 0 and 4 are unsampled; cell 2 has weight 0.
     let none = [None, first, weightless, second, None, weightless];
     assert_eq!(counts(none), (2, 0, false));
-    // Cell 4, which shows another code than marker 0's, counts in turn 2.
+    // Cell 4, whose code is not marker 0's, contributes in turn 2.
     let one = [None, first, weightless, second, black, weightless];
     assert_eq!(counts(one), (2, 1, true));
     // So do cells 0 and 2; cell 3 is unsampled.

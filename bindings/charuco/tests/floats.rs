@@ -1,5 +1,5 @@
-//! The caller's floats: records answered under other settings of MXCSR. Through the crate every answer is that of the default setting, bit for
-//! bit. Through the C function itself some answer differs under each setting, so that the comparison can fail.
+//! The caller's floating-point settings: results for records under other settings of MXCSR. Through the crate every result is that of the default
+//! setting, bit for bit. Through the C function some result differs under each setting, so that the comparison can fail.
 
 use charuco::words::{self, BoardSpec, CornerInput};
 use std::arch::asm;
@@ -29,10 +29,10 @@ unsafe extern "C" {
     ) -> u32;
 }
 
-/// Calls with a setting of MXCSR, and gives what it is after the call.
+/// Calls with a setting of MXCSR, and returns MXCSR after the call.
 fn under(setting: u32, question: &mut Question, ask: extern "C" fn(&mut Question)) -> u32 {
     let mut words = [setting, 0, 0];
-    // SAFETY: `ask` gets the argument that it takes; r12 is kept by a function that is called, and MXCSR is put back in the same block.
+    // SAFETY: `ask` gets the argument that it takes; r12 is callee-saved, and MXCSR is restored in the same block.
     unsafe {
         asm!(
             "stmxcsr dword ptr [r12 + 8]",
@@ -49,7 +49,7 @@ fn under(setting: u32, question: &mut Question, ask: extern "C" fn(&mut Question
     words[1]
 }
 
-/// A record and what is answered for it. No float is computed with here, so that a setting changes nothing but the library's answers.
+/// A record and the results for it. This test computes with no float, so that a setting changes only the library's results.
 struct Question {
     record: Vec<u8>,
     spec: BoardSpec,
@@ -84,7 +84,7 @@ impl Question {
         }
     }
 
-    /// The words of Match and of the corner entry; these are then cleared.
+    /// The words of the match and of the corners; these are then cleared.
     fn take(&mut self) -> Answers {
         let mut matched = vec![self.numbers[0]];
         matched.extend(self.values);
@@ -134,7 +134,7 @@ impl Random {
         (self.0 >> 32) as u32 % n
     }
 
-    /// The bits of a float above 0 and at most 1, a third of them subnormal.
+    /// The bit pattern of a float above 0 and at most 1, a third of them subnormal.
     fn fraction(&mut self) -> u32 {
         match self.below(3) {
             0 => 1 + self.below(0x7F_FFFF),
@@ -144,7 +144,7 @@ impl Random {
     }
 }
 
-/// A sheet with fractions, sizes and some greys of its own.
+/// The record with other fractions, sizes and grey levels.
 fn vary(sheet: &[u8], random: &mut Random) -> Vec<u8> {
     let mut record = sheet.to_vec();
     let header = charuco::read_header(sheet).expect("a whole record");
@@ -206,7 +206,7 @@ fn answers_do_not_depend_on_the_callers_floats() {
             placed += usize::from(expected.0[0] == 0);
             for ((name, setting), differing) in SETTINGS.iter().zip(&mut differing) {
                 let after = under(*setting, &mut question, through_the_crate);
-                assert_eq!(after, *setting, "{name}: MXCSR is not as it was");
+                assert_eq!(after, *setting, "{name}: MXCSR is not restored");
                 assert!(question.take() == expected, "{name}");
                 under(*setting, &mut question, through_c);
                 *differing += usize::from(question.take().0 != expected.0);
@@ -217,8 +217,8 @@ fn answers_do_not_depend_on_the_callers_floats() {
     }
     println!("{} records, {placed} placed", sheets.len() * (varied + 1));
     for ((name, _), differing) in SETTINGS.iter().zip(differing) {
-        println!("{name}: {differing} differ where the C function is called as it is");
-        assert!(differing > 0, "{name}: no answer differs");
+        println!("{name}: {differing} differ when the C function is called directly");
+        assert!(differing > 0, "{name}: no result differs");
     }
     assert!(placed > 0);
 }

@@ -1,5 +1,5 @@
--- What a user relies on: which of two codes is named first makes no difference, nor does a code past the last marker; and where no two codes are
--- alike, a code that is read exactly names at most one marker, whatever the turn. Assumes nothing.
+-- `alike` is symmetric, codes past the last marker do not matter, and if no two codes are equal up to rotation, an exactly read code
+-- is that of at most one marker at any turn. Assumes nothing.
 use mathlib.Core.Path.{_≡_, refl, sym, ap, ap₂, _∙_}
 use mathlib.Core.Bool.{Bool, true, false, not, _&&_, false≢true}
 use mathlib.Core.List.{List}
@@ -32,7 +32,7 @@ is-alike n a b x =
     any-true (λ (turns : ℕ). eqb (turned n turns a) (turned n 0 b)) 4 (r % 4) (mod-lt r (lit< tt))
     (eq-eqb (turned n (r % 4) a) (turned n 0 b) (turns-mod n r a ∙ x .same))
 
--- turned back
+-- symmetry
 alike-back : (n a b : ℕ) → Alike n a b → Alike n b a
 alike-back n a b x = met-alike n b a 0 (x .turns) (sym (x .same))
 
@@ -45,7 +45,7 @@ either-way n a b = go (alike n a b) (alike n b a) refl refl
     go true false e f = absurd (false≢true (sym f ∙ is-alike n b a (alike-back n a b (alike-is n a b e))))
     go false true e f = absurd (false≢true (sym e ∙ is-alike n a b (alike-back n b a (alike-is n b a f))))
 
--- document 02's sentence, for a code that question 8 lets pass: a turned code of a is b
+-- document 02's sentence, for a code that passes question 8: a turned code of a is b
 pub as-said : (n a b : ℕ) → b < 2 ^ (n * n) → alike n a b ≡ anyBelow (λ (turns : ℕ). eqb (turned n turns a) b) 4
 as-said n a b h = ap (λ (x : ℕ). anyBelow (λ (turns : ℕ). eqb (turned n turns a) x) 4) (turned-none n b h)
 
@@ -87,7 +87,7 @@ module _ (n : ℕ) (codes : List ℕ) (count : ℕ) where
       (any-true (pair a) count b (t .second-used)
       (ap₂ (λ (x y : Bool). not x && y) (ne-eqb a b (t .apart)) (is-alike n (code a) (code b) (t .alike-codes))))
 
-  -- a code that is read exactly names at most one marker, whatever the turn
+  -- an exactly read code is that of at most one marker at any turn
   pub names-one : twoAlike n codes count ≡ false → (read a b r s : ℕ) → a < count → b < count → turned n r (code a) ≡ read → turned n s (code b) ≡ read → a ≡ b
   names-one passed read a b r s ha hb x y = go (eqb a b) refl
     where
@@ -97,7 +97,7 @@ module _ (n : ℕ) (codes : List ℕ) (count : ℕ) where
           let two = are-two (record { first = a; second = b; first-used = ha; second-used = hb; apart = eqb-false a b e; alike-codes = met-alike n (code a) (code b) r s (x ∙ sym y) }) in
           absurd (false≢true (sym passed ∙ two))
 
-  -- what is found by least turns
+  -- the answer from the canonical keys
   pub answered : (least : List ℕ) (r : Bool) → 0 < n → HasLeast n codes count least → Told count (wordAt least) r → r ≡ not (twoAlike n codes count)
   answered least true some has told = go (twoAlike n codes count) refl
     where
@@ -129,7 +129,7 @@ module _ (n : ℕ) (codes : List ℕ) (count : ℕ) where
         alike-codes = least-alike n (code a) (code b) some (sym (has a ha) ∙ x .equal ∙ has b (x .inside));
       })))
 
--- codes past the count make no difference
+-- codes past the count do not matter
 pub past-the-last : (n : ℕ) (codes others : List ℕ) (count : ℕ) → ((k : ℕ) → k < count → getD codes k 0 ≡ getD others k 0)
     → twoAlike n codes count ≡ twoAlike n others count
 past-the-last n codes others count e = go (twoAlike n codes count) (twoAlike n others count) refl refl

@@ -1,4 +1,4 @@
--- Codes are alike exactly if their least turns are equal. For every side above 0. Assumes nothing.
+-- Codes are equal up to rotation if and only if their canonical keys are equal, for every side above 0. Assumes nothing.
 use mathlib.Core.Path.{_≡_, sym, ap, subst, _∙_}
 use mathlib.Core.Logic.{_⊎_, inl, inr}
 use Prim.Native.Nat.{ℕ, _+_, _*_, _%_, _≤_, _<_, min}
@@ -15,7 +15,7 @@ pub record Alike (n a b : ℕ) : Type 0 where
   pub turns : ℕ
   pub same : turned n turns a ≡ turned n 0 b
 
--- codes of which some turns are equal are alike: j turns and three times j more are none
+-- codes that have equal rotations are equal up to rotation: j turns and three times j more are none
 pub met-alike : (n a b i j : ℕ) → turned n i a ≡ turned n j b → Alike n a b
 met-alike n a b i j met = record {
   turns = i + 3 * j;
@@ -36,20 +36,20 @@ module _ (n c : ℕ) where
   after-mod : (r : ℕ) → after (r % 4) ≡ after r
   after-mod r = ap (quarters n) (turns-mod n r c)
 
-  -- it is one of them
+  -- attained
   reached : (r : ℕ) × (leastTurn n c ≡ after r)
   reached = elim (one-of (min (after 0) (after 1)) (min (after 2) (after 3))) [ inl e ↦ from 0 1 e | inr e ↦ from 2 3 e ]
     where
       from : (i j : ℕ) → leastTurn n c ≡ min (after i) (after j) → (r : ℕ) × (leastTurn n c ≡ after r)
       from i j e = elim (one-of (after i) (after j)) [ inl f ↦ (i, e ∙ f) | inr f ↦ (j, e ∙ f) ]
 
-  -- and below all others
+  -- a lower bound
   under : (r : ℕ) → leastTurn n c ≤ after r
   under r =
       subst (λ (x : ℕ). leastTurn n c ≤ x) (after-mod r)
       (each-turn (λ (s : ℕ). leastTurn n c ≤ after s) (omega arith) (omega arith) (omega arith) (omega arith) r)
 
--- turns of b are turns of a
+-- rotations of b are rotations of a
 module _ (n a b : ℕ) (alike : Alike n a b) where
   abbrev r : ℕ
   r = alike .turns

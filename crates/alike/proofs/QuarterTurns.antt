@@ -1,4 +1,4 @@
--- A quarter turn moves the quarters of a code on by one, and a code is determined by its quarters. For every side. Assumes nothing.
+-- A quarter turn rotates the quarters of a code by one, and the quarters determine the code, for every side. Assumes nothing.
 use mathlib.Core.Path.{_≡_, refl, sym, ap, ap₂, subst, _∙_}
 use Prim.Native.Nat.{ℕ, zero, suc, _+_, _-_, _*_, _/_, _%_, _^_, _≤_, _<_}
 use mathlib.Core.Logic.{_⊎_, inl, inr}
@@ -13,7 +13,7 @@ use Rattle.matcher.proofs.Turns.{Inside, place-inside, index-below, place-index
 use Rattle.integers.proofs.Distances.{lt-or-le}
 use Rattle.alike.specs.Quarters.{half, quarter, quarterSource, quarters, movedOn}
 
--- the first a bits of a number, and those behind them
+-- the first a bits of a number, and those after them
 from-split : (f : ℕ → ℕ) (a b : ℕ) → fromBits f (a + b) ≡ fromBits (λ (k : ℕ). f (a + k)) b * 2 ^ a + fromBits f a
 unfolding fromBits
 from-split f a zero = ap (fromBits f) (add-zero a) ∙ omega arith
@@ -33,7 +33,7 @@ module _ (n : ℕ) (some : 0 < n) where
   abbrev m : ℕ
   m = quarter n
 
-  -- the place in the quarter that bit k stands for
+  -- the place of bit k in the quarter
   abbrev pub there : ℕ → Place
   there k = bitPlace (half n) (k % m)
 
@@ -54,7 +54,7 @@ module _ (n : ℕ) (some : 0 < n) where
       ap (λ (q : Place). indexOf n (source n 1 q)) (place-index n p (source-inside n (k / m) (there k) (inside k) .column))
       ∙ ap (indexOf n) (sources n 1 (k / m) (there k) (inside k))
 
-  -- which is that of the next quarter, and after the last one that of the first
+  -- is that of the next quarter, and after the last that of the first
   later : (k : ℕ) → sourceBit n 1 (quarterSource n k) ≡ quarterSource n (m + k)
   unfolding quarterSource
   later k =
@@ -102,7 +102,7 @@ module _ (n : ℕ) (some : 0 < n) where
         let small = from-below f (λ k. bit-small c (quarterSource n k)) m in
         after ∙ sym (ap₂ (λ (x y : ℕ). x + y * 2 ^ (3 * m)) (ap (λ (w : ℕ). w / 2 ^ m) before ∙ high others m small) (ap (λ (w : ℕ). w % 2 ^ m) before ∙ low others m small) ∙ omega arith)
 
-  -- no turn, and two and three
+  -- no turn, two and three
   module _ (c : ℕ) where
     pub no-turn : quarters n (turned n 0 c) ≡ quarters n c
     unfolding source

@@ -1,5 +1,4 @@
-// Whether two codes look alike: one is the other after some number of quarter turns (document 02, 2.2). Uses `matcher`, `sorting`, and for its
-// definitions and laws `integers`.
+// Checks that no two marker codes are equal up to rotation (document 02, 2.2).
 ghost use mathlib.Core.Path.{_≡_};
 ghost use mathlib.Core.Bool.{not};
 ghost use Prim.Native.Nat.{_≤_, _<_, min};
@@ -9,7 +8,7 @@ ghost use Rattle.alike.specs.Quarters.{HasLeast};
 
 mod quarters;
 
-// The least turns of the first codes; a code past the last counts as 0.
+// The canonical keys of the first codes; a code past the last is 0.
 fn put_least(least: &mut [u64; 512], codes: &[u64], n: usize, bits: u8)
     requires { ⌜ (1 ≤ bits) × (bits ≤ 8) × (n ≤ 512) × (length (now least) ≡ 512) ⌝ }
     ensures size { λ _. ⌜ length (now (least .exit)) ≡ 512 ⌝ }
@@ -32,7 +31,7 @@ fn code_at(codes: &[u64], k: usize) -> u64
     0
 }
 
-// Are no two of the first `count` codes alike? No board has more than 512 markers, so no more are looked at.
+// Are no two of the first `count` codes equal up to rotation? Reads at most 512, the most markers of a board.
 pub fn none_alike(bits: u8, codes: &[u64], count: usize) -> bool
     requires { ⌜ (1 ≤ bits) × (bits ≤ 8) ⌝ }
     ensures { λ r. ⌜ r ≡ not (twoAlike bits (now (codes .entry)) (min count 512)) ⌝ }

@@ -1,4 +1,4 @@
-// The quarters of a code and the least of its turns.
+// The quarters of a code and its canonical key under rotation.
 ghost use mathlib.Core.Path.{_≡_};
 ghost use Prim.Native.Nat.{ℕ, _*_, _^_, _<_, _≤_, min};
 ghost use lib.ListN.{getD};
@@ -6,7 +6,7 @@ ghost use Rattle.matcher.specs.Codes.{bit, fromBits};
 ghost use Rattle.alike.specs.Quarters.{quarter as quarterOf, quarterSource, QuarterSources, movedOn, leastTurn};
 use matcher::Place;
 
-// How many bits a quarter has.
+// The number of bits of a quarter.
 fn quarter(bits: u8) -> usize
     requires { ⌜ bits ≤ 8 ⌝ }
     ensures { λ r. ⌜ r ≡ quarterOf bits ⌝ }
@@ -15,7 +15,7 @@ fn quarter(bits: u8) -> usize
     half * half
 }
 
-// Which bit of the code bit k of its quarters is.
+// The bit of the code that bit k of its quarters is.
 fn source(bits: u8, k: usize) -> u8
     requires { ⌜ (1 ≤ bits) × (bits ≤ 8) × (k < 64) ⌝ }
     ensures { λ r. ⌜ r ≡ quarterSource bits k ⌝ }
@@ -49,7 +49,7 @@ pub fn sources(bits: u8) -> [u8; 64]
     sources
 }
 
-// The number of the bits that a list names, `count` of them.
+// The number formed by the first `count` bits that `sources` selects.
 fn picked(sources: &[u8; 64], count: usize, code: u64) -> u64
     requires { ⌜ (count ≤ 64) × ((k : ℕ) → k < count → getD (now sources) k 0 < 64) ⌝ }
     ensures { λ r. ⌜ r ≡ fromBits (λ (k : ℕ). bit code (getD (now (sources .entry)) k 0)) count ⌝ }
@@ -81,7 +81,7 @@ pub fn lesser(a: u64, b: u64) -> u64
     b
 }
 
-// The least of the four turns, by the sources of the side.
+// The canonical key of a code: the least number of the four rotations.
 pub fn least_turn(sources: &[u8; 64], bits: u8, code: u64) -> u64
     requires { ⌜ (1 ≤ bits) × (bits ≤ 8) × QuarterSources bits (4 * quarterOf bits) (now sources) ⌝ }
     ensures { λ r. ⌜ r ≡ leastTurn bits code ⌝ }

@@ -1,4 +1,4 @@
--- What the board's questions tell of a specification and its codes, and how an entry's own questions follow them. Assumes nothing.
+-- What the board's questions imply for a specification and its codes, and how an entry point's own questions follow them. Assumes nothing.
 use mathlib.Core.Path.{_≡_, refl, sym, ap, ap₂, _∙_}
 use mathlib.Core.Bool.{Bool, true, false, _&&_}
 use mathlib.Core.List.{List, [], _∷_}
@@ -27,7 +27,7 @@ use Rattle.board.specs.Questions.{sizeAnswer, cellSizeAnswer, markerSize
 use Rattle.board.proofs.Laws.{same-count}
 use Rattle.board.specs.Questions.{boardOf, askedOfSize, askedOfBoard, madeUnless, sizedBoard, judgedBy, newBoard}
 
--- ---- the list of questions
+-- ---- the sequence of questions
 size-goes-on : (s : CharucoBoardSpec) (count : ℕ) → GoesOn (askedOfSize s count)
 unfolding askedOfSize
 size-goes-on s count =
@@ -54,7 +54,7 @@ pub refused-if : (o : Option Refusal) (s : CharucoBoardSpec) (r : Refusal) → m
 refused-if none s r e = let z : _≡_ {A = ℕ} 0 1 = cc in absurd (omega arith)
 refused-if (some q) s r e = cc
 
--- then the rest is asked, or the refusal stands
+-- then the rest is checked, or the refusal is the result
 module _ (s : CharucoBoardSpec) (codes : List ℕ) (rest : Option Refusal) where
   pub after-made : (b : Board) → newBoard s codes ≡ new.Made b → askedOfBoard s codes rest ≡ rest
   after-made b e = rest-asked (askedOfBoard s codes) (board-goes-on s codes) rest (made-if (askedOfBoard s codes none) s b e .0)
@@ -126,7 +126,7 @@ sized-bits s count b e =
     let r = sized s count none (m .0) .0 .in-range in
     rw (m .1) (r .some-bits, r .bits)
 
--- and its markers: question 22 takes 512 at most
+-- and its markers: question 22 reads at most 512
 pub sized-few : (s : CharucoBoardSpec) (count : ℕ) (b : Board) → sizedBoard s count ≡ new.Made b → markerTotal b ≤ 512
 sized-few s count b e =
     let m = made-if (askedOfSize s count none) s b e in
@@ -146,7 +146,7 @@ codes-below bits [] e k h = absurd (omega arith)
 codes-below bits (c ∷ cs) e zero h = ltb→lt c (2 ^ (bits * bits)) (rw (both (codeInRange bits c) (codesAnswer bits cs) e .0) tt)
 codes-below bits (c ∷ cs) e (suc k) h = codes-below bits cs (both (codeInRange bits c) (codesAnswer bits cs) e .1) k (le-of-suc-le-suc h)
 
--- asked of a board that passed 1 to 7, or not any more
+-- for a board that passed 1 to 7, and for one that did not
 module _ (s : CharucoBoardSpec) (codes : List ℕ) where
   pub then-codes : (b : Board) (below apart : Bool) → new.Made b ≡ sizedBoard s (length codes) → below ≡ codesAnswer (b .bits) codes
       → apart ≡ apartAnswer b codes → judgedBy below apart b ≡ newBoard s codes
@@ -189,7 +189,7 @@ asked s codes rest e =
 pub made : (s : CharucoBoardSpec) (codes : List ℕ) (b : Board) → newBoard s codes ≡ new.Made b → Asked s codes × (b ≡ boardOf s)
 made s codes b e = let m = made-if (askedOfBoard s codes none) s b e in (asked s codes none (m .0) .0, m .1)
 
--- why a user wants question 22: on a board that was made, a code that is read exactly names at most one marker, whatever the turn
+-- the purpose of question 22: on a board that was made, an exactly read code is that of at most one marker at any turn
 pub reads-one : (s : CharucoBoardSpec) (codes : List ℕ) (b : Board) → newBoard s codes ≡ new.Made b → (read m n r t : ℕ) → m < markerTotal b → n < markerTotal b
     → turned (b .bits) r (getD codes m 0) ≡ read → turned (b .bits) t (getD codes n 0) ≡ read → m ≡ n
 reads-one s codes b e read m n r t hm hn x y =

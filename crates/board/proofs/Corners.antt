@@ -12,7 +12,7 @@ use Rattle.board.specs.Layout.{inner, cornerCount}
 use Rattle.board.proofs.Counting.{one-true, one-false}
 use Rattle.board.proofs.Places.{Has}
 
--- the places of one row: those of the rows above, and those of this row
+-- the places up to one in a row: those of the rows above, and those of this row
 count-row : (t : ℕ → ℕ → Bool) (w j i : ℕ) → i ≤ w → countPassing (byRank t w) (j * w + i) ≡ countPassing (byRank t w) (j * w) + countPassing (λ x. t x j) i
 unfolding countPassing
 count-row t w j zero l = ap (countPassing (byRank t w)) (add-zero (j * w)) ∙ sym (add-zero (countPassing (byRank t w) (j * w)))
@@ -58,7 +58,7 @@ corner-number w i zero l s = absurd (omega arith)
 corner-number w i (suc j) l s =
     count-row inner w (suc j) i l ∙ omega (arith, rows-above w j, row-inner j i, less-one j (w - 1))
 
--- how many there are
+-- their count
 pub corner-total : (rows w : ℕ) → cornerCount rows w ≡ (rows - 1) * (w - 1)
 unfolding countPassing
 corner-total zero w = ap (countPassing (byRank inner w)) (zero-mul w) ∙ sym (zero-mul (w - 1))

@@ -1,4 +1,4 @@
--- Counting what passes a test: the count rises by one at each place that passes, so a place is known by the count before it.
+-- Counting what passes a test: the count increases by one at each place that passes, so the count before a place determines it.
 -- Assumes nothing.
 use mathlib.Core.Path.{_≡_, refl, sym}
 use mathlib.Core.Logic.{inl, inr}
@@ -43,7 +43,7 @@ module _ (q : ℕ → Bool) where
   count-at-most zero = omega arith
   count-at-most (suc n) = omega (arith, count-at-most n, one-small (q n))
 
-  -- the count never falls, and has risen past a place that passes
+  -- the count is nondecreasing, and greater after a place that passes
   pub count-mono : (a b : ℕ) → a ≤ b → countPassing q a ≤ countPassing q b
   count-mono a b h = le-ind (λ n. countPassing q a ≤ countPassing q n) (le-refl (countPassing q a)) (λ n k e. omega (arith, count-suc n)) b h
 
@@ -57,7 +57,7 @@ module _ (q : ℕ → Bool) where
   pub count-past : (a b : ℕ) → a < b → T (q a) → countPassing q a < countPassing q b
   count-past a b h t = omega (arith, count-mono (suc a) b h, count-suc a, one-true (q a) t)
 
-  -- no two places that pass have the same count before them
+  -- places that pass have distinct counts before them
   pub count-once : (a b : ℕ) → T (q a) → T (q b) → countPassing q a ≡ countPassing q b → a ≡ b
   count-once a b s t e = go (ltb a b) (ltb→lt a b) (nltb→le a b)
     where
@@ -65,7 +65,7 @@ module _ (q : ℕ → Bool) where
       go true h k = absurd (omega (arith, count-past a b (h tt) s))
       go false h k = elim (eq-or-lt-of-le (k tt)) [ inl p ↦ sym p | inr l ↦ absurd (omega (arith, count-past b a l t)) ]
 
-  -- each number below the count belongs to a place
+  -- each number below the count is that of a place
   pub reached : (n m : ℕ) → m < countPassing q n → Passing q n m
   unfolding countPassing
   reached zero m h = absurd (omega arith)

@@ -1,4 +1,4 @@
--- What the code of the layout needs of the numbering: a board of bytes, a coordinate that was clipped.
+-- Numbering on a board of bytes, with clipped coordinates.
 -- Assumes nothing.
 use mathlib.Core.Path.{_≡_, refl, sym, ap, ap₂, _∙_}
 use mathlib.Core.Bool.{Bool, true, false, cond, not}
@@ -13,12 +13,12 @@ use mir.ValLaws.{toZ-ofZ}
 use Rattle.board.specs.Numbering.{numberAt, numberAtℤ, clipped}
 use Rattle.board.proofs.Places.{unnumbered}
 
--- bytes have small products
+-- products of bytes are small
 pub area-small : (a b : ℕ) → a < 2 ^ 8 → b < 2 ^ 8 → a * b ≤ 65025
 area-small a b h k = mul-le-mul {n₁ = a} {m₁ = b} {n₂ = 255} {m₂ = 255} (omega arith) (omega arith)
 
 module _ (t : ℕ → ℕ → Bool) (w h : ℕ) where
-  -- clipping loses nothing
+  -- clipping keeps the number
   number-clipped : (x y : ℤ) → numberAt t w h (clipped w x) (clipped h y) ≡ numberAtℤ t w h x y
   unfolding numberAtℤ clipped
   number-clipped (negsuc i) y = unnumbered t w h w (clipped h y) (λ a b c. lt-irrefl w a)
@@ -34,7 +34,7 @@ module _ (t : ℕ → ℕ → Bool) (w h : ℕ) where
       columns false off =
           unnumbered t w h w (cond (ltb j h) j h) (λ a b c. lt-irrefl w a) ∙ sym (unnumbered t w h i j (λ a b c. omega (arith, off tt)))
 
-  -- two coordinates that were clipped as they were read from their words
+  -- two coordinates that were decoded from their words and clipped
   pub number-read : (x y : ℤ) → SFits w32 x → SFits w32 y → (a b : ℕ) → a ≡ clipped w (toZ w32 (ofZ w32 x)) → b ≡ clipped h (toZ w32 (ofZ w32 y))
       → numberAt t w h a b ≡ numberAtℤ t w h x y
   number-read x y fx fy a b ea eb =

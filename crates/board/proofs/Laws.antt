@@ -1,5 +1,5 @@
--- What a user of the layout relies on, for every size and both parities: ids and places undo each other, ids are exactly
--- 0 to count − 1, no two places share one, they rise row by row, and a marker has four corners exactly off the rim; where legacy boards
+-- The laws of the layout, for every size and both parities: ids and places are in bijection, ids are exactly
+-- 0 to count − 1 in row-major order, and a marker has four corners exactly off the rim; and which legacy boards
 -- begin with a white square. Assumes nothing.
 use mathlib.Core.Path.{_≡_, refl, sym, ap, _∙_}
 use mathlib.Core.Bool.{Bool, true, false, cond, _&&_}
@@ -24,7 +24,7 @@ use Rattle.board.proofs.Surroundings.{OffRim, off-rim}
 
 -- ---- ids
 pub record Numbering (t : ℕ → ℕ → Bool) (w h : ℕ) : Type 0 where
-  -- the place of an id and the id at a place undo each other
+  -- id and place are inverse
   pub place-of : (i j id : ℕ) → numberAt t w h i j ≡ numbered.Id id → placeNumbered t w h id ≡ located.At i j
   pub id-of : (i j id : ℕ) → placeNumbered t w h id ≡ located.At i j → numberAt t w h i j ≡ numbered.Id id
   -- the ids are exactly 0 to count − 1
@@ -33,7 +33,7 @@ pub record Numbering (t : ℕ → ℕ → Bool) (w h : ℕ) : Type 0 where
   pub unknown : (id : ℕ) → total t w h ≤ id → placeNumbered t w h id ≡ located.Absent
   -- no two places share an id
   pub once : (i j i' j' id : ℕ) → numberAt t w h i j ≡ numbered.Id id → numberAt t w h i' j' ≡ numbered.Id id → (i ≡ i') × (j ≡ j')
-  -- ids rise row by row
+  -- ids increase in row-major order
   pub rise : (i j i' j' id id' : ℕ) → numberAt t w h i j ≡ numbered.Id id → numberAt t w h i' j' ≡ numbered.Id id' → (j < j') ⊎ ((j ≡ j') × (i < i')) → id < id'
 
 numbering : (t : ℕ → ℕ → Bool) (w h : ℕ) → Numbering t w h
@@ -55,14 +55,14 @@ markers p rows cols = numbering (holdsMarker p) cols rows
 pub corners : (rows cols : ℕ) → Numbering inner cols rows
 corners rows cols = numbering inner cols rows
 
--- the id at any two whole numbers is below the count, and small on a board of at most 32 by 32 squares
+-- the id at any two integers is below the count, and small on a board of at most 32 by 32 squares
 pub id-below : (p rows cols : ℕ) (i j : ℤ) (id : ℕ) → markerAt p rows cols i j ≡ numbered.Id id → id < markerCount p rows cols
 unfolding numberAtℤ
 id-below p rows cols (pos i) (pos j) id e = markers p rows cols .below i j id e
 id-below p rows cols (pos i) (negsuc j) id e = let z : _≡_ {A = ℕ} 0 1 = cc in absurd (omega arith)
 id-below p rows cols (negsuc i) j id e = let z : _≡_ {A = ℕ} 0 1 = cc in absurd (omega arith)
 
--- no two squares share an id, wherever they are asked for
+-- no two squares share an id, at any two integers
 pub id-once : (p rows cols : ℕ) (i j i' j' : ℤ) (id : ℕ) → markerAt p rows cols i j ≡ numbered.Id id → markerAt p rows cols i' j' ≡ numbered.Id id → (i ≡ i') × (j ≡ j')
 unfolding numberAtℤ
 id-once p rows cols (pos i) (pos j) (pos i') (pos j') id e f = let o = markers p rows cols .once i j i' j' id e f in (ap pos (o .0), ap pos (o .1))
@@ -77,7 +77,7 @@ id-small b i j id r c e =
     omega (arith, id-below p (b .rows) (b .cols) i j id e, marker-total p (b .rows) (b .cols) (parity-bit b), mul-le-mul {n₂ = 32} {m₂ = 32} r c)
 
 -- ---- legacy boards. OpenCV, `setLegacyPattern`: the pattern starts "with a white box in the upper left corner if there is an even row count of
--- chessboard boxes, otherwise it starts with a black box". White squares hold markers.
+-- chessboard boxes, otherwise it starts with a black box". White squares have markers.
 pub white-top-left : (b : Board) → holdsMarker (parityOf b) 0 0 ≡ (b .«legacy_pattern» && eqb (b .rows % 2) 0)
 unfolding parityOf
 white-top-left b = go (b .«legacy_pattern» && eqb (b .rows % 2) 0)
@@ -86,7 +86,7 @@ white-top-left b = go (b .«legacy_pattern» && eqb (b .rows % 2) 0)
     go true = refl
     go false = refl
 
--- with an odd row count the mark changes nothing
+-- with an odd row count the legacy flag changes nothing
 pub odd-rows : (b : Board) → b .rows % 2 ≡ 1 → parityOf b ≡ oddParity
 unfolding parityOf
 odd-rows b e = rw e (go (b .«legacy_pattern»))
@@ -95,7 +95,7 @@ odd-rows b e = rw e (go (b .«legacy_pattern»))
     go true = refl
     go false = refl
 
--- and so, marked or not, a board has as many markers: half of its squares, rounded down
+-- so the legacy flag does not change the number of markers: half of the squares, rounded down
 pub same-count : (b : Board) → markerTotal b ≡ b .rows * b .cols / 2
 unfolding parityOf
 same-count b = go (b .«legacy_pattern») (eqb (b .rows % 2) 0) refl
@@ -126,7 +126,7 @@ pub record Four (rows cols i j a b c d : ℕ) : Type 0 where
   pub bottom-left : numberAt inner cols rows i (suc j) ≡ numbered.Id d
 
 module _ (p rows cols id i j : ℕ) (square : squareOf p rows cols id ≡ located.At i j) where
-  -- where there are four, they are the inner corners of the marker's square
+  -- if there are four, they are the inner corners of the marker's square
   pub four-are : (a b c d : ℕ) → fourCorners p rows cols id ≡ surrounding.Corners a b c d → Four rows cols i j a b c d
   four-are a b c d e =
       let corner = numberAt inner cols rows in

@@ -1,4 +1,4 @@
--- The formulas for markers: of each two ranks 2m and 2m + 1 one holds marker m. For both parities and every size.
+-- The formulas for markers: of each two ranks 2m and 2m + 1 one has marker m. For both parities and every size.
 -- Assumes nothing.
 use mathlib.Core.Path.{_≡_, refl, ap, _∙_}
 use mathlib.Core.Bool.{Bool, true, false, not, cond, _&&_}
@@ -32,7 +32,7 @@ alternate w m some = go (w % 2) refl (mod-lt w (lit< tt))
     whole : a * w + r ≡ 2 * m
     whole = div-add-mod' (2 * m) w
 
-    -- an even width: the two squares stand side by side
+    -- an even width: the two squares are adjacent
     beside : (c : ℕ) → w ≡ 2 * c → side w (2 * m) + side w (2 * m + 1) ≡ 1
     beside c e =
         let s : r + 1 < w = omega (arith, whole, ap (λ (n : ℕ). a * n) e, mod-lt (2 * m) some) in
@@ -78,11 +78,11 @@ module _ (p w : ℕ) (bit : p < 2) (some : 0 < w) where
       ap (countPassing q) two
       ∙ omega (arith, count-even m, one-of (side w (2 * m)) (side w (2 * m + 1)) p (alternate w m some) bit, ap (λ (n : ℕ). asOne (q n)) (add-one (2 * m)))
 
-  -- one square on: as many, where the first of the two holds no marker
+  -- one square on: as many, if the first of the two has no marker
   count-odd : (m : ℕ) → countPassing q (2 * m + 1) ≡ m + asOne (q (2 * m))
   count-odd m = rw add-one (omega (arith, count-suc q (2 * m), count-even m))
 
-  -- the number of markers before a square that holds one
+  -- the number of markers before a square that has one
   pub marker-number : (k : ℕ) → T (q k) → countPassing q k ≡ k / 2
   marker-number k y = go (k % 2) refl (mod-lt k (lit< tt))
     where
@@ -95,7 +95,7 @@ module _ (p w : ℕ) (bit : p < 2) (some : 0 < w) where
           ap (countPassing q) whole ∙ omega (arith, count-odd (k / 2), one-false (q (2 * (k / 2))) free)
       go (suc (suc b)) e l = absurd (omega arith)
 
-  -- how many markers a board has
+  -- the number of markers of a board
   last-free : (rows m : ℕ) → rows * w ≡ 2 * m + 1 → side w (2 * m) ≡ 0
   last-free zero m e = absurd (omega arith)
   last-free (suc r) m e =
@@ -136,7 +136,7 @@ module _ (p w : ℕ) (bit : p < 2) (some : 0 < w) where
           ∙ omega (arith, count-odd m, ap (λ (n : ℕ). asOne (eqb n p)) (last-free rows m whole), corner p bit)
       go (suc (suc b)) e l = absurd (omega arith)
 
-  -- the square of a marker: rank 2m, or the next where that holds none
+  -- the square of a marker: rank 2m, or the next if that has none
   module _ (rows m : ℕ) (known : m < markerCount p rows w) where
     pub even-square : side w (2 * m) ≡ p → Has (holdsMarker p) w rows (2 * m % w) (2 * m / w) m
     even-square e =

@@ -1,4 +1,4 @@
--- Which squares hold markers, for either parity: squares agree or differ by the parity of i + j, so of two side by side one does. Assumes nothing.
+-- Which squares have markers, for either parity: it depends on the parity of i + j, so of two adjacent squares one does. Assumes nothing.
 use mathlib.Core.Path.{_≡_, refl, sym, ap, _∙_}
 use mathlib.Core.Bool.{Bool, true, false, not, false≢true}
 use Prim.Native.Nat.{ℕ, _+_, _%_, _<_}
@@ -27,7 +27,7 @@ module _ (p i j : ℕ) where
   pub right-of : p < 2 → holdsMarker p (i + 1) j ≡ not (holdsMarker p i j)
   right-of bit = differ bit (i + 1) j (omega arith)
 
-  -- a square moved by (a, b) agrees with itself or with the one on its right, as a + b is even or odd
+  -- a square moved by (a, b) agrees with itself or with its right neighbour, as a + b is even or odd
   pub moved-even : (a b : ℕ) → (a + b) % 2 ≡ 0 → holdsMarker p (i + a) (j + b) ≡ holdsMarker p i j
   moved-even a b e = agree (i + a) (j + b) (omega (arith, e))
 

@@ -1,4 +1,4 @@
--- Numbers and places undo each other, for every test and every size of the grid. Assumes nothing.
+-- Numbers and places are inverse, for every test and every size of the grid. Assumes nothing.
 use mathlib.Core.Path.{_≡_, refl, sym, ap, ap₂, _∙_}
 use mathlib.Core.Logic.{_⊎_, inl, inr}
 use mathlib.Core.Bool.{Bool, true, false, not, _&&_}
@@ -52,7 +52,7 @@ module _ (t : ℕ → ℕ → Bool) (w h : ℕ) where
       go true never = absurd (never tt)
       go false never = refl
 
--- ---- the search finds the place, and nothing else
+-- ---- the search finds only the place
 module _ (t : ℕ → ℕ → Bool) (w m : ℕ) where
   -- rank k passes with m before it
   abbrev hit : ℕ → Bool
@@ -102,7 +102,7 @@ module _ (t : ℕ → ℕ → Bool) (w h m : ℕ) where
       wide zero l = absurd (omega arith)
       wide (suc x) l = omega arith
 
-  -- the place of a number: a place that has it is the one that the search finds
+  -- a place that has the number is the one that the search finds
   pub has-place : (i j : ℕ) → Has t w h i j m → placeNumbered t w h m ≡ located.At i j
   has-place i j p =
       let k = j * w + i in
@@ -111,7 +111,7 @@ module _ (t : ℕ → ℕ → Bool) (w h m : ℕ) where
       search-finds t w m (h * w) k (digits-lt (p .row) (p .column)) (hit-is t w m k (rw (column, row) (p .passes)) (p .number))
       ∙ ap₂ located.At column row
 
-  -- a number below the total belongs to a place, and no other does
+  -- a number below the total is that of exactly one place
   pub record Place : Type 0 where
     pub i : ℕ
     pub j : ℕ
@@ -135,7 +135,7 @@ module _ (t : ℕ → ℕ → Bool) (w h m : ℕ) where
       let e = p .number in
       omega arith
 
-  -- the number of a place and the place of a number undo each other
+  -- the number of a place and the place of a number are inverse
   pub place-of-number : (i j : ℕ) → numberAt t w h i j ≡ numbered.Id m → placeNumbered t w h m ≡ located.At i j
   place-of-number i j e = has-place i j (number-has t w h i j m e)
 
@@ -154,14 +154,14 @@ module _ (t : ℕ → ℕ → Bool) (w h m : ℕ) where
 pub place-has-number : (t : ℕ → ℕ → Bool) (w h m i j : ℕ) → placeNumbered t w h m ≡ located.At i j → Has t w h i j m
 place-has-number t w h m i j e = number-has t w h i j m (number-of-place t w h m i j e)
 
--- no two places have one number
+-- distinct places have distinct numbers
 pub numbers-differ : (t : ℕ → ℕ → Bool) (w h i j i' j' m : ℕ) → numberAt t w h i j ≡ numbered.Id m → numberAt t w h i' j' ≡ numbered.Id m → (i ≡ i') × (j ≡ j')
 numbers-differ t w h i j i' j' m a b =
     let p = place-of-number t w h m i j a in
     let p' = place-of-number t w h m i' j' b in
     (cc, cc)
 
--- of two places that have numbers, the one that comes first row by row has the lesser
+-- numbers increase in row-major order
 pub numbers-rise : (t : ℕ → ℕ → Bool) (w h i j i' j' m m' : ℕ) → numberAt t w h i j ≡ numbered.Id m → numberAt t w h i' j' ≡ numbered.Id m'
     → (j < j') ⊎ ((j ≡ j') × (i < i')) → m < m'
 numbers-rise t w h i j i' j' m m' a b first =

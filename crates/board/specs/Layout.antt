@@ -15,7 +15,7 @@ use Rattle.board.specs.declared.Surrounding.{Surrounding}
 use Rattle.board.specs.declared.Surrounding.the-variants as surrounding
 use Rattle.board.specs.Numbering.{numberAt, numberAtℤ, total, placeNumbered}
 
--- The squares that hold markers: those whose i + j has the parity p.
+-- The squares that have markers: those whose i + j has the parity p.
 abbrev pub holdsMarker : ℕ → ℕ → ℕ → Bool
 holdsMarker p i j = eqb ((i + j) % 2) p
 
@@ -25,13 +25,13 @@ evenParity = 0
 abbrev pub oddParity : ℕ
 oddParity = 1
 
--- The parity of a board, in this one place. Document 01: "Squares with i + j odd hold markers." Document 02: a legacy board with an even row count
+-- The only definition of a board's parity. Document 01: "Squares with i + j odd hold markers." Document 02: a legacy board with an even row count
 -- begins with a white square at the top left, "There the markers sit on squares with i + j even … With an odd row count nothing differs."
--- Folded: no proof of a crate above uses which one it is, but for the worked examples.
+-- Folded: apart from the worked examples, no proof of a crate above depends on which one it is.
 unfoldable pub parityOf : Board → ℕ
 parityOf b = cond (b .«legacy_pattern» && eqb (b .rows % 2) 0) evenParity oddParity
 
--- Markers are numbered row by row from 0.
+-- Markers are numbered in row-major order from 0.
 abbrev pub markerCount : ℕ → ℕ → ℕ → ℕ
 markerCount p rows cols = total (holdsMarker p) cols rows
 
@@ -42,7 +42,7 @@ abbrev pub squareOf : ℕ → ℕ → ℕ → ℕ → Located
 squareOf p rows cols id = placeNumbered (holdsMarker p) cols rows id
 
 -- Corner (i, j) is the top left corner of square (i, j). The inner corners are those with 1 ≤ i < cols and 1 ≤ j < rows;
--- they are numbered row by row from 0.
+-- they are numbered in row-major order from 0.
 abbrev pub inner : ℕ → ℕ → Bool
 inner i j = ltb 0 i && ltb 0 j
 
@@ -64,7 +64,7 @@ scaledPoint size located.Absent = object.Absent
 abbrev pub objectPoint : ℕ → ℕ → Float → ℕ → ObjectPoint
 objectPoint rows cols size id = scaledPoint size (cornerPlace rows cols id)
 
--- the four corners of a square: top left, top right, bottom right, bottom left, where each is an inner corner
+-- the four corners of a square: top left, top right, bottom right, bottom left, if all are inner
 abbrev pub allFour : Numbered → Numbered → Numbered → Numbered → Surrounding
 allFour (numbered.Id a) (numbered.Id b) (numbered.Id c) (numbered.Id d) = surrounding.Corners a b c d
 allFour (numbered.Id a) (numbered.Id b) (numbered.Id c) numbered.Absent = surrounding.Absent

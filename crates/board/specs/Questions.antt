@@ -1,4 +1,4 @@
--- Document 01, "The questions asked": the board's questions, 1 to 8 in order, and 22 of document 02 behind them. The first no ends them with its refusal.
+-- Document 01, "The questions asked": the board's questions, 1 to 8 in order, then 22 of document 02. The first that fails is the result.
 use Prim.Native.Nat.{ℕ, _*_, _^_}
 use mathlib.Core.Bool.{Bool, true, false, not, _&&_}
 use mathlib.Core.List.{List, [], _∷_}
@@ -42,7 +42,7 @@ abbrev pub codesAnswer : ℕ → List ℕ → Bool
 codesAnswer bits [] = true
 codesAnswer bits (code ∷ codes) = codeInRange bits code && codesAnswer bits codes
 
--- the board of a specification that no question refuses
+-- the board of a specification that passes every question
 abbrev pub boardOf : CharucoBoardSpec → Board
 boardOf s =
     record {
@@ -60,7 +60,7 @@ boardOf s =
 abbrev pub apartAnswer : Board → List ℕ → Bool
 apartAnswer b codes = not (twoAlike (b .bits) codes (markerTotal b))
 
--- questions 1 to 7, which ask of the codes only how many there are, then the rest
+-- questions 1 to 7, which need only the number of codes, then the rest
 unfoldable pub askedOfSize : CharucoBoardSpec → ℕ → Option Refusal → Option Refusal
 askedOfSize s count rest =
     ask (sizeAnswer (s .rows) (s .cols)) refusal.InvalidSize
@@ -72,7 +72,7 @@ askedOfSize s count rest =
     (ask (leb (markerTotal (boardOf s)) count) (refusal.NotEnoughDictionaryCodes (markerTotal (boardOf s)) count)
     rest))))))
 
--- questions 1 to 8 and 22, then the rest: an entry's own questions
+-- questions 1 to 8 and 22, then the rest: an entry point's own questions
 unfoldable pub askedOfBoard : CharucoBoardSpec → List ℕ → Option Refusal → Option Refusal
 askedOfBoard s codes rest =
     askedOfSize s (length codes)
@@ -80,7 +80,7 @@ askedOfBoard s codes rest =
     (ask (apartAnswer (boardOf s) codes) refusal.CodesAlike
     rest))
 
--- the board, unless a question refuses it
+-- the board, unless a question fails
 abbrev pub madeUnless : Option Refusal → CharucoBoardSpec → NewBoard
 madeUnless none s = new.Made (boardOf s)
 madeUnless (some refused) s = new.Refused refused
@@ -88,7 +88,7 @@ madeUnless (some refused) s = new.Refused refused
 abbrev pub sizedBoard : CharucoBoardSpec → ℕ → NewBoard
 sizedBoard s count = madeUnless (askedOfSize s count none) s
 
--- a board that passed 1 to 7, by the answers to 8 and 22
+-- a board that passed 1 to 7, by the results of 8 and 22
 abbrev pub judgedBy : Bool → Bool → Board → NewBoard
 judgedBy false apart b = new.Refused refusal.CodeOutOfRange
 judgedBy true false b = new.Refused refusal.CodesAlike

@@ -1,4 +1,4 @@
-// The layout as formulas on a board's parity, rows and cols. Square (i, j) has rank j cols + i, row by row; of each two ranks
+// The layout as formulas on a board's parity, rows and cols. Square (i, j) has row-major index (rank) j cols + i; of each two ranks
 // 2m and 2m + 1 one holds marker m, for either parity.
 ghost use mathlib.Core.Path.{_≡_};
 ghost use Prim.Native.Nat.{_+_, _*_, _/_, _^_, _<_, _≤_};
@@ -11,7 +11,7 @@ use super::Numbered;
 use super::ObjectPoint;
 use super::Surrounding;
 
-// A coordinate that is off the board, before its first place or after its last, as the first place after the last.
+// A coordinate off the board, on either side, becomes `limit`.
 pub fn clip(x: i32, limit: u8) -> u32
     ensures { λ r. ⌜ r ≡ clipped limit x ⌝ }
 {
@@ -26,14 +26,13 @@ pub fn clip(x: i32, limit: u8) -> u32
     last
 }
 
-// Whether square (i, j) holds a marker.
 pub fn holds_marker(parity: u8, i: usize, j: usize) -> bool
     ensures { λ r. ⌜ r ≡ holdsMarker parity i j ⌝ }
 {
     (i % 2 + j % 2) % 2 == parity as usize
 }
 
-// The id of the marker on a square that holds one.
+// The id of the marker on a square that has one.
 pub fn id_on(rows: u8, cols: u8, i: usize, j: usize) -> usize
     requires { ⌜ (i < cols) × (j < rows) ⌝ }
     ensures { λ r. ⌜ r ≡ (j * cols + i) / 2 ⌝ }
@@ -41,7 +40,7 @@ pub fn id_on(rows: u8, cols: u8, i: usize, j: usize) -> usize
     (j * (cols as usize) + i) / 2
 }
 
-// Half of the squares, rounded down where square (0, 0) holds no marker, else up.
+// Half of the squares, rounded down if square (0, 0) has no marker, else up.
 pub fn marker_count(parity: u8, rows: u8, cols: u8) -> u32
     requires { ⌜ parity < 2 ⌝ }
     ensures { λ r. ⌜ r ≡ markerCount parity rows cols ⌝ }
@@ -131,7 +130,7 @@ pub fn corner_place(rows: u8, cols: u8, id: u32) -> Located
     }
 }
 
-// `i` squares of a size. Up to 2²⁴ a whole number is an f32.
+// `i` squares of a size. Integers up to 2²⁴ are exact in f32.
 fn squares(i: u32, size: f32) -> f32
     requires { ⌜ i ≤ 2 ^ 24 ⌝ }
     ensures { λ r. ⌜ r ≡ mul binary32 (ofInt binary32 (pos i)) size ⌝ }
@@ -152,7 +151,7 @@ pub fn object_point(rows: u8, cols: u8, size: f32, id: u32) -> ObjectPoint
     }
 }
 
-// The four corners of square (i, j), where they are inner ones.
+// The four corners of square (i, j), if all are inner.
 fn around(rows: u8, cols: u8, i: u32, j: u32) -> Surrounding
     requires { ⌜ (i < cols) × (j < rows) ⌝ }
     ensures { λ r. ⌜ r ≡ aroundOf rows cols (Located.At i j) ⌝ }

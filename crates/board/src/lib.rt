@@ -1,5 +1,4 @@
-// The ChArUco board (board.rs): the questions 1 to 8 and 22, and the layout as formulas on a board value.
-// Uses `refusal`, `floats` and `alike`, and for its definitions and laws `matcher` and `integers`.
+// Checks a ChArUco board's specification and codes (questions 1 to 8 and 22) and computes its layout by formulas (board.rs).
 ghost use mathlib.Core.Path.{_≡_};
 ghost use Rattle.board.specs.Layout.{parityOf, holdsMarker, markerTotal, markerOn, markerSquare, surroundingCorners};
 ghost use Rattle.board.specs.Layout.{cornerCount, cornerAt, cornerPlace, objectPoint};
@@ -11,7 +10,7 @@ pub mod squares;
 
 use refusal::Refusal;
 
-// What a board is asked for. `bits` is the side of its codes; `legacy_pattern` marks a board from before OpenCV 4.6.
+// The specification of a board. `bits` is the side of its codes; `legacy_pattern` is the legacy flag, for boards from before OpenCV 4.6.
 pub struct CharucoBoardSpec {
     pub rows: u32,
     pub cols: u32,
@@ -22,7 +21,7 @@ pub struct CharucoBoardSpec {
     pub marker_size_rel: f32,
 }
 
-// A board that passed the questions. Its methods accept every board value all the same.
+// A board that passed the questions. Its methods accept every board value.
 pub struct Board {
     pub rows: u8,
     pub cols: u8,
@@ -67,7 +66,7 @@ pub enum Surrounding {
 }
 
 impl Board {
-    // The questions 1 to 7, which ask of the codes only how many there are.
+    // The questions 1 to 7, which need only the number of codes.
     pub fn sized(spec: CharucoBoardSpec, count: usize) -> NewBoard
         ensures { λ r. ⌜ r ≡ sizedBoard spec count ⌝ }
     {
@@ -98,7 +97,7 @@ impl Board {
         NewBoard::Made(board)
     }
 
-    // A board from its specification and codes, or the first question that is answered with no.
+    // A board from its specification and codes, or the first question that fails.
     pub fn new(spec: CharucoBoardSpec, codes: &[u64]) -> NewBoard
         ensures { λ r. ⌜ r ≡ newBoard spec (now (codes .entry)) ⌝ }
     {
@@ -111,7 +110,7 @@ impl Board {
         }
     }
 
-    // The parity of i + j of the squares that hold markers.
+    // The parity of i + j of the squares that have markers.
     fn parity(self) -> u8
         ensures { λ r. ⌜ r ≡ parityOf self ⌝ }
     {
@@ -127,7 +126,7 @@ impl Board {
         layout::marker_count(self.parity(), self.rows, self.cols)
     }
 
-    // Whether square (i, j) holds a marker, if it is on the board.
+    // Does square (i, j), if it is on the board, have a marker?
     pub fn holds_marker(self, i: usize, j: usize) -> bool
         ensures { λ r. ⌜ r ≡ holdsMarker (parityOf self) i j ⌝ }
     {
@@ -166,14 +165,13 @@ impl Board {
         )
     }
 
-    // How many inner corners there are.
     pub fn corner_count(self) -> u32
         ensures { λ r. ⌜ r ≡ cornerCount (self .rows) (self .cols) ⌝ }
     {
         layout::corner_count(self.rows, self.cols)
     }
 
-    // The board corner of an inner corner's id.
+    // The board corner of an inner corner's id (`grid_from_charuco_id` of upstream's corner_mapping.rs).
     pub fn board_corner(self, id: u32) -> Located
         ensures { λ r. ⌜ r ≡ cornerPlace (self .rows) (self .cols) id ⌝ }
     {
@@ -187,7 +185,7 @@ impl Board {
         layout::object_point(self.rows, self.cols, self.cell_size, id)
     }
 
-    // The four inner corners around a marker: none for a marker on the rim or an unknown one.
+    // The four inner corners around a marker: none for an unknown marker or one on the rim.
     pub fn marker_surrounding_charuco_corners(self, id: u32) -> Surrounding
         ensures { λ r. ⌜ r ≡ surroundingCorners self id ⌝ }
     {

@@ -1,4 +1,4 @@
-// The answers to the questions 1 to 8 of document 01 and 22 of document 02 that are more than one comparison, and the board that passed them.
+// The questions 1 to 8 of document 01 and 22 of document 02 that are more than one comparison, and the board that passed them.
 ghost use mathlib.Core.Path.{_≡_};
 ghost use Prim.Native.Nat.{_≤_, min};
 ghost use Rattle.board.specs.Questions.{sizeAnswer, cellSizeAnswer, markerSizeAnswer, rangeAnswer, codeInRange, codesAnswer, boardOf, judgedBy};
@@ -49,7 +49,7 @@ pub fn range(spec: CharucoBoardSpec, codes: usize) -> bool
     codes <= 1024
 }
 
-// Is a code below 2^(bits²)?
+// Is the code below 2^(bits²)?
 pub fn code(bits: u8, code: u64) -> bool
     requires { ⌜ (1 ≤ bits) × (bits ≤ 8) ⌝ }
     ensures { λ r. ⌜ r ≡ codeInRange bits code ⌝ }
@@ -58,7 +58,7 @@ pub fn code(bits: u8, code: u64) -> bool
     code >> top <= 1
 }
 
-// Is every code?
+// Question 8: is every code?
 pub fn codes(bits: u8, codes: &[u64]) -> bool
     requires { ⌜ (1 ≤ bits) × (bits ≤ 8) ⌝ }
     ensures { λ r. ⌜ r ≡ codesAnswer bits (now (codes .entry)) ⌝ }
@@ -73,8 +73,8 @@ pub fn codes(bits: u8, codes: &[u64]) -> bool
     true
 }
 
-// The questions 8 and 22 of a board that passed those before: the answer to 8 is given, and 22 is asked of the codes, of which those that markers use
-// stand first.
+// The questions 8 and 22 of a board that passed those before: `in_range` is the result of 8, and 22 checks the codes, those of the markers
+// being first.
 pub fn judged(board: Board, in_range: bool, codes: &[u64]) -> NewBoard
     requires { ⌜ (1 ≤ board .bits) × (board .bits ≤ 8) ⌝ }
     ensures { λ r. ⌜ r ≡ judgedBy «in_range» (not (twoAlike (board .bits) (now (codes .entry)) (min (markerTotal board) 512))) board ⌝ }

@@ -1,4 +1,4 @@
-// The id of the marker on a square, for callers that know that the square is on the board and holds one.
+// The id of the marker on a square that is known to be on the board and to have one.
 ghost use mathlib.Core.Path.{_≡_};
 ghost use Prim.Native.Nat.{_*_, _<_};
 ghost use lib.IntN.{pos};

@@ -1,4 +1,4 @@
--- Demand 3 of the answer to every record. Assumes nothing.
+-- Demand 3 for the result of every record. Assumes nothing.
 use mathlib.Core.Path.{_≡_, refl, subst, _∙_}
 use mathlib.Core.Bool.{Bool, true, false, cond}
 use mathlib.Core.List.{List}
@@ -51,7 +51,7 @@ module _ (s : Shot) (p : PassedShot s) (b : Hypothesis) (is : best s ≡ choice.
         count = count-is s;
       }
 
--- ---- by what refuses the shot
+-- ---- from the error of the shot
 some-emitted : (s : Shot) → askedFrom15 s ≡ none → 0 < length (markersOf s)
 unfolding askedFrom15
 some-emitted s e =
@@ -59,7 +59,7 @@ some-emitted s e =
     let q16 = answered (marginAnswer s) _ _ (q15 .1) in
     ltb-true 0 (length (markersOf s)) (answered (markersAnswer s) _ _ (q16 .1) .0)
 
--- a record that is placed at b
+-- a record placed at b
 pub record PlacedAt (bytes lent : List ℕ) (b : Hypothesis) : Type 0 where
   pub whole : wholeRecord bytes ≡ true
   pub passes-all : refusedBy (shot bytes) (length lent) ≡ none
@@ -68,7 +68,7 @@ pub record PlacedAt (bytes lent : List ℕ) (b : Hypothesis) : Type 0 where
   pub is : best (shot bytes) ≡ choice.Placement b
   pub some-marker : 0 < length (markers (shot bytes) (b .alignment))
 
--- of every answer, from what holds of a refusal and of a match
+-- for every result, from errors and matches
 pub of-answer : (bytes lent : List ℕ) → Small bytes → (P : Matched → Type 0) → ((r : Refusal) → P (matched.Refused r))
     → ((b : Hypothesis) → PlacedAt bytes lent b → P (matched.Placed (matchOf (shot bytes) b))) → P (matchAnswer bytes lent)
 unfolding parse

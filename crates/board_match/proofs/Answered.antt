@@ -1,4 +1,4 @@
--- The answer of the questions before 15 to a whole record: how the program comes to it, and what it tells. Assumes nothing.
+-- The result of the questions before 15 for a well-formed record: how the program computes it, and what it states. Assumes nothing.
 use mathlib.Core.Path.{_≡_, refl, sym, ap, ap₂, _∙_}
 use mathlib.Core.List.{List}
 use mathlib.Core.Option.{Option, none, some}
@@ -45,7 +45,7 @@ module _ (bytes : List ℕ) (words : ℕ) (w : Whole bytes) where
   asked-is : askedAnswer bytes words ≡ askedWith (askedBefore15 s words) s
   asked-is = ap (λ (o : Option Shot). askedWith (afterRecord o words) s) (parse-whole bytes w)
 
-  -- ---- how the program comes to it
+  -- ---- how the program computes it
   refused-with : (r : Refusal) → askedBefore15 s words ≡ some r → answered.Refused r ≡ askedAnswer bytes words
   refused-with r e = sym (asked-is ∙ ap (λ (o : Option Refusal). askedWith o s) e)
 
@@ -65,7 +65,7 @@ module _ (bytes : List ℕ) (words : ℕ) (w : Whole bytes) where
         ap₂ answered.Passed (made (specOf s) (s .codes) b (sym e) .1) f
         ∙ sym (asked-is ∙ ap (λ (o : Option Refusal). askedWith o s) (left ∙ nothing-refused (askedFrom9 s words none) q))
 
-  -- ---- what it tells
+  -- ---- what it states
   pub told-passed : (b : Board) (c : BoardMatchConfig) → answered.Passed b c ≡ askedAnswer bytes words → (askedBefore15 s words ≡ none)
       × (b ≡ boardOf (specOf s)) × (c ≡ configOf s)
   told-passed b c e = passed-if (askedBefore15 s words) s b c (sym (e ∙ asked-is))

@@ -1,4 +1,4 @@
--- The questions 12, 23 and 13 of the cells in the index are those of the shot's cells. Assumes nothing.
+-- Questions 12, 23 and 13 of the indexed cells are those of the shot's cells. Assumes nothing.
 use mathlib.Core.Path.{_≡_, refl, sym, ap, ap₂, _∙_}
 use mathlib.Core.Bool.{Bool, _&&_}
 use mathlib.Core.List.{List}
@@ -26,7 +26,7 @@ use Rattle.hypothesis.specs.Placements.{noCell, cell, cellPoint}
 use Rattle.board_match.specs.Questions.{placedAnswer, pointsAnswer, sampleAnswer, samplesAnswer}
 use Rattle.board_match.specs.Entries.{placedIn, borderAnswer, sampledIn}
 
--- a grid that fits is whole
+-- a grid that fits is complete
 border-with : (size : ℕ) (o : Option Sample) → IfSampled size o → borderAnswer (borderWith o) ≡ sampleAnswer size o
 border-with size none f = refl
 border-with size (some s) f = rw (eq-eqb (length (s .grid)) size (f .size)) refl

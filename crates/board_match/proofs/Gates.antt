@@ -1,4 +1,4 @@
--- The answer of a shot whose search chose a placement, by what the program tests. Assumes nothing.
+-- The result for a shot with a best placement, by cases of the program's tests. Assumes nothing.
 use mathlib.Core.Path.{_≡_, sym, ap, ap₂, subst, _∙_}
 use mathlib.Core.Bool.{true, false}
 use mathlib.Core.List.{List, [], _∷_, _++_, flatMap}
@@ -32,7 +32,7 @@ use Rattle.board_match.specs.Match.{marginWith, marginPasses, matchOf, G
 use Rattle.board_match.proofs.Sound.{sound}
 use Rattle.board_match.proofs.Placing.{narrow, no-markers, placed}
 
--- ---- what emission asks: the best placement's translation is small, and there is room
+-- ---- preconditions of emission: the best placement's translation is small, and there is room
 pub near-best : (bytes : List ℕ) → PassedShot (shot bytes) → (x : Selection) → enumerate (shot bytes) ≡ enumerated.Selected x
     → NearAlignment (x .best .alignment)
 near-best bytes p x e =
@@ -41,7 +41,7 @@ near-best bytes p x e =
 pub room-for : (bytes lent : List ℕ) → askedBefore15 (shot bytes) (length lent) ≡ none → 18 * cellTotal (shot bytes) ≤ length lent
 room-for bytes lent asked = sound (shot bytes) (length lent) asked .room
 
--- ---- the answers
+-- ---- the results
 match-parts : (b : Hypothesis) {r r' : Choice} {m m' : Float} {p p' : ℕ} {c c' : GridAlignment} {k k' : ℕ} → r ≡ r' → m ≡ m' → p ≡ p' → c ≡ c' → k ≡ k'
     → _≡_ {A = Match} (record { best = b; «runner_up» = r; margin = m; placements = p; corners = c; markers = k })
     (record { best = b; «runner_up» = r'; margin = m'; placements = p'; corners = c'; markers = k' })

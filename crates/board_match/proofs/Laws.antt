@@ -1,4 +1,4 @@
--- The margin gate refuses exactly below the minimum, and the corners of a match are aligned with its best placement. Assumes nothing.
+-- The check of the margin fails exactly below the minimum, and the corners of a match are aligned with its best placement. Assumes nothing.
 use mathlib.Core.Path.{_≡_, refl, sym, ap, subst, _∙_}
 use mathlib.Core.Bool.{Bool, true, false, not}
 use mathlib.Core.Option.{none, some, Option·none-ne-some, Option·some-injective}

@@ -1,4 +1,4 @@
--- The questions of Match before 15 go on with a rest. Assumes nothing.
+-- The questions of Match before 15, followed by others. Assumes nothing.
 use Prim.Native.Nat.{ℕ}
 use Rattle.refusal.proofs.Questions.{GoesOn, ask-first, ask-last, followed-by}
 use Rattle.board.specs.Questions.{askedOfBoard}

@@ -1,4 +1,4 @@
--- What the questions let pass, as the search and the accuracy rule ask it. Assumes nothing.
+-- What the questions ensure, as the search and the accuracy rule require it. Assumes nothing.
 use mathlib.Core.Path.{_≡_, sym, ap, subst, _∙_}
 use mathlib.Core.Bool.{Bool, true, false, not}
 use mathlib.Core.List.{List, [], _∷_}
@@ -20,11 +20,11 @@ use Rattle.hypothesis.specs.Accuracy as accuracy
 use Rattle.hypothesis.specs.Inputs.{PassedShot}
 use Rattle.board_match.proofs.Sound.{Sound}
 
--- past the last cell there is none
+-- after the last cell there is none
 past : (s : Shot) (k : ℕ) → cellTotal s ≤ k → cell s k ≡ noCell
 past s k h = List·getD-eq-default (s .cells) noCell h
 
--- of every k, from every cell
+-- for every k, from every cell
 every-cell : (s : Shot) (P : Cell → Type 0) → P noCell → ((k : ℕ) → k < cellTotal s → P (cell s k)) → (k : ℕ) → P (cell s k)
 every-cell s P p f k = go (ltb k (cellTotal s)) (ltb→lt k (cellTotal s)) (nltb→le k (cellTotal s))
   where
@@ -38,7 +38,7 @@ byte-below (x ∷ xs) h zero = h .0
 byte-below (x ∷ xs) h (suc i) = byte-below xs (h .1) i
 
 module _ (bytes : List ℕ) (small : Small bytes) (w : wholeRecord bytes ≡ true) (words : ℕ) (s : Sound (shot bytes) words) where
-  -- a cell's sample, by what the record's bytes allow and question 13 lets pass
+  -- a cell's sample, as the record's bytes and question 13 restrict it
   abbrev SampleSound : Cell → Type 0
   SampleSound c = (x : Sample) → c .sample ≡ some x → accuracy.Sound x
 

@@ -1,4 +1,4 @@
--- The questions 15 to 17 and the answer of a shot that passed those before. Assumes nothing.
+-- Questions 15 to 17 and the result of a shot that passed those before. Assumes nothing.
 use mathlib.Core.Path.{_≡_, refl, sym, ap, _∙_}
 use mathlib.Core.Bool.{Bool, true, false}
 use mathlib.Core.List.{List, flatMap}
@@ -33,7 +33,7 @@ module _ (bytes lent : List ℕ) (w : wholeRecord bytes ≡ true) where
   abbrev s : Shot
   s = shot bytes
 
-  -- by what refuses the shot
+  -- by cases of the error
   given : (o : Option Refusal) → refusedBy s (length lent) ≡ o → Gives bytes lent (answerWith o s (best s)) (atExit o (flatMap markerWords (markersOf s)) lent)
   given o e =
       let p = parse-whole bytes (passed bytes w) in
@@ -56,7 +56,7 @@ module _ (bytes lent : List ℕ) (w : wholeRecord bytes ≡ true) where
       abbrev found : List Marker
       found = markers s (b .alignment)
 
-      -- the questions 16 and 17 of the best placement
+      -- questions 16 and 17 of the best placement
       abbrev only17 : Option Refusal
       only17 = ask (ltb 0 (length found)) refusal.NoMarkers none
 
@@ -93,7 +93,7 @@ module _ (bytes lent : List ℕ) (w : wholeRecord bytes ≡ true) where
               leaves = ap (λ (c : Choice). inFront (flatMap markerWords (markersWith s c)) lent) (sym is) ∙ g .leaves;
             }
 
--- what is refused before the search, question 21 among it
+-- errors before the search, 21 among them
 pub refused-answer : (bytes lent : List ℕ) (r : Refusal) → afterRecord (parse bytes) (length lent) ≡ some r → Gives bytes lent (matched.Refused r) lent
 refused-answer bytes lent r e = record { answers = answers (parse bytes) e; leaves = leaves (parse bytes) e }
   where

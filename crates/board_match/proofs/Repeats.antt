@@ -1,4 +1,5 @@
--- A shot that passes has no two cells at one point, so that no placement puts two on one square and no marker is emitted twice. Assumes nothing.
+-- A shot that passes has no two cells with the same grid point, so no placement puts two on one square and no marker is emitted twice. Assumes
+-- nothing.
 use mathlib.Core.Path.{_≡_, sym, ap, subst, _∙_}
 use mathlib.Core.List.{List, _++_, flatMap}
 use mathlib.Core.Option.{Option}
@@ -29,7 +30,7 @@ use Rattle.board_match.proofs.Accurately.{PlacedAt, of-answer}
 pub one-square-each : SquaresRule
 one-square-each s words asked p i j l h e = sound s words asked .apart i j l h (applied-once p (cellPoint s i) (cellPoint s j) e)
 
--- ---- the list at exit
+-- ---- the output array at exit
 module _ (bytes lent : List ℕ) (b : Hypothesis) (p : PlacedAt bytes lent b) where
   abbrev s : Shot
   s = shot bytes

@@ -1,4 +1,4 @@
--- The numbers of every answer of Match are small: there is at most one marker for each cell. Assumes nothing.
+-- The numbers of every result of Match are small: there is at most one marker for each cell. Assumes nothing.
 use mathlib.Core.Path.{_≡_, refl}
 use mathlib.Core.List.{map}
 use Prim.Native.Nat.{_≤_}
@@ -24,7 +24,7 @@ use Rattle.board_match.specs.Sizes.{SmallHypothesis, SmallRunnerUp, Smal
 use Rattle.board_match.proofs.Accurately.{of-answer}
 
 module _ (s : Shot) (p : PassedShot s) where
-  -- a placement of the shot, with its own count
+  -- a placement of the shot, with its count
   small-hypothesis : (h : Hypothesis) → Placement s (h .alignment) → h .«contributing_cells» ≡ contributingCells s (h .alignment)
       → SmallHypothesis (cellTotal s) h
   small-hypothesis h placed e =

@@ -1,5 +1,5 @@
--- Demand 3 of an answer of Match: of every placement of a placed shot, and of those that the answer shows; the counts of contributing cells
--- (document 02, 2.5) likewise. And what question 16 lets pass.
+-- Demand 3 for a result of Match: for every placement of a placed shot, and for those in the result; likewise the counts of contributing cells
+-- (document 02, 2.5). And which margins pass question 16.
 use mathlib.Core.Path.{_≡_}
 use mathlib.Core.List.{List}
 use mathlib.Core.Option.{none, some}
@@ -26,11 +26,11 @@ use Rattle.board_match.specs.Questions.{askedBefore15}
 use Rattle.board_match.specs.Match.{marginOf, minimum, refusedBy}
 
 pub record PlacedAccurately (s : Shot) (m : Match) : Type 0 where
-  -- of every placement: reported none exactly when exact none, finite and within the bound, and a true lead
+  -- every placement: reported none exactly when exact none, finite and within the bound, and a true lead
   pub accurate : AccurateEvidence s
-  -- of every alignment: what the count of its contributing cells is, and that its evidence is none exactly when that is 0
+  -- every alignment: the count of its contributing cells, and that its evidence is none exactly when that is 0
   pub counts : (p : GridAlignment) → CountsCells s p
-  -- the best is that of the search: a placement, with its count and the evidence reported for it, which is a number
+  -- the best is that of the search: a placement, with its count and its reported evidence, which is a number
   pub best-is : best s ≡ choice.Placement (m .best)
   pub best-placed : Placement s (m .best .alignment)
   pub best-reported : m .best .evidence ≡ reported s (m .best .alignment)
@@ -39,7 +39,7 @@ pub record PlacedAccurately (s : Shot) (m : Match) : Type 0 where
   pub best-number : m .best .evidence ≡ evidence.Number number
   -- the runner-up, where there is one
   pub runner-up : (g : Hypothesis) → m .«runner_up» ≡ choice.Placement g → RunsUp s (m .best) g
-  -- the count of placements, by document 01's formula
+  -- the number of placements, by document 01's formula
   pub count : m .placements ≡ countOf s
 
 abbrev pub Accuracy : List ℕ → Matched → Type 0
@@ -47,11 +47,11 @@ Accuracy bytes (matched.Refused refused) = Unit {0}
 Accuracy bytes (matched.Placed m) = PlacedAccurately (shot bytes) m
 
 -- ---- question 16
--- of a shot that the questions before let pass, where some placement fits
+-- of a shot that passes the questions before it and has a placement
 pub record Gate (s : Shot) (words : ℕ) : Type 0 where
   -- the margin is a number, so that it is either below the minimum or not
   pub number : T (not (isNan (marginOf s)))
-  -- below it the shot is refused with its margin, else no margin refuses it
+  -- below the minimum the shot is refused with its margin, else not for its margin
   pub refuses : lt (marginOf s) (minimum s) ≡ true → refusedBy s words ≡ some (refusal.Margin (marginOf s))
   pub lets-pass : lt (marginOf s) (minimum s) ≡ false → (m : Float) → refusedBy s words ≡ some (refusal.Margin m) → ⊥
 

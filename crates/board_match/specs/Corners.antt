@@ -1,4 +1,4 @@
--- What a match says of the corners.
+-- The corners of a match.
 use Prim.Native.Nat.{ℕ, _<_}
 use mathlib.Core.Path.{_≡_}
 use mathlib.Core.List.{List}
@@ -13,7 +13,7 @@ pub record CornersAligned (m : Match) : Type 0 where
   pub are : m .corners ≡ cornerAlignment (m .best .alignment)
   pub small : SmallAlignment 4127 (m .best .alignment)
 
--- for every record that is placed
+-- for every placed record
 abbrev pub CornersRule : Type 0
 CornersRule =
     (bytes lent : List ℕ) → ((i : ℕ) → getD bytes i 0 < 256) → (m : Match) → matchAnswer bytes lent ≡ matched.Placed m → CornersAligned m

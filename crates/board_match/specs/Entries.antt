@@ -1,4 +1,4 @@
--- The questions 12 and 13 of one cell, as the index has it.
+-- Questions 12 and 13 of one cell, from its entry in the index.
 use mathlib.Core.Bool.{Bool, true, _&&_}
 use mathlib.Core.List.{List}
 use Prim.Native.Nat.{ℕ}
@@ -11,7 +11,7 @@ use Rattle.board_match.specs.Questions.{fractionAnswer}
 abbrev pub placedIn : List ℕ → ℕ → Bool
 placedIn index k = isWithin 4096 (uIn index k) && isWithin 4096 (vIn index k)
 
--- of a sampled cell its fraction; that its grid is whole is known of a record that question 21 lets pass
+-- the fraction of a sampled cell; its grid is complete in a record that passes question 21
 abbrev pub borderAnswer : BorderSample → Bool
 borderAnswer border.Unsampled = true
 borderAnswer (border.BlackFraction x) = fractionAnswer x

@@ -1,4 +1,4 @@
--- Document 01, Match: the answer to every record and every lent list, and the list at exit.
+-- Document 01, Match: the result for every record and every output array, and the array at exit.
 use Prim.Native.Nat.{ℕ}
 use mathlib.Core.Path.{_≡_}
 use mathlib.Core.Bool.{Bool, not}
@@ -27,7 +27,7 @@ use Rattle.board_match.specs.declared.Matched.{Matched}
 use Rattle.board_match.specs.declared.Matched.the-variants as matched
 use Rattle.board_match.specs.Questions.{askedOfShot}
 
--- the best placement's margin, and the markers that are emitted for it
+-- the best placement's margin, and its emitted markers
 abbrev pub marginWith : Shot → Choice → Float
 marginWith s choice.Absent = nought
 marginWith s (choice.Placement b) = selection s b .margin
@@ -67,11 +67,11 @@ askedFrom15 s =
     (ask (markersAnswer s) refusal.NoMarkers
     none))
 
--- the question that is answered with no, if one is
+-- the error of the first question that fails, if one does
 abbrev pub refusedBy : Shot → ℕ → Option Refusal
 refusedBy s markerWords = askedOfShot s markerWords (askedFrom15 s)
 
--- placed: best, next, margin, count, the corner alignment and the count of markers
+-- a placed shot: best, runner-up, margin, number of placements, the corner alignment and the number of markers
 abbrev pub matchOf : Shot → Hypothesis → Match
 matchOf s b =
     record {
@@ -95,7 +95,7 @@ matchedShot (some s) markerWords = answerWith (refusedBy s markerWords) s (best 
 abbrev pub matchAnswer : List ℕ → List ℕ → Matched
 matchAnswer bytes lent = matchedShot (parse bytes) (length lent)
 
--- the list at exit: on a refusal as it was lent, else the markers' words in front and the rest untouched
+-- the output array at exit: on error unchanged, else the markers' words overwrite its first elements
 abbrev pub leftList : Option Shot → List ℕ → List ℕ
 leftList none lent = lent
 leftList (some s) lent = atExit (refusedBy s (length lent)) (flatMap markerWords (markersOf s)) lent
@@ -103,7 +103,7 @@ leftList (some s) lent = atExit (refusedBy s (length lent)) (flatMap markerWords
 abbrev pub matchList : List ℕ → List ℕ → List ℕ
 matchList bytes lent = leftList (parse bytes) lent
 
--- both together
+-- the result and the output array together
 pub record Gives (bytes lent : List ℕ) (answer : Matched) (exit : List ℕ) : Type 0 where
   pub answers : answer ≡ matchAnswer bytes lent
   pub leaves : exit ≡ matchList bytes lent

@@ -1,4 +1,4 @@
--- Document 01, "The questions asked": what Match asks of a shot before it searches, 1 to 14 in order, with document 02's 22 behind 8 and 23 behind 12.
+-- Document 01, "The questions asked": the checks of Match before the search, 1 to 14 in order, with document 02's 22 after 8 and 23 after 12.
 use Prim.Native.Nat.{ℕ, _*_}
 use mathlib.Core.Bool.{Bool, true, _&&_}
 use mathlib.Core.List.{List, map}
@@ -45,7 +45,7 @@ placedAnswer c = isWithin 4096 (c .u) && isWithin 4096 (c .v)
 abbrev pub cellsAnswer : Shot → Bool
 cellsAnswer s = leb (length (s .cells)) 256 && every (λ (k : ℕ). placedAnswer (cell s k)) (length (s .cells))
 
--- 23: Is no point filed twice? Sampled or not.
+-- 23: Is no grid point repeated? Sampled or not.
 abbrev pub pointsAnswer : Shot → Bool
 pointsAnswer s = allApart (cellPoint s) (length (s .cells))
 
@@ -80,16 +80,16 @@ askedFrom9 s words rest =
 abbrev pub askedOfShot : Shot → ℕ → Option Refusal → Option Refusal
 askedOfShot s words rest = askedOfBoard (specOf s) (s .codes) (askedFrom9 s words rest)
 
--- the question before 15 that is answered with no, if one is
+-- the error of the first question before 15 that fails, if one does
 abbrev pub askedBefore15 : Shot → ℕ → Option Refusal
 askedBefore15 s words = askedOfShot s words none
 
--- of a record: question 21 comes before all others
+-- of a record: question 21 comes first
 abbrev pub afterRecord : Option Shot → ℕ → Option Refusal
 afterRecord none words = some refusal.InvalidRecord
 afterRecord (some s) words = askedBefore15 s words
 
--- how the program answers
+-- the result in the program
 abbrev pub toldAnswer : Option Refusal → Answer
 toldAnswer none = answer.Passed
 toldAnswer (some r) = answer.Refused r

@@ -1,4 +1,4 @@
--- What question 23 brings: a placement puts no two cells on one square, and no marker is emitted twice.
+-- Consequences of question 23: a placement puts no two cells on one square, and no marker is emitted twice.
 use Prim.Native.Nat.{ℕ, _<_}
 use mathlib.Core.Path.{_≡_}
 use mathlib.Core.List.{List}
@@ -15,12 +15,12 @@ use Rattle.board_match.specs.declared.Matched.the-variants as matched
 use Rattle.board_match.specs.Questions.{askedBefore15}
 use Rattle.board_match.specs.Match.{matchAnswer, matchList}
 
--- of a shot that the questions let pass: whatever the turn and the translation, two cells lie on two squares
+-- for a shot that passes: under every turn and translation, two cells are on two squares
 abbrev pub SquaresRule : Type 0
 SquaresRule = (s : Shot) (words : ℕ) → askedBefore15 s words ≡ none → (p : GridAlignment) (i j : ℕ) → i < j → j < cellTotal s
     → applied p (cellPoint s i) ≡ applied p (cellPoint s j) → ⊥
 
--- of every record that is placed: the ids of the answer's markers, as the list at exit has them, are all different
+-- for every placed record: the ids of its markers, in the output array at exit, are distinct
 abbrev pub IdsRule : Type 0
 IdsRule = (bytes lent : List ℕ) → ((i : ℕ) → getD bytes i 0 < 256) → (m : Match) → matchAnswer bytes lent ≡ matched.Placed m
     → AllDifferent (m .markers) (idIn (matchList bytes lent))

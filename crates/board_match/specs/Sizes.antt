@@ -1,4 +1,4 @@
--- How large the numbers of a match are.
+-- Upper bounds of the numbers of a match.
 use Prim.Native.Nat.{ℕ, _≤_, _<_}
 use mathlib.Core.List.{List}
 use lib.ListN.{getD}
@@ -13,7 +13,7 @@ use Rattle.board_match.specs.declared.Matched.{Matched}
 use Rattle.board_match.specs.declared.Matched.the-variants as matched
 use Rattle.board_match.specs.Match.{matchAnswer}
 
--- with a small translation, and with at most so many contributing cells
+-- a small translation, and at most so many contributing cells
 pub record SmallHypothesis (cells : ℕ) (h : Hypothesis) : Type 0 where
   pub alignment : SmallAlignment 4127 (h .alignment)
   pub contributing : h .«contributing_cells» ≤ cells
@@ -35,6 +35,6 @@ abbrev pub SmallAnswer : List ℕ → Matched → Type 0
 SmallAnswer bytes (matched.Placed m) = SmallMatch (cellTotal (shot bytes)) m
 SmallAnswer bytes (matched.Refused refused) = Unit {0}
 
--- of the answer to every record
+-- for every record
 abbrev pub SizesRule : Type 0
 SizesRule = (bytes lent : List ℕ) → ((i : ℕ) → getD bytes i 0 < 256) → SmallAnswer bytes (matchAnswer bytes lent)

@@ -1,5 +1,4 @@
-// Match (board_match/mod.rs): where a board lies under the cells of a shot record. Uses `refusal`, `floats`, `grid_alignment`, `board`,
-// `score_matrix`, `shot_record`, `points`, `ranking`, `hypothesis` and `emit`, and for its definitions and laws `integers` and `lent_list`.
+// Match checks a shot record, finds the placement of its cells on the board and emits the markers (board_match/mod.rs).
 ghost use mathlib.Core.Path.{_≡_};
 ghost use mathlib.Core.List.{map};
 ghost use mathlib.Core.Option.{none};
@@ -35,8 +34,8 @@ use shot_record::fields::Fields;
 use shot_record::index;
 use shot_record::questions as board_questions;
 
-// A placed shot: the best placement and its runner-up, the margin between them, how many placements there are, the alignment of the corners,
-// and how many markers were emitted.
+// A placed shot: the best placement and its runner-up, the margin between them, the number of placements, the alignment of the corners, and the
+// number of emitted markers.
 pub struct Match {
     pub best: Hypothesis,
     pub runner_up: Choice,
@@ -51,7 +50,7 @@ pub enum Matched {
     Refused(Refusal),
 }
 
-// A record that may be searched, or the first question before 15 that is answered with no.
+// A record that may be searched, or the error of the first question before 15 that fails.
 pub enum Asked {
     Passed {
         board: Board,
@@ -60,7 +59,7 @@ pub enum Asked {
     Refused(Refusal),
 }
 
-// The questions 1 to 14, 22 and 23 of a record that question 21 let pass, for a list of results with so many words.
+// Questions 1 to 14, 22 and 23 of a record that passes question 21, for an output array of so many words.
 fn before_15(
     bytes: &[u8],
     f: Fields,
@@ -86,7 +85,7 @@ fn before_15(
     }
 }
 
-// The questions 16 and 17 of the best placement, with the markers between them.
+// Questions 16 and 17 of the best placement, with the emission of its markers between them.
 fn emit_best(
     bytes: &[u8],
     inputs: Inputs,
@@ -122,7 +121,7 @@ fn emit_best(
     })
 }
 
-// The questions from 15 on.
+// Questions 15 to 17.
 fn search_record(
     bytes: &[u8],
     inputs: Inputs,
@@ -149,14 +148,14 @@ fn search_record(
     }
 }
 
-// Where the board lies under the cells of a shot record. The markers' words, 18 each, are written in front of the list that is lent; a refusal
-// leaves the list as it is.
+// The placement of a shot record on its board. Writes 18 words for each marker to the start of the output array; on error the array does not change.
 pub fn match_board(bytes: &[u8], markers: &mut [u32]) -> Matched
     ensures answer { λ r. ⌜ r ≡ matchAnswer (now (bytes .entry)) (now (markers .entry)) ⌝ }
     ensures list { λ _. ⌜ now (markers .exit) ≡ matchList (now (bytes .entry)) (now (markers .entry)) ⌝ }
     ensures accuracy { λ r. ⌜ Accuracy (now (bytes .entry)) r ⌝ }
 {
     let f = fields::locate(bytes);
+    // Question 21 comes first, so that table, codes and index are read from a whole record only.
     if !cells::is_whole(bytes, f) {
         return Matched::Refused(Refusal::InvalidRecord);
     }

@@ -1,4 +1,4 @@
-// What Match asks of a record whose board passed (documents 01 and 02): the questions 9 to 14 and 23, before it searches, and 16.
+// The checks of Match after those of the board (documents 01 and 02): questions 9 to 14 and 23 before the search, and 16.
 ghost use mathlib.Core.Path.{_≡_};
 ghost use mathlib.Core.Bool.{_&&_};
 ghost use mathlib.Core.List.{map};
@@ -39,7 +39,7 @@ fn settings(config: BoardMatchConfig) -> bool
     floats::is_finite(config.px_per_square)
 }
 
-// Question 10. It is asked of a table of the record's own: the built-in one passes.
+// Question 10. Only the record's own table is checked: the built-in one passes.
 fn table_passes(bytes: &[u8], f: Fields, entries: &[f32; 511]) -> bool
     requires { ⌜ (f ≡ fieldsOf (now bytes)) × (now entries ≡ map ofPattern (shot (now bytes) .table)) ⌝ }
     ensures { λ r. ⌜ r ≡ tableAnswer (shot (now (bytes .entry))) ⌝ }
@@ -65,7 +65,7 @@ fn point(u: i16, v: i16) -> bool
     within(v)
 }
 
-// Question 12 of the cells in the index, at most 256.
+// Question 12 of the indexed cells, at most 256.
 fn all_placed(index: &[u32; 768], count: usize) -> bool
     requires { ⌜ count ≤ 256 ⌝ }
     ensures { λ r. ⌜ r ≡ every (placedIn (now (index .entry))) count ⌝ }
@@ -95,7 +95,7 @@ fn sample(border: BorderSample) -> bool
     }
 }
 
-// Question 13 of the cells in the index, at most 256. In a whole record every grid is whole.
+// Question 13 of the indexed cells, at most 256. In a well-formed record every grid is complete.
 fn all_sampled(index: &[u32; 768], count: usize) -> bool
     requires { ⌜ count ≤ 256 ⌝ }
     ensures { λ r. ⌜ r ≡ every (sampledIn (now (index .entry))) count ⌝ }
@@ -110,7 +110,7 @@ fn all_sampled(index: &[u32; 768], count: usize) -> bool
     true
 }
 
-// The questions 9 to 14, with 23 behind 12.
+// Questions 9 to 14, with 23 after 12.
 pub fn from_9(
     bytes: &[u8],
     f: Fields,

@@ -1,4 +1,4 @@
--- The values that a refusal gives, and answers that are equal. Assumes nothing.
+-- The values of an error, and equal results. Assumes nothing.
 use mathlib.Core.Path.{_≡_, refl, subst}
 use mathlib.Core.Bool.{Bool, true, false, cond}
 use mathlib.Core.List.{List, [], _∷_}
@@ -10,8 +10,9 @@ use Rattle.refusal.specs.declared.Refusal.the-variants as refusal
 use Rattle.refusal.specs.Numbers.{numberOf, valuesOf}
 use Rattle.charuco.specs.Answers.{Answer, valueCount, Tells}
 
--- two values, of which as many are given as the refusal's number says, are those of the refusal
+-- the first of two values, as many as the error number has, are those of the error
 pub values-are : (r : Refusal) → take (valueCount (numberOf r)) (getD (valuesOf r) 0 0 ∷ getD (valuesOf r) 1 0 ∷ []) ≡ valuesOf r
+-- BEGIN generated values-are
 values-are refusal.InvalidSize = refl
 values-are refusal.InvalidCellSize = refl
 values-are refusal.InvalidMarkerSizeRel = refl
@@ -36,6 +37,8 @@ values-are refusal.InvalidRecord = refl
 values-are refusal.CodesAlike = refl
 values-are refusal.RepeatedPoint = refl
 
+-- END generated values-are
+
 -- at most two
 pub few : (n : ℕ) → valueCount n ≤ 2
 few n = go (eqb n 7) (eqb n 16) where
@@ -44,6 +47,6 @@ few n = go (eqb n 7) (eqb n 16) where
   go false true = lit≤ tt
   go false false = lit≤ tt
 
--- what tells an answer tells an equal one
+-- equal results have equal numbers and words
 pub telling : {a b : Answer} {r : ℕ} {lent exit : List ℕ} → a ≡ b → Tells a r lent exit → Tells b r lent exit
 telling {a} {b} {r} {lent} {exit} e t = subst (λ (x : Answer). Tells x r lent exit) e t

@@ -1,4 +1,4 @@
--- The corner entry takes a match's corners: its alignment passes question 18, and the corners of a placed cell get the ids of its square's
+-- The corner entry point accepts the corner alignment of a match: it passes question 18, and the corners of a placed cell get the ids of its square's
 -- corners. Assumes nothing.
 use mathlib.Core.Path.{ap, _∙_}
 use native.Mathlib.Omega.{arith}

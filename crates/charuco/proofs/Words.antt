@@ -1,4 +1,4 @@
--- The words of an answer are those at its places. Assumes nothing.
+-- The words of a result, element by element. Assumes nothing.
 use mathlib.Core.Path.{_≡_, refl, ap}
 use mathlib.Core.List.{List, [], _∷_}
 use Prim.Native.Nat.{ℕ}
@@ -37,6 +37,6 @@ pub choice-six : (c : Choice) → six (choiceWords c) ≡ choiceWords c
 choice-six (choice.Placement h) = ap (λ (l : List ℕ). 1 ∷ l) (placement-five h)
 choice-six choice.Absent = refl
 
--- a coordinate goes through its 16 bits
+-- a coordinate is read back from its 16 bits
 pub coordinate-is : (z : ℤ) → SFits w16 z → coordinateWord (toZ w16 (ofZ w16 z)) ≡ coordinateWord z
 coordinate-is z f = ap coordinateWord (toZ-ofZ w16 z f)

@@ -1,4 +1,4 @@
--- What a C function answers: a number, 0 if the entry worked and else the refusal's, and words in a list that is lent.
+-- The result of a C function: a number, 0 on success and else the error number, and words in an output array.
 use Prim.Native.Nat.{ℕ, _%_, _^_}
 use mathlib.Core.Path.{_≡_}
 use mathlib.Core.Bool.{cond}
@@ -25,11 +25,11 @@ counted n = worked (countWord n ∷ [])
 abbrev pub refused : Refusal → Answer
 refused r = record { number = numberOf r; words = valuesOf r }
 
--- the number that is returned and the list at exit are those of the answer
+-- the returned number and the output array at exit are those of the result
 pub record Tells (a : Answer) (r : ℕ) (lent exit : List ℕ) : Type 0 where
   pub number : r ≡ a .number
   pub values : exit ≡ inFront (a .words) lent
 
--- how many values the refusal with a number gives
+-- the number of values of an error number
 abbrev pub valueCount : ℕ → ℕ
 valueCount n = cond (eqb n 7) 2 (cond (eqb n 16) 1 0)

@@ -1,4 +1,4 @@
--- The words by which the C functions tell the answers of the other entries.
+-- The words that the C functions return for the other entry points.
 use Prim.Native.Nat.{ℕ, zero, suc}
 use mathlib.Core.Bool.{cond, not}
 use mathlib.Core.List.{List, [], _∷_, _++_}
@@ -27,14 +27,14 @@ use Rattle.link_check.specs.declared.CheckedLinks.{CheckedLinks}
 use Rattle.link_check.specs.declared.CheckedLinks.the-variants as checked
 use Rattle.charuco.specs.Answers.{Answer, worked, counted, refused, countWord}
 
--- how many cells were found
+-- the number of cells
 abbrev pub cellsTold : MarkerCells → Answer
 cellsTold (found.Found count) = counted count
 cellsTold (found.Refused r) = refused r
 
--- Match: the best placement, whether there is a next one and which, the margin, the count of placements, the corners' alignment, the
--- count of markers, and how many cells contribute to the best placement and to the next. An alignment is turn, tx, ty; evidence is whether it is a
--- number, and its bits.
+-- Match: the best placement, whether there is a runner-up and which, the margin, the number of placements, the alignment of the corners, the number
+-- of markers, and how many cells contribute to the best placement and to the runner-up. An alignment is turn, tx, ty; evidence is whether it is a
+-- number, and its bit pattern.
 abbrev pub alignmentWords : GridAlignment → List ℕ
 alignmentWords a = a .turn ∷ ofZ w32 (a .tx) ∷ ofZ w32 (a .ty) ∷ []
 
@@ -66,7 +66,7 @@ abbrev pub matchTold : Matched → Answer
 matchTold (matched.Placed m) = worked (matchWords m)
 matchTold (matched.Refused r) = refused r
 
--- The corner and link entries: what they are given of a board, where a legacy pattern of 0 is no mark and every other number marks it,
+-- The corner and link entry points: the board, whose legacy flag is 0 for a current board and every other number for a legacy board,
 abbrev pub specFrom : ℕ → ℕ → ℕ → ℕ → ℕ → Float → Float → CharucoBoardSpec
 specFrom rows cols bits border legacy size marker =
     record {
@@ -79,19 +79,19 @@ specFrom rows cols bits border legacy size marker =
       «marker_size_rel» = marker;
     }
 
--- the alignment of the corners, in which a turn above 3 counts as 4, which question 18 refuses,
+-- the alignment of the corners, in which a turn above 3 becomes 4, which fails question 18,
 abbrev pub turnByte : ℕ → ℕ
 turnByte turn = cond (ltb turn 4) turn 4
 
 abbrev pub alignmentOf : ℕ → ℤ → ℤ → GridAlignment
 alignmentOf turn tx ty = record { turn = turnByte turn; tx = tx; ty = ty }
 
--- how strictly links are checked,
+-- the mode of the link check,
 abbrev pub modeOf : ℕ → LinkCheckMode
 modeOf zero = mode.SubsetOk
 modeOf (suc n) = mode.MustMatchAll4
 
--- and how many corners are mapped, or violations found
+-- and the number of mapped corners or of violations
 abbrev pub cornersTold : MappedCorners → Answer
 cornersTold (mapped.Mapped count) = counted count
 cornersTold (mapped.Refused r) = refused r

@@ -1,4 +1,4 @@
--- The words by which the C functions tell what is read in a record.
+-- The words that the C functions return for the fields of a record.
 use Prim.Native.Nat.{ℕ, _-_, _%_, _/_, _^_, _≤_}
 use mathlib.Core.Path.{_≡_}
 use mathlib.Core.List.{List, [], _∷_}
@@ -22,7 +22,8 @@ use Rattle.shot_record.specs.Shots.{parse}
 use Rattle.shot_record.specs.Answers.{partAnswer}
 use Rattle.charuco.specs.Answers.{Answer, worked, refused, countWord}
 
--- map, minimum margin, border threshold, px_per_square, rows, cols, bits, border, cell_size, marker_size_rel, counts of codes and cells, 1 for a legacy board
+-- map, minimum margin, border threshold, px_per_square, rows, cols, bits, border, cell_size, marker_size_rel, numbers of codes and cells, 1 for a
+-- legacy board
 abbrev pub headerWords : Header → List ℕ
 headerWords h =
     h .map
@@ -44,19 +45,19 @@ abbrev pub headerTold : ReadHeader → Answer
 headerTold (header.Header h) = worked (headerWords h)
 headerTold (header.Refused r) = refused r
 
--- whether there is such an entry, and its bits
+-- whether there is such an entry, and its bit pattern
 abbrev pub entryTold : ReadEntry → Answer
 entryTold (entry.Entry x) = worked (1 ∷ toBits binary32 x ∷ [])
 entryTold entry.Absent = worked (0 ∷ 0 ∷ [])
 entryTold (entry.Refused r) = refused r
 
--- whether there is such a code, its low 32 bits and its high ones
+-- whether there is such a code, its low 32 bits and its high 32 bits
 abbrev pub codeTold : ReadCode → Answer
 codeTold (code.Code x) = worked (1 ∷ x % 2 ^ 32 ∷ x / 2 ^ 32 ∷ [])
 codeTold code.Absent = worked (0 ∷ 0 ∷ 0 ∷ [])
 codeTold (code.Refused r) = refused r
 
--- 2 for a sampled cell, 1 for another, 0 for an absent one; u, v, fraction, threshold
+-- 2 for a sampled cell, 1 for an unsampled, 0 for an absent one; u, v, fraction, threshold
 abbrev pub coordinateWord : ℤ → ℕ
 coordinateWord z = ofZ w32 z
 
@@ -67,7 +68,7 @@ cellTold (cell.Unsampled u v) = worked (1 ∷ coordinateWord u ∷ coordinateWor
 cellTold cell.Absent = worked (0 ∷ 0 ∷ 0 ∷ 0 ∷ 0 ∷ [])
 cellTold (cell.Refused r) = refused r
 
--- where a cell's grid is in the record: its start and its length in bytes; 0 and 0 for an unsampled or absent cell
+-- the offset and the length of a cell's grid in the record; 0 and 0 for an unsampled or absent cell
 abbrev pub partWords : Part → List ℕ
 partWords p = countWord (p .first) ∷ countWord (p .end - p .first) ∷ []
 

@@ -1,4 +1,4 @@
--- How the entries fit together, for every record that is placed: what `proofs/Laws.antt` shows.
+-- How the entry points fit together, for every placed record: the laws of `proofs/Laws.antt`.
 use Prim.Native.Nat.{ℕ, _+_, _*_, _<_}
 use mathlib.Core.Path.{_≡_}
 use mathlib.Core.Bool.{true}
@@ -16,11 +16,11 @@ use Rattle.corner_mapping.specs.Corners.{gridPoint, idAt, idOf}
 use Rattle.corner_mapping.specs.Entry.{alignmentAnswer}
 
 pub record MatchedCorners (m : Match) : Type 0 where
-  -- question 18 lets the corner alignment of the match pass
+  -- the corner alignment of the match passes question 18
   pub pass : alignmentAnswer (m .corners) ≡ true
-  -- it puts the corners of a cell on the corners of the square on which the match puts the cell: after r turns corner k on corner k + 3 r
+  -- it maps the corners of a cell to the corners of the square to which the match maps the cell: after r turns corner k to corner k + 3 r
   pub land : (k : ℕ) (p : Coord) → applied (m .corners) (corner k p) ≡ corner (k + 3 * m .best .alignment .turn) (applied (m .best .alignment) p)
-  -- and an input corner there gets the id of the board corner there, whatever the square holds: absent where that is no inner corner
+  -- and an input corner there gets the id of the board corner there, whatever is on the square: absent if it is no inner corner
   pub ids : (board : Board) (grid : List ℤ) (n : ℕ) (p : Coord) (k : ℕ) → labelled (cornersOf 0 grid) n ≡ true → gridPoint grid n ≡ corner k p
       → idOf board (m .corners) grid n ≡ idAt board (corner (k + 3 * m .best .alignment .turn) (applied (m .best .alignment) p))
 

@@ -1,9 +1,9 @@
-// What the corner and link entries are given of a board.
+// The board specification that the corner and link entry points take.
 ghost use mathlib.Core.Path.{_≡_};
 ghost use Rattle.charuco.specs.Entries.{specFrom};
 use board::CharucoBoardSpec;
 
-// A legacy pattern of 0 is no mark, every other number marks the board.
+// `legacy_pattern` is the legacy flag: 0 for a current board, every other number for a legacy board.
 pub fn spec(
     rows: u32,
     cols: u32,

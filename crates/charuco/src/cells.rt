@@ -1,4 +1,4 @@
-// The cells entry.
+// The cells entry point.
 ghost use mathlib.Core.Path.{_≡_};
 ghost use Rattle.marker_sampling.specs.Entry.{markerCells, markerCellsList};
 ghost use Rattle.charuco.specs.Answers.{Tells};

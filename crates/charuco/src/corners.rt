@@ -1,4 +1,4 @@
-// The corner entry.
+// The corner entry point.
 ghost use mathlib.Core.Path.{_≡_};
 ghost use Rattle.corner_mapping.specs.Entry.{mapCorners, mapCornersList};
 ghost use Rattle.charuco.specs.Answers.{Tells};
@@ -8,7 +8,7 @@ use super::values;
 use corner_mapping::MappedCorners;
 use grid_alignment::GridAlignment;
 
-// A turn above 3 counts as 4, which question 18 refuses.
+// A turn above 3 becomes 4, which fails question 18.
 fn turn_byte(turn: u32) -> u8
     ensures { λ r. ⌜ r ≡ turnByte turn ⌝ }
 {

@@ -1,7 +1,5 @@
-// The interface: every entry with the types that it takes and gives, for Rattle callers under its own name and for C as `charuco_NAME`. None has a
-// `requires`. A C function answers with a number, 0 or that of the refusal, and with words in a list that is lent;
-// `include/charuco.h` has them word by word. Uses `lent_list`, `refusal`, `integers`, `floats`, `grid_alignment`, `board`, `score_matrix`,
-// `shot_record`, `marker_sampling`, `ranking`, `board_match`, `corner_mapping` and `link_check`.
+// Exposes every entry point with its types, to Rattle under its own name and to C as `charuco_NAME`.
+// No entry point has a `requires`. A C function returns 0 or the error number, and writes words to an output array; `include/charuco.h` lists them.
 mod boards;
 mod cells;
 mod corners;
@@ -37,24 +35,24 @@ pub use ranking::Choice;
 pub use ranking::Evidence;
 pub use ranking::Hypothesis;
 
-// The cells entry.
+// The cells entry point.
 pub use cells::charuco_build_marker_cells;
 pub use marker_sampling::MarkerCells;
 pub use marker_sampling::build_marker_cells;
 
-// The corner entry.
+// The corner entry point.
 pub use corner_mapping::MappedCorners;
 pub use corner_mapping::map_charuco_corners;
 pub use corners::charuco_map_charuco_corners;
 pub use grid_alignment::GridAlignment;
 
-// The link entry.
+// The link entry point.
 pub use link_check::CheckedLinks;
 pub use link_check::LinkCheckMode;
 pub use link_check::LinkViolationKind;
 pub use link_check::validate_marker_corner_links;
 pub use links::charuco_validate_marker_corner_links;
 
-// What more than one entry takes or gives.
+// Types of more than one entry point.
 pub use board::CharucoBoardSpec;
 pub use refusal::Refusal;

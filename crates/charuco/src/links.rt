@@ -1,4 +1,4 @@
-// The link entry.
+// The link entry point.
 ghost use mathlib.Core.Path.{_≡_};
 ghost use Rattle.link_check.specs.Entry.{checkLinks, checkLinksList};
 ghost use Rattle.charuco.specs.Answers.{Tells};

@@ -145,7 +145,7 @@ pub extern "C" fn charuco_cell(bytes: &[u8], k: usize, values: &mut [u32]) -> u3
     tell_cell(shot_record::cell(bytes, k), values)
 }
 
-// Where in the record the grid of cell k is.
+// The byte range of the grid of cell k.
 #[no_mangle]
 pub extern "C" fn charuco_grid(bytes: &[u8], k: usize, values: &mut [u32]) -> u32
     ensures answer { λ r. ⌜ Tells (gridTold (now (bytes .entry)) (headerAnswer (now (bytes .entry))) k) r (now (values .entry)) (now (values .exit)) ⌝ }

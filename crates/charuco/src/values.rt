@@ -1,16 +1,16 @@
-// A C function's answer: a number, and words in the list `values` that the caller lends, as many as there is room for.
+// The result of a C function: a number, and words at the start of the caller's output array `values`, truncated to its length.
 ghost use mathlib.Core.Path.{_≡_};
 ghost use Rattle.charuco.specs.Answers.{worked as workedWith, counted as countedAs, refused as refusedBy, valueCount, countWord, Tells};
 use refusal::Refusal;
 
-// The lower 32 bits of a count, none of which is larger.
+// The low 32 bits of a count; no count is larger.
 pub fn count_word(n: usize) -> u32
     ensures { λ r. ⌜ r ≡ countWord n ⌝ }
 {
     (n % 0x1_0000_0000) as u32
 }
 
-// The answer of an entry that worked.
+// The result on success.
 pub fn worked(values: &mut [u32], words: &[u32]) -> u32
     ensures { λ r. ⌜ Tells (workedWith (now (words .entry))) r (now (values .entry)) (now (values .exit)) ⌝ }
 {
@@ -18,14 +18,14 @@ pub fn worked(values: &mut [u32], words: &[u32]) -> u32
     0
 }
 
-// The same for an entry that answers with a count.
+// The result on success for an entry point that returns a count.
 pub fn counted(values: &mut [u32], count: usize) -> u32
     ensures { λ r. ⌜ Tells (countedAs count) r (now (values .entry)) (now (values .exit)) ⌝ }
 {
     worked(values, &[count_word(count)])
 }
 
-// How many values the refusal with a number gives.
+// The number of values of an error number.
 fn value_count(number: u32) -> usize
     ensures { λ r. ⌜ r ≡ valueCount number ⌝ }
 {
@@ -38,7 +38,7 @@ fn value_count(number: u32) -> usize
     0
 }
 
-// The answer of an entry that refused: its number, and the values that it gives.
+// The result on error: the error number and its values.
 pub fn refused(values: &mut [u32], refusal: Refusal) -> u32
     ensures { λ r. ⌜ Tells (refusedBy refusal) r (now (values .entry)) (now (values .exit)) ⌝ }
 {

@@ -1,4 +1,4 @@
--- The questions one by one, and what a refusal and a success leave. Assumes nothing.
+-- The questions one by one, and the output array on a refusal and on success. Assumes nothing.
 use mathlib.Core.Path.{_≡_, sym, ap, ap₂, _∙_}
 use mathlib.Core.Bool.{Bool, true}
 use mathlib.Core.List.{List}
@@ -37,7 +37,7 @@ module _ (x : Input) where
   abbrev pub count : ℕ
   count = cornerCount (x .board .rows) (x .board .cols)
 
-  -- what question 18 tells
+  -- what question 18 implies
   pub ranged : x .board .rows ≤ 32 → x .board .cols ≤ 32 → cornerRangeAnswer (x .scores) (x .grid) (x .alignment) ≡ true → InputInRange x
   ranged r c e =
       let a = x .alignment in
@@ -47,7 +47,7 @@ module _ (x : Input) where
       record { rows = r; cols = c; few = p .0; all-placed = p .1; tx = within-abs 8192 (a .tx) (t .0); ty = within-abs 8192 (a .ty) (t .1) }
 
   module _ (lent : List ℕ) where
-    -- the answers of the two questions, in order
+    -- the results of the two questions, in order
     pub asked : (a b : Bool) → cornerRangeAnswer (x .scores) (x .grid) (x .alignment) ≡ a → leb (6 * count) (length lent) ≡ b
         → askedFrom18 x (length lent) ≡ ask a refusal.CornersOutOfRange (ask b refusal.ListTooShort none)
     unfolding askedFrom18

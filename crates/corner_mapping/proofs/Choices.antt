@@ -56,7 +56,7 @@ module _ (x : Input) where
       go earlier true q = last c q
       go earlier false q = omega (arith, earlier q)
 
-  -- corner k bears another id, or none
+  -- corner k has another id, or none
   pub passed : (k id : ℕ) → bears x k id ≡ false → chosenTo x id (suc k) ≡ chosenTo x id k
   unfolding chosenTo
   passed k id e = ap (λ (b : Bool). replaced (b && greater (x .scores) (chosenTo x id k) k) k (chosenTo x id k)) e

@@ -1,4 +1,4 @@
--- Of the first n corners the one that is chosen for an id has the greatest score, and is the first with it. Assumes nothing.
+-- The corner chosen for an id among the first n has the greatest score, and is the first with it. Assumes nothing.
 use mathlib.Core.Path.{_≡_, refl, sym, ap, subst, _∙_}
 use mathlib.Core.Bool.{Bool, true, false, false≢true}
 use mathlib.Core.List.{List, [], _∷_}
@@ -46,7 +46,7 @@ module _ (x : Input) (id : ℕ) where
   abbrev score : ℕ → Float
   score k = scoreOf (x .scores) k
 
-  -- if none of the first n corners is chosen none bears the id
+  -- if none of the first n corners is chosen none has the id
   pub none-before : (n : ℕ) → chosenTo x id n ≡ none → (k : ℕ) → k < n → bears x k id ≡ false
   none-before zero e k h = absurd (omega arith)
   none-before (suc n) e k h = go (none-before n) (bears x n id) refl (eq-or-lt-of-le (le-of-suc-le-suc h))
@@ -69,7 +69,7 @@ module _ (x : Input) (id : ℕ) where
     finite k h = finite-at (x .scores) k all h
 
     module _ (n : ℕ) (inside : n < length (x .scores)) where
-      -- corner n does not take the place of k
+      -- corner n does not replace k
       stays : (k : ℕ) → GreatestScore x id n k → (bears x n id ≡ true → lt (score k) (score n) ≡ false) → GreatestScore x id (suc n) k
       stays k g f = record {
         inside = omega (arith, g .inside);
@@ -107,7 +107,7 @@ module _ (x : Input) (id : ℕ) where
             holds _ (λ p. clash _ (not-lt-trans (score k) (score j) (score n) k₀ j₀ n₀ m p) t),
           )
 
-      -- by what was chosen before, where corner n bears the id
+      -- by the earlier choice, if corner n has the id
       decided : (o : Option ℕ) (k : ℕ) → bears x n id ≡ true → ((j : ℕ) → o ≡ some j → GreatestScore x id n j)
           → (o ≡ none → (j : ℕ) → j < n → bears x j id ≡ false) → replaced (greater (x .scores) o n) n o ≡ some k → GreatestScore x id (suc n) k
       decided none k b g f e = subst (GreatestScore x id (suc n)) (same-index e) (comes b (λ j l c. clash _ (f refl j l) c))

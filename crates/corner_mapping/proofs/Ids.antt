@@ -1,4 +1,4 @@
--- The id of an input corner: it has a grid point, and the board corner on which the alignment puts it is an inner corner with that id.
+-- The id of an input corner: it has a grid point, and the board corner to which the alignment maps it is an inner corner with that id.
 -- Assumes nothing.
 use mathlib.Core.Path.{_≡_, refl, sym, ap}
 use mathlib.Core.Bool.{Bool, true, false, cond}
@@ -25,7 +25,7 @@ pub half-fits : (z : ℤ) → natAbs z < 2 ^ 15 → SFits w16 z
 half-fits (pos n) h = record { sfits = h }
 half-fits (negsuc n) h = record { sfits = omega arith }
 
--- ---- a number at two whole numbers, of those that a test numbers
+-- ---- a number at two integers, of those that a test numbers
 pub record Placed (t : ℕ → ℕ → Bool) (w h : ℕ) (u v : ℤ) (id : ℕ) : Type 0 where
   pub i : ℕ
   pub j : ℕ

@@ -1,4 +1,4 @@
--- What a user of the corner entry relies on: the choice for an id is the first greatest, results come by rising id and name their board corner,
+-- The laws of the corner entry point: the choice for an id is the first greatest, results are by increasing id with their board corner,
 -- corners of a marker's cell have the marker's ids, and a corner alignment passes question 18. Assumes nothing.
 use mathlib.Core.Path.{_≡_, refl, sym, ap, ap₂, subst, _∙_}
 use mathlib.Core.Bool.{true, false≢true, _&&_, cond}
@@ -82,7 +82,7 @@ corners-of-cell board cells grid n p k l g =
     sym (at-point board (cornerAlignment cells) grid n l)
     ∙ ap (idAt board) (ap (applied (cornerAlignment cells)) g ∙ corners-land cells k p)
 
--- corner t of square (i, j), where its four are inner ones
+-- corner t of square (i, j), if its four are inner
 at-four : (rows cols i j a b c d t : ℕ) → Four rows cols i j a b c d
     → cornerAt rows cols (corner t (point (pos i) (pos j)) .u) (corner t (point (pos i) (pos j)) .v) ≡ numbered.Id (ofFour a b c d t)
 unfolding corner numberAtℤ

@@ -1,4 +1,4 @@
--- The words of the results, and what is put of one id. Assumes nothing.
+-- The words of the results, and those written for one id. Assumes nothing.
 use mathlib.Core.Path.{_≡_, refl, sym, ap, ap₂, _∙_}
 use mathlib.Core.List.{List, [], _∷_, _++_, append-nil, flatMap}
 use mathlib.Core.Option.{Option, none, some}
@@ -35,7 +35,7 @@ module _ (b : Board) where
       flatMap-length (cornerWords b) 6
       (λ m. omega (arith, six (cornerPlace (b .rows) (b .cols) (m .id)) (objectPoint (b .rows) (b .cols) (b .«cell_size») (m .id)))) ms
 
-  -- six places for each id are enough
+  -- six words for each id are enough
   pub enough : (choice : ℕ → Option ℕ) (n : ℕ) → length (wordsOfCorners b (upTo (mappedBy choice) n)) ≤ 6 * n
   enough choice n = omega (arith, words-length (upTo (mappedBy choice) n), up-to-most (mappedBy choice) 1 n (λ id h. at-most-one id (choice id)))
     where

@@ -1,4 +1,4 @@
--- Document 01, Corners: `map_charuco_corners`, with the corners' indices for their positions.
+-- Document 01, Corners: `map_charuco_corners`, with the corners' indices instead of their positions.
 use Prim.Native.Nat.{ℕ, zero, suc}
 use mathlib.Core.Bool.{Bool, true, false, _&&_, cond}
 use mathlib.Core.List.{List, [], _∷_, _++_, flatMap}
@@ -21,21 +21,21 @@ use Rattle.board.specs.Layout.{cornerCount, cornerAt, cornerPlace, objectPoint}
 use Rattle.lent_list.specs.Front.{upTo}
 use Rattle.marker_sampling.specs.Cells.{word, labelled, cornersOf}
 
--- A board, the alignment of the corners, and the input corners: a score and three words of `grid` each, as in the cells entry.
+-- A board, the alignment of the corners, and the input corners: a score and three words of `grid` each, as in the cells entry point.
 pub record Input : Type 0 where
   pub board : Board
   pub alignment : GridAlignment
   pub scores : List Float
   pub grid : List ℤ
 
--- the grid point of input corner k, and the board corner on which the alignment puts it
+-- the grid point of input corner k, and the board corner to which the alignment maps it
 abbrev pub gridPoint : List ℤ → ℕ → Coord
 gridPoint grid k = point (word (cornersOf 0 grid) k 1) (word (cornersOf 0 grid) k 2)
 
 abbrev pub boardCorner : GridAlignment → List ℤ → ℕ → Coord
 boardCorner a grid k = applied a (gridPoint grid k)
 
--- the id of the inner corner at a point of the board: absent where there is none
+-- the id of the inner corner at a point of the board: absent if there is none
 abbrev pub idAt : Board → Coord → Numbered
 idAt b p = cornerAt (b .rows) (b .cols) (p .u) (p .v)
 
@@ -50,7 +50,7 @@ isId numbered.Absent id = false
 abbrev pub bears : Input → ℕ → ℕ → Bool
 bears x k id = isId (idOf (x .board) (x .alignment) (x .grid) k) id
 
--- Per id the greatest score, the earlier on a tie: among the first corners, corner k takes the place of the one chosen before it if its
+-- Per id the corner of greatest score, the earlier on a tie (argmax): corner k replaces the one chosen before it if its
 -- score is greater.
 abbrev pub scoreOf : List Float → ℕ → Float
 scoreOf scores k = getD scores k nan
@@ -70,7 +70,7 @@ chosenTo x id (suc k) = replaced (bears x k id && greater (x .scores) (chosenTo 
 abbrev pub chosen : Input → ℕ → Option ℕ
 chosen x id = chosenTo x id (length (x .scores))
 
--- The results by rising id: an id and the index of the input corner that is chosen for it.
+-- The results by increasing id: an id and the index of its chosen input corner.
 pub record MappedCorner : Type 0 where
   pub id : ℕ
   pub index : ℕ
@@ -85,8 +85,8 @@ mappedBy choice id = mappedIf id (choice id)
 abbrev pub mapped : Input → List MappedCorner
 mapped x = upTo (mappedBy (chosen x)) (cornerCount (x .board .rows) (x .board .cols))
 
--- The six words of a result: id, input index, the board corner (i, j), the patterns of the target's x and y. Every id of the board has a board
--- corner and a target; for others 0 stands.
+-- The six words of a result: id, input index, the board corner (i, j), the bit patterns of the target's x and y. Every id of the board has a board
+-- corner and a target; for others these are 0.
 abbrev pub placeWords : Located → List ℕ
 placeWords (located.At i j) = i ∷ j ∷ []
 placeWords located.Absent = 0 ∷ 0 ∷ []

@@ -1,4 +1,4 @@
--- The corner entry (document 01, "The questions asked"): the board's questions, then 18, then 14 with a place per inner corner.
+-- The corner entry point (document 01, "The questions asked"): the board's questions, then 18, then 14 with a place per inner corner.
 use Prim.Native.Nat.{ℕ, _*_}
 use mathlib.Core.Bool.{Bool, _&&_}
 use mathlib.Core.List.{List}
@@ -30,7 +30,7 @@ alignmentAnswer a = ltb (a .turn) 4 && (isWithin 8192 (a .tx) && isWithin 8192 (
 abbrev pub cornerRangeAnswer : List Float → List ℤ → GridAlignment → Bool
 cornerRangeAnswer scores grid a = cornersAnswer scores grid && alignmentAnswer a
 
--- The questions after the board's: the one that is answered with no, if one is; six words a place
+-- The questions after the board's: the one that fails, if any; a place of the output array is six words
 unfoldable pub askedFrom18 : Input → ℕ → Option Refusal
 askedFrom18 x words =
     ask (cornerRangeAnswer (x .scores) (x .grid) (x .alignment)) refusal.CornersOutOfRange
@@ -40,7 +40,7 @@ askedFrom18 x words =
 abbrev pub input : Board → GridAlignment → List Float → List ℤ → Input
 input b a scores grid = record { board = b; alignment = a; scores = scores; grid = grid }
 
--- The answer and the list at exit, by the question that is answered with no, if one is: of those after the board's,
+-- The result and the output array at exit, by the question that fails, if any: of those after the board's,
 abbrev pub answeredBy : Option Refusal → Input → MappedCorners
 answeredBy (some r) x = found.Refused r
 answeredBy none x = found.Mapped (length (mapped x))

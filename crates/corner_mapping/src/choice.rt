@@ -1,4 +1,4 @@
-// For each id the input corner that is chosen: its index and 1 in the place of the id, 0 where there is none.
+// For each id the chosen input corner: element id is its index + 1, or 0 if there is none.
 ghost use mathlib.Core.Path.{_≡_};
 ghost use Prim.Native.Nat.{_+_, _≤_, _<_};
 ghost use lib.IntN.{natAbs};
@@ -12,7 +12,7 @@ use grid_alignment::GridAlignment;
 use grid_alignment::alignments;
 use marker_sampling::questions;
 
-// The id of the inner corner on which the alignment puts input corner k.
+// The id of the inner corner to which the alignment maps input corner k.
 fn id_of(board: Board, alignment: GridAlignment, grid: &[i32], k: usize) -> Numbered
     requires { ⌜ (natAbs (alignment .tx) ≤ 8192) × (natAbs (alignment .ty) ≤ 8192) ⌝ }
     requires { ⌜ (k < 1024) × NearCorner (now grid) k ⌝ }
@@ -27,7 +27,7 @@ fn id_of(board: Board, alignment: GridAlignment, grid: &[i32], k: usize) -> Numb
     board.charuco_corner_id_from_board_corner(corner.u, corner.v)
 }
 
-// Corner k in place of an earlier choice, if its score is greater.
+// Corner k instead of an earlier choice, if its score is greater.
 fn better(scores: &[f32], choice: u16, k: usize) -> u16
     requires { ⌜ (k < 1024) × (k < length (now scores)) × (choice ≤ k) ⌝ }
     ensures { λ r. ⌜ choiceOf r ≡ replaced (greater (now (scores .entry)) (choiceOf choice) k) k (choiceOf choice) ⌝ }

@@ -1,5 +1,4 @@
-// The corner entry (corner_mapping.rs): which inner corner each input corner is, per id the one with the greatest score. Uses `refusal`,
-// `grid_alignment`, `board`, `marker_sampling`, `lent_list`, `floats` and, for the laws of whole numbers, `integers`.
+// The corner entry point: maps input corners to inner corners of the board, per id the one of greatest score (corner_mapping.rs).
 ghost use mathlib.Core.Path.{_≡_};
 ghost use Prim.Native.Nat.{_≤_};
 ghost use Rattle.corner_mapping.specs.Entry.{alignmentAnswer, cornerRangeAnswer, input, mappedOn, listOn, mapCorners, mapCornersList};
@@ -14,7 +13,7 @@ use grid_alignment::GridAlignment;
 use marker_sampling::questions;
 use refusal::Refusal;
 
-// How many corners were mapped.
+// The number of corners mapped.
 pub enum MappedCorners {
     Mapped(usize),
     Refused(Refusal),
@@ -33,7 +32,7 @@ fn alignment_in_range(alignment: GridAlignment) -> bool
     questions::within(8192, alignment.ty)
 }
 
-// Question 18 whole.
+// Question 18.
 fn in_range(scores: &[f32], grid: &[i32], alignment: GridAlignment) -> bool
     ensures { λ r. ⌜ r ≡ cornerRangeAnswer (now (scores .entry)) (now (grid .entry)) alignment ⌝ }
 {
@@ -43,7 +42,7 @@ fn in_range(scores: &[f32], grid: &[i32], alignment: GridAlignment) -> bool
     alignment_in_range(alignment)
 }
 
-// The questions after the board's, and the corners.
+// The questions after the board's, then the mapping.
 fn map_onto(
     board: Board,
     scores: &[f32],
@@ -67,8 +66,8 @@ fn map_onto(
     MappedCorners::Mapped(end / 6)
 }
 
-// The inner corners that are found, by rising id, six words each, in front of the list that is lent. `alignment` is that of the corners. A
-// refusal leaves the list as it is.
+// Writes the mapped inner corners by increasing id, six words each, to the start of the output array; on a refusal it is unchanged.
+// `alignment` is that of the corners.
 pub fn map_charuco_corners(
     spec: CharucoBoardSpec,
     codes: &[u64],

@@ -1,4 +1,4 @@
-// The results in the list that is lent: six words each, by rising id.
+// Writes the results to the output array: six words each, by increasing id.
 ghost use mathlib.Core.Path.{_≡_};
 ghost use Prim.Native.Nat.{_+_, _*_, _≤_};
 ghost use lib.ListN.{length};
@@ -10,7 +10,7 @@ use board::Board;
 use board::Located;
 use board::ObjectPoint;
 
-// The words of an id and the index of the corner that is chosen for it.
+// The words of an id and the index of its chosen corner.
 fn corner_words(board: Board, id: u32, index: u32) -> [u32; 6]
     ensures { λ r. ⌜ r ≡ cornerWords board (record { id = id; index = index }) ⌝ }
 {
@@ -21,11 +21,12 @@ fn corner_words(board: Board, id: u32, index: u32) -> [u32; 6]
             ObjectPoint::At { x, y } => [id, index, i, j, floats::to_bits(x), floats::to_bits(y)],
             ObjectPoint::Absent => [id, index, i, j, 0, 0],
         },
+        // No result has such an id: law `board-corners-named`.
         Located::Absent => [id, index, 0, 0, 0, 0],
     }
 }
 
-// The corner that is chosen for an id, if one is, is put behind the results before it.
+// Appends the corner chosen for an id, if any.
 fn put_corner(board: Board, id: u32, choice: u16, corners: &mut [u32], at: usize) -> usize
     requires { ⌜ at + length (wordsOfCorners board (mappedIf id (choiceOf choice))) ≤ length (now corners) ⌝ }
     ensures { λ r. ⌜ Put (now (corners .entry)) (now (corners .exit)) at r (wordsOfCorners board (mappedIf id (choiceOf choice))) ⌝ }
@@ -37,7 +38,7 @@ fn put_corner(board: Board, id: u32, choice: u16, corners: &mut [u32], at: usize
     lent_list::put(corners, at, &words)
 }
 
-// The results of all ids. Gives the place after the last word.
+// Writes the results of all ids and returns the index after the last word.
 pub fn put_all(board: Board, choices: &[u16; 1024], corners: &mut [u32]) -> usize
     requires { ⌜ (cornerCount (board .rows) (board .cols) ≤ 1024) × (6 * cornerCount (board .rows) (board .cols) ≤ length (now corners)) ⌝ }
     ensures { λ r. ⌜ Put (now (corners .entry)) (now (corners .exit)) 0 r

@@ -1,4 +1,4 @@
--- The ids of the markers that are emitted for a placement are all different if no two cells lie at one point. Assumes nothing.
+-- The ids of the markers emitted for a placement are distinct if no two cells have the same grid point. Assumes nothing.
 use mathlib.Core.Path.{_≡_, refl, sym, ap, ap₂, subst, _∙_}
 use mathlib.Core.Bool.{Bool, true, false, _&&_, cond}
 use mathlib.Core.List.{List, [], _∷_, _++_, append-nil, append-assoc, flatMap}
@@ -28,7 +28,7 @@ use Rattle.hypothesis.specs.Evidence.{tableOf, codeOf, weightWith, samplesWith,
 use Rattle.emit.specs.Markers.{Marker, markerOf, emittedWith, emitted, markers, markerWords, idIn}
 use Rattle.emit.proofs.Laws.{words-length}
 
--- past the last marker
+-- after the last marker
 noMarker : Marker
 noMarker =
     record { cell = 0; id = 0; point = point (pos 0) (pos 0); turn = 0; differing = 0; code = 0; quotient = nan; fraction = nan; corners = [] }
@@ -36,7 +36,7 @@ noMarker =
 abbrev at : List Marker → ℕ → Marker
 at ms i = getD ms i noMarker
 
--- ---- among the words of all markers, with any words behind them
+-- ---- in the words of all markers, with any words after them
 id-word : (ms : List Marker) (rest : List ℕ) (i : ℕ) → i < length ms → idIn (flatMap markerWords ms ++ rest) i ≡ at ms i .id
 unfolding markerWords flatMap
 id-word [] rest i h = absurd (omega (arith, h))
@@ -48,12 +48,12 @@ id-word (m ∷ ms) rest (suc i) h =
     ∙ getD-append-add (markerWords m) behind (18 * i + 1) 0 ∙ id-word ms rest i (omega (arith, h))
 
 module _ (s : Shot) (p : GridAlignment) where
-  -- ---- what is emitted is expected in its cell, and cells rise
+  -- ---- an emitted marker is expected in its cell, and cells are in ascending order
   record OfCells (ms : List Marker) (n : ℕ) : Type 0 where
     is-expected : (i : ℕ) → i < length ms → (at ms i .cell < n) × (expected s p (at ms i .cell) ≡ numbered.Id (at ms i .id))
     rise : (i j : ℕ) → i < j → j < length ms → at ms i .cell < at ms j .cell
 
-  -- one marker of cell n behind those of the cells before
+  -- one marker of cell n after those of the cells before
   module _ (ms : List Marker) (n : ℕ) (o : OfCells ms n) (m : Marker) (c : m .cell ≡ n) (e : expected s p n ≡ numbered.Id (m .id)) where
     abbrev more : List Marker
     more = ms ++ m ∷ []
@@ -111,7 +111,7 @@ module _ (s : Shot) (p : GridAlignment) where
   of-cells zero = record { is-expected = λ i h. absurd (omega (arith, h)); rise = λ i j l h. omega (arith, h) }
   of-cells (suc n) = one-cell (upTo (emitted s p) n) n (of-cells n)
 
-  -- ---- cells at different points have different squares, and these different ids
+  -- ---- cells with distinct points have distinct squares, and these distinct ids
   pub ids-differ : ((i j : ℕ) → i < j → j < cellTotal s → cellPoint s i ≡ cellPoint s j → ⊥) → (rest : List ℕ)
       → AllDifferent (length (markers s p)) (idIn (flatMap markerWords (markers s p) ++ rest))
   unfolding expected

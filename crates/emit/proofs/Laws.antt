@@ -1,5 +1,5 @@
--- A marker has 18 words, and a placement has at most one marker for each cell. Where a marker is emitted some cell contributes, so that the
--- placement's evidence is a number. Assumes nothing.
+-- A marker has 18 words, and a placement has at most one marker for each cell. If a marker is emitted, some cell contributes, so the placement's
+-- evidence is a number. Assumes nothing.
 use mathlib.Core.Path.{_≡_, refl}
 use mathlib.Core.Bool.{Bool, true, false, _&&_, cond}
 use mathlib.Core.List.{List, [], _∷_, flatMap}
@@ -24,7 +24,7 @@ use Rattle.hypothesis.specs.Rules.{Contributes}
 use Rattle.hypothesis.proofs.Contributing.{none-rule}
 use Rattle.emit.specs.Markers.{Marker, markerOf, emittedWith, emitted, markers, markerWords}
 
--- ---- how many words
+-- ---- the number of words
 pub words-length : (m : Marker) → length (markerWords m) ≡ 18
 unfolding markerWords
 words-length m = refl
@@ -32,7 +32,7 @@ words-length m = refl
 pub all-words : (ms : List Marker) → length (flatMap markerWords ms) ≡ 18 * length ms
 all-words ms = flatMap-length markerWords 18 words-length ms
 
--- ---- how many markers
+-- ---- the number of markers
 at-most-one : (b : Bool) (m : Marker) → length (cond b (m ∷ []) []) ≤ 1
 at-most-one true m = omega arith
 at-most-one false m = omega arith
@@ -53,7 +53,7 @@ module _ (s : Shot) (p : GridAlignment) where
   pub one-per-cell : length (markers s p) ≤ cellTotal s
   one-per-cell = omega (arith, up-to-most (emitted s p) 1 (cellTotal s) (λ k h. one-in-cell k))
 
--- ---- where there is one
+-- ---- if there is one
 first-holds : (a b : Bool) (m : Marker) → 0 < length (cond (a && b) (m ∷ []) []) → a ≡ true
 first-holds true b m h = refl
 first-holds false b m h = absurd (omega arith)

@@ -1,4 +1,4 @@
--- What the index has of a cell, its candidate, and that the candidate decides what is emitted. Assumes nothing.
+-- The entry of a cell in the index, its candidate, and that the candidate determines what is emitted. Assumes nothing.
 use mathlib.Core.Path.{_≡_, refl, sym, ap, ap₂, _∙_}
 use mathlib.Core.Bool.{Bool, cond}
 use mathlib.Core.List.{List}
@@ -28,7 +28,7 @@ use Rattle.emit.specs.declared.candidates.Expected.the-variants as expec
 use Rattle.emit.specs.Markers.{emittedWith, emitted}
 use Rattle.emit.specs.Candidates.{candidate, candidateWith, candidateAt, OfCell, emittedFrom, emittedFor}
 
--- ---- a sampled cell, by what the index has of it
+-- ---- a sampled cell, from its entry in the index
 pub record Sampled (x : Cell) (u v : ℤ) (fraction : Float) (threshold : ℕ) : Type 0 where
   pub sample : Sample
   pub is : x .sample ≡ some sample
@@ -50,7 +50,7 @@ pub unsampled : (o : Option Sample) → border.Unsampled ≡ borderWith o → o 
 unsampled none e = refl
 unsampled (some s) e = let z : _≡_ {A = ℕ} 0 1 = cc in absurd (omega arith)
 
--- ---- a marker's turned code, from the first 512
+-- ---- a marker's rotated code, from the first 512
 pub code-is : (bytes codes : List ℕ) (id bits turn r : ℕ) → shot bytes .bits ≤ 8 → bits ≡ shot bytes .bits → codes ≡ firstCodes (shot bytes)
     → id < 512 → r ≡ turnedWord bits turn (getD codes id 0) → r ≡ codeOf (shot bytes) turn id
 code-is bytes codes id bits turn r small eb ec h e =
@@ -60,7 +60,7 @@ code-is bytes codes id bits turn r small eb ec h e =
     ∙ ap₂ (λ (n c : ℕ). turnedWord n turn c) eb (ap (λ (l : List ℕ). getD l id 0) ec ∙ getD-list first 512 id 0 h)
     ∙ ap (λ (t : Bool). cond t (turned side turn (first id)) 0) (le-leb side 8 small)
 
--- ---- the candidate of cell k, by what was looked up
+-- ---- the candidate of cell k, from the looked-up fields
 abbrev pub made : ℕ → ℕ → ℤ → ℤ → ℕ → ℕ → Float → ℕ → Candidate
 made k id u v turn code fraction threshold =
     record { cell = k; id = id; u = u; v = v; turn = turn; code = code; fraction = fraction; threshold = threshold }
@@ -71,7 +71,7 @@ module _ (s : Shot) (p : GridAlignment) (k : ℕ) where
   no-sample e = sym (ap (λ (o : Option Sample). candidateWith s p k o (expected s p k)) e)
 
   module _ (u v : ℤ) (fraction : Float) (threshold : ℕ) (x : Sampled (cell s k) u v fraction threshold) where
-    -- the marker that is expected, by the point
+    -- the expected marker, from the grid point
     abbrev looked : Numbered
     looked = markerOn (boardOf (specOf s)) (applied p (point u v) .u) (applied p (point u v) .v)
 
@@ -89,7 +89,7 @@ module _ (s : Shot) (p : GridAlignment) (k : ℕ) where
     with-marker id code m ec =
         (λ i. expectation.Marker (made k id (x .u-is i) (x .v-is i) (p .turn) (ec i) (x .fraction-is i) (x .threshold-is i))) ∙ by-expected (numbered.Id id) m
 
--- ---- what cell k emits, by its candidate
+-- ---- what cell k emits, from its candidate
 module _ (s : Shot) (p : GridAlignment) (k : ℕ) where
   pub same-emitted : emittedFor s (candidateAt s p k) ≡ emitted s p k
   unfolding candidateAt emitted

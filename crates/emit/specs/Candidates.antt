@@ -1,4 +1,4 @@
--- What the inner functions of emission say: the marker that is expected in a cell, and what is emitted of it.
+-- Contracts of the inner functions of emission: the marker expected in a cell, and what is emitted for it.
 use Prim.Native.Nat.{ℕ, _%_, _<_}
 use mathlib.Core.Path.{_≡_}
 use mathlib.Core.Bool.{_&&_, cond}
@@ -24,7 +24,7 @@ use Rattle.emit.specs.declared.candidates.Expected.{Expected}
 use Rattle.emit.specs.declared.candidates.Expected.the-variants as expectation
 use Rattle.emit.specs.Markers.{Marker, quotient}
 
--- The candidate of cell k: absent for an unsampled cell, and where no marker is expected.
+-- The candidate of cell k: `Absent` for an unsampled cell, and where no marker is expected.
 abbrev pub candidate : Shot → GridAlignment → ℕ → Sample → ℕ → Candidate
 candidate s p k x m =
     record {
@@ -51,7 +51,7 @@ abbrev pub OfCell : Shot → Expected → Type 0
 OfCell s expectation.Absent = Unit {0}
 OfCell s (expectation.Marker c) = (c .cell < cellTotal s) × ((x : Sample) × (cell s (c .cell) .sample ≡ some x))
 
--- a candidate's marker, from the code that is read, the quotient and px_per_square
+-- a candidate's marker, from the code read, the quotient and px_per_square
 abbrev pub markerFrom : Candidate → ℕ → Float → Float → Marker
 markerFrom c code q px =
     record {
@@ -66,7 +66,7 @@ markerFrom c code q px =
       corners = rectCorners (c .u) (c .v) px;
     }
 
--- it is emitted if the cell has a weight above 0 and evidence above 0
+-- emitted if the cell has weight above 0 and evidence above 0
 abbrev pub emittedFrom : BoardMatchConfig → List Float → Samples → Candidate → List Marker
 emittedFrom config table x c =
     cond (lt nought (weight config (border.BlackFraction (c .fraction))) && lt nought (evidence table x (c .code)))

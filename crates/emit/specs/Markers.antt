@@ -1,4 +1,4 @@
--- Document 01, Emission: the markers that are emitted for a placement, and the 18 words by which each is told.
+-- Document 01, Emission: the markers emitted for a placement, and the 18 words of each.
 use Prim.Native.Nat.{ℕ, _+_, _*_, _/_, _%_, _^_}
 use mathlib.Core.Bool.{_&&_, cond}
 use mathlib.Core.List.{List, [], _∷_}
@@ -22,8 +22,8 @@ use Rattle.shot_record.specs.Answers.{ofPattern, configOf}
 use Rattle.hypothesis.specs.Placements.{cellTotal, cell, cellPoint}
 use Rattle.hypothesis.specs.Evidence.{tableOf, samplesWith, weightWith, expected, codeOf}
 
--- `point` is that of `rotate_gc_top_left`, `code` the one that is read from the cell, `differing` the count of its bits that are not those of the
--- marker, `corners` the four rectified corner points.
+-- `point` is that of `rotate_gc_top_left`, `code` the one read from the cell, `differing` its Hamming distance from the marker's code, `corners` the
+-- four rectified corner points.
 pub record Marker : Type 0 where
   pub cell : ℕ
   pub id : ℕ
@@ -35,11 +35,11 @@ pub record Marker : Type 0 where
   pub fraction : Float
   pub corners : List (List Float)
 
--- score / bits², which the Rust's sigmoid takes
+-- The quotient: mean log-likelihood per bit, score / bits², the argument of upstream's sigmoid.
 abbrev pub quotient : List Float → Samples → ℕ → Float
 quotient table s code = div binary32 (score table s code) (ofInt binary32 (pos (bitCount s)))
 
--- The marker m in cell k, of which x is sampled. Both points are of the cell's own, unturned point.
+-- Marker m in cell k, whose sample is x. Both points are those of the cell before rotation.
 abbrev pub markerOf : Shot → GridAlignment → ℕ → Sample → ℕ → Marker
 markerOf s p k x m =
     record {
@@ -69,8 +69,8 @@ emitted s p k = emittedWith s p k (cell s k .sample) (expected s p k)
 abbrev pub markers : Shot → GridAlignment → List Marker
 markers s p = upTo (emitted s p) (cellTotal s)
 
--- The words of a marker: numbers as they are, whole numbers in two's complement, the code's low half first, floats by their patterns; the corner
--- points top left, top right, bottom right, bottom left, of each x and y.
+-- The words of a marker: natural numbers as they are, integers in two's complement, the code's low half first, floats as bit patterns; the corner
+-- points top left, top right, bottom right, bottom left, each x and y.
 abbrev pub pattern : Float → ℕ
 pattern x = toBits binary32 x
 
@@ -83,6 +83,6 @@ markerWords m =
     m .cell ∷ m .id ∷ ofZ w32 (m .point .u) ∷ ofZ w32 (m .point .v) ∷ m .turn ∷ m .differing ∷ m .code % 2 ^ 32 ∷ m .code / 2 ^ 32
     ∷ pattern (m .quotient) ∷ pattern (m .fraction) ∷ at 0 0 ∷ at 0 1 ∷ at 1 0 ∷ at 1 1 ∷ at 2 0 ∷ at 2 1 ∷ at 3 0 ∷ at 3 1 ∷ []
 
--- the id among the words of marker i
+-- the id in the words of marker i
 abbrev pub idIn : List ℕ → ℕ → ℕ
 idIn words i = getD words (18 * i + 1) 0

@@ -15,7 +15,7 @@ use hypothesis::Inputs;
 use score_matrix::BorderSample;
 use shot_record::index;
 
-// A sampled cell and the marker that is expected in it, with the marker's turned code.
+// A sampled cell and the marker expected in it, with the marker's rotated code.
 pub struct Candidate {
     pub cell: u32,
     pub id: u32,
@@ -27,7 +27,7 @@ pub struct Candidate {
     pub threshold: u8,
 }
 
-// Absent for an unsampled cell, and where no marker is expected.
+// `Absent` for an unsampled cell, and where no marker is expected.
 pub enum Expected {
     Marker(Candidate),
     Absent,
@@ -42,7 +42,7 @@ fn turned_code(codes: &[u64; 512], id: u32, bits: u8, turn: u8) -> u64
     matcher::rotate_code_u64(codes[at], bits, turn)
 }
 
-// What is expected in cell k. The record stands in the contract alone.
+// The candidate of cell k. `bytes` is used only in the contract.
 pub fn expected_in(
     bytes: &[u8],
     inputs: Inputs,

@@ -1,5 +1,4 @@
-// Marker emission for a chosen placement (emit.rs): in cell order, the markers that are expected in sampled cells with a weight above 0 and
-// evidence above 0. Uses `integers`, `floats`, `lent_list`, `matcher`, `grid_alignment`, `board`, `score_matrix`, `shot_record` and `hypothesis`.
+// Emits, in cell order, the markers that a placement expects in sampled cells with weight above 0 and evidence above 0 (emit.rs).
 ghost use mathlib.Core.Path.{_≡_};
 ghost use mathlib.Core.List.{flatMap};
 ghost use Prim.Native.Nat.{_+_, _*_, _≤_};
@@ -21,7 +20,7 @@ use grid_alignment::GridAlignment;
 use hypothesis::Inputs;
 use shot_record::index;
 
-// The words of the marker that is expected, if it is emitted, are put from the place `at` on. Gives the place after them.
+// Writes the words of the expected marker, if it is emitted, from index `at` on. Returns the index after them.
 fn emit_expected(
     bytes: &[u8],
     inputs: Inputs,
@@ -52,7 +51,7 @@ fn emit_expected(
     )
 }
 
-// The words of the markers, 18 each, stand in front of the list that is lent. Gives how many markers there are.
+// Writes 18 words for each marker to the start of the output array. Returns the number of markers.
 pub fn emit_markers(
     bytes: &[u8],
     inputs: Inputs,

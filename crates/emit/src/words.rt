@@ -1,4 +1,4 @@
-// The marker of one cell, and its 18 words in the list that is lent.
+// The marker of one cell, and its 18 words in the output array.
 ghost use mathlib.Core.Path.{_≡_};
 ghost use mathlib.Core.List.{flatMap};
 ghost use Prim.Native.Nat.{_+_, _*_, _≤_};
@@ -14,7 +14,7 @@ use score_matrix::BoardMatchConfig;
 use score_matrix::BorderSample;
 use score_matrix::cell;
 
-// `read` is the code that is read from the cell.
+// `read` is the code read from the cell.
 fn marker_words(c: Candidate, read: u64, quotient: f32, px_per_square: f32) -> [u32; 18]
     ensures { λ r. ⌜ r ≡ markerWords (markerFrom c read quotient «px_per_square») ⌝ }
 {
@@ -42,7 +42,7 @@ fn marker_words(c: Candidate, read: u64, quotient: f32, px_per_square: f32) -> [
     ]
 }
 
-// The score for each bit, which the Rust's sigmoid takes.
+// The mean log-likelihood per bit, the argument of upstream's sigmoid.
 fn quotient(score: f32, bits: u8) -> f32
     ensures { λ r. ⌜ r ≡ div binary32 score (ofInt binary32 (pos (bits * bits))) ⌝ }
 {
@@ -50,8 +50,7 @@ fn quotient(score: f32, bits: u8) -> f32
     score / (n * n) as f32
 }
 
-// The words of the candidate's marker, if the cell has a weight above 0 and evidence above 0, are put from the place `at` on.
-// Gives the place after them.
+// Writes the words of the candidate's marker, if the cell has weight above 0 and evidence above 0, from index `at` on. Returns the index after them.
 pub fn emit_marker(
     c: Candidate,
     grid: &[u8],

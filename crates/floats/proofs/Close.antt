@@ -1,4 +1,4 @@
--- What is known of a rounded value, in whole numbers. Assumes nothing.
+-- What is known of a rounded value, in integers. Assumes nothing.
 use mathlib.Core.Path.{_≡_, refl, sym, ap, _∙_}
 use Prim.Native.Nat.{ℕ, zero, suc, _+_, _*_, _/_, _^_, _≤_, _<_}
 use native.Mathlib.Nat.{le-antisymm, le-of-eq, mul-comm, mul-zero, zero-mul, one-mul}
@@ -13,8 +13,8 @@ use Rattle.floats.specs.Units.{signed, value, Finite}
 use Rattle.floats.proofs.Grid.{Rounded}
 use Rattle.floats.proofs.Values.{abs-signed, signed-plus, signed-minus, value-is, value-finite}
 
--- r is z / w units, rounded. It is finite, and r × w is within e of z. A number c × 2 ^ j with c of no more digits than the format
--- keeps is not passed over, and 0 is such a number.
+-- r is z / w units, rounded: finite, with r × w within e of z. Rounding does not cross a number c × 2 ^ j with c of at most the
+-- format's digits; 0 is such a number.
 pub record CloseTimes (f : Format) (w : ℕ) (z : ℤ) (e : ℕ) (r : Float) : Type 0 where
   pub is-finite : Finite r
   pub near : Near (value f r *ℤ pos w) z e
@@ -23,7 +23,7 @@ pub record CloseTimes (f : Format) (w : ℕ) (z : ℤ) (e : ℕ) (r : Float) : T
   pub negative : plus z ≡ 0 → plus (value f r) ≡ 0
   pub positive : minus z ≡ 0 → minus (value f r) ≡ 0
 
--- ---- signed numbers
+-- ---- signed integers
 neg-zero : (n : ℕ) → n ≡ 0 → pos n ≡ negℤ (pos n)
 neg-zero n e = rw e
 
@@ -54,7 +54,7 @@ positive-of : (σ : Bool) (g q : ℕ) → (q ≤ 0 → g ≤ 0) → minus (signe
 positive-of false g q u h = signed-plus g .1
 positive-of true g q u h = let l : g ≤ 0 = u (omega (arith, signed-minus q)) in omega (arith, signed-minus g)
 
--- ---- from a fraction of naturals with a sign to whole numbers
+-- ---- from a signed fraction to integers
 pub close : (f : Format) (σ : Bool) (q w u : ℕ) (r : Float) → Rounded f σ q w u r → CloseTimes f w (signed σ q) (w * u / 2) r
 close f σ q w u r k =
     let g = k .g in
@@ -72,7 +72,7 @@ close f σ q w u r k =
       positive = λ l. rw e (positive-of σ g q none l);
     }
 
--- ---- the same where z is a whole number of units
+-- ---- the same for an integer multiple of the unit
 pub record Close (f : Format) (z : ℤ) (e : ℕ) (r : Float) : Type 0 where
   pub is-finite : Finite r
   pub near : Near (value f r) z e

@@ -1,4 +1,4 @@
--- The comparisons of finite floats are those of their values. And any two floats compare, except with NaN. Assumes nothing.
+-- Comparisons of finite floats are those of their values, and any two floats but NaN are ordered. Assumes nothing.
 use mathlib.Core.Path.{_≡_, refl, sym, ap, _∙_}
 use mathlib.Core.Logic.{inl, inr}
 use Prim.Native.Nat.{ℕ, _+_, _*_, _^_, _≤_, _<_}
@@ -14,7 +14,7 @@ use Rattle.integers.proofs.Parts.{plus, minus}
 use Rattle.integers.proofs.Distances.{Le, Lt}
 use Rattle.floats.proofs.Values.{signed-plus, signed-minus, value-is, whole}
 
--- A / C is a of the units 1 / l, and B / C is b
+-- A / C is a / l, and B / C is b / l
 scaled-lt : (A B C a b l : ℕ) → 0 < l → A * l ≡ a * C → B * l ≡ b * C → A < B → a < b
 scaled-lt A B C a b l l₀ p q h = lt-of-mul-lt-mul-right C (omega (arith, mul-lt-mul-of-pos-right h l₀))
 
@@ -81,7 +81,7 @@ module _ (A B C a b l : ℕ) (C₀ : 0 < C) (l₀ : 0 < l) (p : A * l ≡ a * C)
   is-level true false h = and-i (eqb A B) (eqb A 0) (eq→eqb (eq-scaled (omega (arith, signed-minus a, signed-plus b))))
       (eq→eqb (none-back (omega (arith, signed-minus a, signed-plus b))))
 
--- ---- at two floats
+-- ---- two floats
 record Pair (f : Format) (x y : Float) : Type 0 where
   lt→ : T (lt x y) → Lt (value f x) (value f y)
   →lt : Lt (value f x) (value f y) → T (lt x y)

@@ -1,4 +1,4 @@
--- The error of a sum of many values, added in order. Assumes nothing.
+-- The rounding error of a sum of many values, added in order. Assumes nothing.
 use mathlib.Core.Path.{_≡_, refl, sym, ap, ap₂, _∙_}
 use Prim.Native.Nat.{ℕ, zero, suc, _+_, _-_, _*_, _/_, _^_, _≤_, _<_, zero-le, suc-le-suc}
 use native.Mathlib.Nat.{le-trans, le-of-lt, lt-of-le-of-lt, le-of-suc-le-suc, le-of-suc-le, le-step, le-refl, mul-le-mul-right, le-of-mul-le-mul-right, mul-one}
@@ -19,13 +19,13 @@ use Rattle.floats.proofs.Close.{Close}
 use Rattle.floats.proofs.Sums.{add-close}
 use Rattle.floats.proofs.Ranges.{Nonpositive, nonpositive-size}
 
--- The bound on the error of i values, where the i-th partial sum is at most 2 ^ K i units. The first addition, to 0, is exact.
+-- Error bound of i values, if the i-th partial sum is at most 2 ^ K i units. The first addition, to 0, is exact.
 unfoldable pub errs : ℕ → (ℕ → ℕ) → ℕ → ℕ
 errs p K zero = 0
 errs p K (suc zero) = 0
 errs p K (suc (suc i)) = errs p K (suc i) + 2 ^ (K (suc (suc i)) - p) / 2
 
--- a value of the format that is at most b units in size
+-- a value of the format of at most b units
 pub record Item (f : Format) (b : ℕ) (x : Float) : Type 0 where
   pub holds : T (fits f x)
   pub is-finite : Finite x
@@ -37,7 +37,7 @@ item h = record { holds = h .holds; is-finite = h .is-finite; small = nonpositiv
 pub item-nonpositive : {f : Format} {b : ℕ} {x : Float} → Item f b x → plus (value f x) ≡ 0 → Nonpositive f b x
 item-nonpositive {f} {b} {x} h s = record { holds = h .holds; is-finite = h .is-finite; sign = s; small = omega (arith, abs-is (value f x)) }
 
--- of i values of at most b units each the float acc is the sum, and z is the exact one
+-- acc is the float sum of i values of at most b units, and z the exact one
 pub record Inv (f : Format) (b : ℕ) (K : ℕ → ℕ) (i : ℕ) (acc : Float) (z : ℤ) : Type 0 where
   pub holds : T (fits f acc)
   pub is-finite : Finite acc
@@ -51,7 +51,7 @@ pub start : (f : Format) (b : ℕ) (K : ℕ → ℕ) → Inv f b K 0 nought (pos
 unfolding fits errs
 start f b K = record { holds = tt; is-finite = tt; small = rw value-nought (omega arith); near = rw value-nought (near-refl (pos 0)) }
 
--- adding to 0 changes nothing
+-- adding 0 is exact
 add-nought : (f : Format) (x y : Float) (K : ℕ) → T (fits f x) → T (fits f y) → Finite x → Finite y → natAbs (value f x) ≤ 0
     → natAbs (value f y) ≤ 2 ^ K → suc K ≤ low f + suc (emax f)
     → value f (add f x y) ≡ value f x +ℤ value f y
@@ -61,8 +61,8 @@ add-nought f x y K fx fy x₀ y₀ h l o =
     let c = add-close f x y K fx fy x₀ y₀ (rw z l) o in
     c .exact (w .c) (w .j) (w .short) (ap natAbs z ∙ value-size f y w)
 
--- n values of at most b = c × 2 ^ j units each, where each i × c has no more digits than the format keeps. So i × b is not passed over
--- by the i-th partial sum, and the bounds need no allowance for errors.
+-- n values of at most b = c × 2 ^ j units each, where each i × c fits the format's digits. So rounding the i-th partial sum does not
+-- cross i × b, and the bounds need no allowance for errors.
 pub record Schedule (f : Format) (c j n : ℕ) (K : ℕ → ℕ) : Type 0 where
   pub few : n * c < 2 ^ prec f
   pub room : (i : ℕ) → i ≤ n → i * (c * 2 ^ j) ≤ 2 ^ K i
@@ -103,7 +103,7 @@ module _ {f : Format} {c j n : ℕ} {K : ℕ → ℕ} (S : Schedule f c j n K) (
   step-negative p q = next .negative (sum-sign (value f acc) (value f x) p q)
 
 -- ---- the sum of a family
--- terms that are the same add up to the same
+-- equal terms have equal sums
 pub sum-ext : (t u : ℕ → Float) (n : ℕ) → ((k : ℕ) → k < n → t k ≡ u k) → sumTo t n ≡ sumTo u n
 unfolding sumTo
 sum-ext t u zero e = refl
@@ -162,7 +162,7 @@ tight-schedule f c j n m few room top =
     under : (x y : ℕ) → x ≤ y → 0 < y → x - 1 < y
     under x y h k = omega arith
 
--- half of the last place of a number of y's size, with p digits kept, is at most y / 2 ^ p
+-- half a unit in the last place of y, with p digits kept, is at most y / 2 ^ p
 half-place : (p y : ℕ) → 2 ^ (size y - p) / 2 * 2 ^ p ≤ y
 half-place p y = go (leb (size y) p) (leb→le (size y) p) (nleb→lt (size y) p)
   where
@@ -180,7 +180,7 @@ half-place p y = go (leb (size y) p) (leb→le (size y) p) (nleb→lt (size y) p
         last : (x : ℕ) → p < x → x - p + p ≡ suc (x - 1)
         last x g = omega arith
 
--- the i-th addition is off by at most i × b / 2 ^ p
+-- the rounding error of the i-th addition is at most i × b / 2 ^ p
 pub errs-long : (p b n : ℕ) → errs p (tight b) n * 2 ^ suc p ≤ n * (n + 1) * b
 unfolding errs tight
 errs-long p b zero = omega arith
@@ -192,11 +192,11 @@ errs-long p b (suc (suc i)) =
     go : (e u : ℕ) → e * 2 ^ suc p ≤ suc i * (suc i + 1) * b → u * 2 ^ p ≤ suc (suc i) * b - 1 → (e + u) * 2 ^ suc p ≤ suc (suc i) * (suc (suc i) + 1) * b
     go e u h k = omega (arith, ap (λ (x : ℕ). u * x) (pow-suc 2 p))
 
--- where the bound is a multiple of 2 ^ (p + 1)
+-- if the bound is a multiple of 2 ^ (p + 1)
 pub errs-tight : (p d n : ℕ) → errs p (tight (d * 2 ^ suc p)) n ≤ n * (n + 1) * d
 errs-tight p d n = le-of-mul-le-mul-right {k = 2 ^ suc p} (omega (arith, errs-long p (d * 2 ^ suc p) n)) (pow-pos (suc p))
 
--- ---- at most 64 values from −8 to 0: each addition is off by at most 2⁻¹⁶
+-- ---- at most 64 values from −8 to 0: each addition has a rounding error of at most 2⁻¹⁶
 pub schedule-64 : Schedule binary32 1 152 64 (λ _. 158)
 schedule-64 = flat binary32 1 152 64 158 (lit< tt) (lit≤ tt) (lit≤ tt)
 
@@ -209,7 +209,7 @@ sum-of-64 t n l a =
     let v = sum-error schedule-64 t n l (λ k h. item (a k h)) in
     (item-nonpositive (inv-item v) (sum-negative schedule-64 t n l a), near-64 l v)
 
--- ---- values of size at most 512: the i-th addition is off by at most 2 i × 2⁻¹⁶
+-- ---- values of size at most 512: the i-th addition has a rounding error of at most 2 i × 2⁻¹⁶
 pub long-schedule : (n : ℕ) → n < 2 ^ 24 → Schedule binary32 1 158 n (tight (2 ^ 158))
 long-schedule n l = tight-schedule binary32 1 158 n 182 (rw mul-one l) (le-trans (mul-le-mul-right (2 ^ 158) (le-of-lt l)) (lit≤ tt)) (lit≤ tt)
 

@@ -1,4 +1,4 @@
--- How far `round` lies from the fraction that it is handed: at most half a unit in the last place. In whole numbers, with both sides
+-- `round` has a rounding error of at most half a unit in the last place, stated in integers with both sides
 -- doubled. Assumes nothing.
 use mathlib.Core.Path.{_≡_, sym, ap, _∙_, subst}
 use mathlib.Core.Logic.{inl, inr}
@@ -22,7 +22,7 @@ pub record Half (x y u : ℕ) : Type 0 where
   pub above : x * 2 ≤ y * 2 + u
   pub below : y * 2 ≤ x * 2 + u
 
--- ---- the nearest whole number
+-- ---- the nearest integer
 tie : (q u r n b : ℕ) → q * u + r ≡ n → r * 2 ≡ u → b < 2 → Half ((q + b) * u) n u
 tie q u r n zero e h l = record { above = omega arith; below = omega arith }
 tie q u r n (suc zero) e h l = record { above = omega arith; below = omega arith }
@@ -42,7 +42,7 @@ closest-half n u U =
     nearest-half (n / u) u (n % u) n (compare (n % u * 2) u) (div-add-mod' n u) (mod-lt n U)
     (leb→le (n % u * 2) u) (nleb→lt (n % u * 2) u) (eqb→eq (n % u * 2) u)
 
--- what divides is not changed
+-- exact division
 closest-exact : (q u : ℕ) → 0 < u → closest (q * u) u ≡ q
 closest-exact q u U =
     let h = closest-half (q * u) u U in
@@ -61,14 +61,14 @@ fewer-suc z p K P h = omega arith
 half-wider : {x y u v : ℕ} → u ≤ v → Half x y u → Half x y v
 half-wider l h = record { above = omega (arith, h .above); below = omega (arith, h .below) }
 
--- n / c rounded is a multiple of 2 ^ drop, and within half of that of n / c
+-- n / c rounded is a multiple of 2 ^ drop, within half of that of n / c
 kept-half : (p n c : ℕ) → 0 < c → Half (kept p n c * 2 ^ drop p n c * c) n (c * 2 ^ drop p n c)
 kept-half p n c C =
     let k = drop p n c in
     let h = closest-half n (c * 2 ^ k) (mul-pos C (pow-pos k)) in
     record { above = omega (arith, h .above); below = omega (arith, h .below) }
 
--- n / c is at most 2 ^ K. So the last place is 2 ^ (K - p) or lower.
+-- n / c is at most 2 ^ K, so the last place is at most 2 ^ (K - p)
 kept-under : (p n c K : ℕ) → 2 ≤ p → 0 < c → n ≤ c * 2 ^ K → Half (kept p n c * 2 ^ drop p n c * c) n (c * 2 ^ (K - p))
 kept-under p n c K P C h = elim (eq-or-lt-of-le h) [ inl e ↦ exactly e | inr l ↦ less l ]
   where
@@ -89,7 +89,7 @@ kept-under p n c K P C h = elim (eq-or-lt-of-le h) [ inl e ↦ exactly e | inr l
         let z : kept p n c * 2 ^ k * c ≡ n = ap (λ (x : ℕ). x * 2 ^ k * c) g ∙ sym (m ∙ omega arith) in
         record { above = omega arith; below = omega arith }
 
--- ---- a number m = c × 2 ^ j, with c of p digits at most, is not passed over: what is at most m is rounded to at most m, and what is
+-- ---- rounding does not cross m = c × 2 ^ j with c of at most p digits: what is at most m is rounded to at most m, and what is
 -- at least m to at least m
 over-size : (p j z : ℕ) → z ≤ p + j → z - p ≤ j
 over-size p j z h = omega arith
@@ -113,7 +113,7 @@ kept-le p n d c j D c₀ h =
 all-in-use : (z p : ℕ) → 2 ≤ p → 0 < z - p → p - 1 + (z - p) < z
 all-in-use z p P h = omega arith
 
--- where digits are dropped, the kept number has p of them
+-- if digits are dropped, the kept number has p of them
 kept-full : (p n d : ℕ) → 2 ≤ p → 0 < drop p n d → 2 ^ (p - 1) ≤ kept p n d
 kept-full p n d P K =
     let k = drop p n d in
@@ -152,7 +152,7 @@ double K r h = le-trans (le-of-eq (sym (pow-suc 2 K))) (pow-mono h)
 shrink : (K p : ℕ) → K - p ≤ K
 shrink K p = omega arith
 
--- What `round` makes of a fraction that is q / w of the format's smallest values: g of them, with |g − q / w| ≤ ulp / 2.
+-- `round` of a fraction that is q / w units: g units, with |g − q / w| ≤ ulp / 2
 pub record Rounded (f : Format) (s : Bool) (q w ulp : ℕ) (r : Float) : Type 0 where
   pub g : ℕ
   pub has : HasValue r s g (2 ^ low f)

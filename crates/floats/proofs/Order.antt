@@ -1,4 +1,4 @@
--- The order of finite floats: nothing lies below itself, and both "lies below" and "does not lie below" are transitive. Assumes nothing.
+-- The order of finite floats: "less" is irreflexive, and "less" and "not less" are transitive. Assumes nothing.
 use mathlib.Core.Path.{_≡_, refl, sym, _∙_}
 use Prim.Native.Nat.{ℕ, _+_, _*_, _<_}
 use native.Mathlib.Nat.{zero-mul, add-mul, mul-right-comm, lt-of-mul-lt-mul-right, mul-lt-mul-of-pos-right}
@@ -11,7 +11,7 @@ use lib.Ieee.Fits.{down-pos}
 use borrow.Author.Tests.{ltb-true, ltb-false, lt-ltb, le-ltb}
 use Rattle.floats.specs.Units.{Finite}
 
--- ---- a common factor changes nothing
+-- ---- a common factor cancels
 ltb-scaled : (a b k : ℕ) → 0 < k → ltb (a * k) (b * k) ≡ ltb a b
 ltb-scaled a b k h = go (ltb a b) (ltb (a * k) (b * k)) refl refl
   where
@@ -27,7 +27,7 @@ scaled false true a b k h = refl
 scaled true false a b k h = cc (add-mul a b k, zero-mul k, ltb-scaled 0 (a + b) k h)
 scaled true true a b k h = ltb-scaled b a k h
 
--- ---- numbers with a sign
+-- ---- signed numbers
 signed-self : (s : Bool) (a : ℕ) → signedBelow s a s a ≡ false
 signed-self false a = le-ltb a a (omega arith)
 signed-self true a = le-ltb a a (omega arith)
@@ -50,7 +50,7 @@ signed-not-trans true false true a b c p q = le-ltb c a (omega (arith, ltb-false
 signed-not-trans true true false a b c p q = le-ltb 0 (a + c) (omega (arith, ltb-false b a p, ltb-false 0 (b + c) q))
 signed-not-trans true true true a b c p q = le-ltb c a (omega (arith, ltb-false b a p, ltb-false c b q))
 
--- ---- M / p, N / q and O / r with a sign, as numbers of 1 / (p × q × r)
+-- ---- M / p, N / q and O / r with a sign, over the common denominator p × q × r
 module _ (s t u : Bool) (M N O p q r : ℕ) where
   first : 0 < r → signedBelow s (M * q) t (N * p) ≡ signedBelow s (M * q * r) t (N * p * r)
   first h = sym (scaled s t (M * q) (N * p) r h)

@@ -22,8 +22,8 @@ mul-fin f s m e t n d a b K p q h o =
     let c : m * up e * l * (n * up d * l) ≡ a * down e * (b * down d) = ap₂ _*_ p q in
     round-half f (unlike s t) (m * up e * (n * up d)) (down e * down d) (a * b) l K (mul-pos (down-pos e) (down-pos d)) (pow-pos (low f)) (omega arith) h o
 
--- The exact product is `value f x *ℤ value f y` of the units 2 ^ −(2 × low f). If it is at most 2 ^ K of the format's own units, it is
--- rounded by at most half of 2 ^ (K − prec) of these.
+-- The exact product is `value f x *ℤ value f y` in units of 2 ^ −(2 × low f). If it is at most 2 ^ K of the format's units, its
+-- rounding error is at most half of 2 ^ (K − prec) of these.
 pub mul-close : (f : Format) (x y : Float) (K : ℕ) → T (fits f x) → T (fits f y) → Finite x → Finite y
     → natAbs (value f x *ℤ value f y) ≤ 2 ^ low f * 2 ^ K → suc K ≤ low f + suc (emax f)
     → CloseTimes f (2 ^ low f) (value f x *ℤ value f y) (2 ^ low f * 2 ^ (K - prec f) / 2) (mul f x y)

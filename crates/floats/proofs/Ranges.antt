@@ -1,4 +1,4 @@
--- Ranges of floats as ranges of their values, and what `clamp01` and a division give. Assumes nothing.
+-- Ranges of floats as ranges of their values, and the ranges of `clamp01` and of a division. Assumes nothing.
 use mathlib.Core.Path.{_≡_, refl}
 use Prim.Native.Nat.{ℕ, zero, suc, _+_, _*_, _^_, _≤_, _<_}
 use native.Mathlib.Nat.{le-trans}
@@ -48,7 +48,7 @@ nonpositive-wider l h = record { holds = h .holds; is-finite = h .is-finite; sig
 pub nonpositive-size : {f : Format} {b : ℕ} {x : Float} → Nonpositive f b x → natAbs (value f x) ≤ b
 nonpositive-size {f} {b} {x} h = omega (arith, abs-is (value f x))
 
--- two of them lie at most b units apart
+-- two of them are at most b units apart
 pub nonpositive-apart : {f : Format} {b : ℕ} {x y : Float} → Nonpositive f b x → Nonpositive f b y → natAbs (value f x -ℤ value f y) ≤ b
 nonpositive-apart {f} {b} {x} {y} h k =
     let z = value f x -ℤ value f y in
@@ -111,7 +111,7 @@ clamp01-between x x₀ = go (lt x nought) (lt unity x) (not-lt→le x nought x�
     go false true p q = unfold le lt eq in (tt, tt)
     go false false p q = (p tt, q tt)
 
--- ---- `round` never gives NaN, so a division by what is above 0 gives none. `units` is here the library's: what `round` ends in.
+-- ---- `round` never returns NaN, so a division by a positive value does not. `units` is here that of `lib.Ieee`: the last step of `round`.
 odd-not-nan : (d : ℕ) (s : Bool) (q k l : ℕ) → T (not (isNan (odd d s q k l)))
 unfolding odd isNan
 odd-not-nan d s zero k l = tt

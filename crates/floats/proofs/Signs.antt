@@ -19,7 +19,7 @@ use Rattle.floats.proofs.Compare.{le→Le, Le→le}
 use Rattle.floats.proofs.Close.{Close}
 use Rattle.floats.proofs.Sums.{value-neg, finite-neg, sub-close}
 
--- ---- x − y is at least 0 where y is at most x
+-- ---- x − y is at least 0 if y is at most x
 pub sub-nonnegative : (f : Format) (x y : Float) (K : ℕ) → T (fits f x) → T (fits f y) → Finite x → Finite y
     → natAbs (value f x -ℤ value f y) ≤ 2 ^ K → suc K ≤ low f + suc (emax f) → T (le y x) → T (le nought (sub f x y))
 unfolding fits
@@ -29,7 +29,7 @@ sub-nonnegative f x y K fx fy x₀ y₀ h o l =
     let s = c .positive (no-minus z (omega (arith, le→Le f y x fy fx y₀ x₀ l, sub-is-parts (value f x) (value f y)))) in
     Le→le f nought (sub f x y) tt (sub-fits f x y) tt (c .is-finite) (omega (arith, nought-parts f))
 
--- ---- x − y is at most −y where neither is above 0: its exact value is, and −y is not passed over
+-- ---- x − y is at most −y if neither is above 0: the exact value is, and rounding does not cross −y
 pub sub-at-most : (f : Format) (x y : Float) (K : ℕ) → T (fits f x) → T (fits f y) → Finite x → Finite y
     → natAbs (value f x -ℤ value f y) ≤ 2 ^ K → suc K ≤ low f + suc (emax f) → plus (value f x) ≡ 0 → plus (value f y) ≡ 0 → T (le (sub f x y) (neg y))
 sub-at-most f x y K fx fy x₀ y₀ h o px py =
@@ -51,7 +51,7 @@ sub-at-most f x y K fx fy x₀ y₀ h o px py =
         omega (arith, small, value-size f y w, abs-is (value f y), abs-is (value f (sub f x y)))
     go (inr l) = omega (arith, c .negative (no-plus z l))
 
--- ---- a quotient of what is at least 0 by what is above 0
+-- ---- a quotient of a nonnegative by a positive value
 round-positive : (n d : ℕ) → 0 < d → T (le nought (round binary32 false n d))
 round-positive n d h = unfold round in round-mono binary32 0 1 n d (lit< tt) h (omega arith)
 
@@ -60,7 +60,7 @@ round-zero n d h e =
     let z : n * 1 ≡ 0 * d = omega arith in
     rw (round-same binary32 true n d 0 1 h (lit< tt) z) (unfold round le lt eq in tt)
 
--- −0 is the one negative number that is at least 0
+-- −0 is the one negatively signed value that is at least 0
 no-size : (m : ℕ) (e : ℤ) → T (le nought (fin true m e)) → m * up e ≡ 0
 unfolding le lt eq
 no-size m e l = omega (arith, eqb→eq (0 * 1 * down e) (m * up e * 1) (and-l (eqb (0 * 1 * down e) (m * up e * 1)) (eqb (0 * 1 * down e) 0) l))

@@ -14,7 +14,7 @@ use Rattle.floats.proofs.Grid.{round-half}
 use Rattle.floats.proofs.Close.{Close, close, close-units}
 use Rattle.floats.proofs.Values.{abs-signed, signed-plus, signed-minus, value-is, whole}
 
--- ---- A / C is a of the units 1 / l, and B / C is b
+-- ---- A / C is a / l, and B / C is b / l
 scaled-le : (A B C a b l : ℕ) → 0 < C → A * l ≡ a * C → B * l ≡ b * C → A ≤ B → a ≤ b
 scaled-le A B C a b l C₀ p q h = le-of-mul-le-mul-right {k = C} (omega (arith, mul-le-mul-right l h)) C₀
 
@@ -91,7 +91,7 @@ add-fin f s m e t n d a b K p q h o =
     sum-close f (m * up e * down d) (n * up d * down e) (down e * down d) a b K (mul-pos (down-pos e) (down-pos d))
     (omega (arith, ap (λ (x : ℕ). x * down d) p)) (omega (arith, ap (λ (x : ℕ). x * down e) q)) o s t h
 
--- what is at most 2 ^ K units in size is rounded by at most half of 2 ^ (K − prec)
+-- a sum of at most 2 ^ K units has a rounding error of at most half of 2 ^ (K − prec)
 pub add-close : (f : Format) (x y : Float) (K : ℕ) → T (fits f x) → T (fits f y) → Finite x → Finite y → natAbs (value f x +ℤ value f y) ≤ 2 ^ K
     → suc K ≤ low f + suc (emax f)
     → Close f (value f x +ℤ value f y) (2 ^ (K - prec f) / 2) (add f x y)

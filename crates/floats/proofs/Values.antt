@@ -13,7 +13,7 @@ use lib.Ieee.Exact.{HasValue}
 use Rattle.floats.specs.Units.{signed, value, Finite, nought}
 use Rattle.integers.proofs.Parts.{plus, minus, plus-neg, minus-neg}
 
--- ---- a number with a sign, by its parts
+-- ---- a signed number by its parts
 pub signed-plus : (n : ℕ) → (plus (signed false n) ≡ n) × (minus (signed false n) ≡ 0)
 unfolding plus minus
 signed-plus n = (refl, refl)
@@ -22,7 +22,7 @@ pub signed-minus : (n : ℕ) → (plus (signed true n) ≡ 0) × (minus (signed 
 unfolding plus minus
 signed-minus n = (plus-neg (pos n), minus-neg (pos n))
 
--- ---- HasValue says what `value` is
+-- ---- `HasValue` determines `value`
 pub value-is : (f : Format) (x : Float) (s : Bool) (a : ℕ) → HasValue x s a (2 ^ low f) → value f x ≡ signed s a
 unfolding value
 value-is f nan s a h = absurd h
@@ -36,7 +36,7 @@ value-finite nan s a c h = h
 value-finite (inf t) s a c h = h
 value-finite (fin t m e) s a c h = tt
 
--- ---- a finite value that fits is a whole number of units: c × 2 ^ j of them, with c of no more digits than the format keeps
+-- ---- a finite value that fits is an integer multiple of the unit: c × 2 ^ j, with c of at most the format's digits
 pub record Whole (f : Format) (x : Float) : Type 0 where
   pub s : Bool
   pub a : ℕ

@@ -1,4 +1,4 @@
--- Floats as whole numbers of the smallest value, their sums, and their ranges.
+-- Floats as integer multiples of the smallest positive value, their sums, and their ranges.
 use Prim.Native.Nat.{ℕ, zero, suc, _*_, _/_, _^_}
 use mathlib.Core.Bool.{Bool, true, false, cond}
 use lib.IntN.{ℤ, pos, negℤ, _+ℤ_}
@@ -11,13 +11,13 @@ abbrev pub signed : Bool → ℕ → ℤ
 signed false n = pos n
 signed true n = negℤ (pos n)
 
--- x in units of 2 ^ −low f: exact for every x that fits f. 0 for what is not finite.
+-- x in units of 2 ^ −low f, the smallest positive value: exact for every x that fits f. 0 if x is not finite.
 unfoldable pub value : Format → Float → ℤ
 value f nan = pos 0
 value f (inf s) = pos 0
 value f (fin s m e) = signed s (m * up e * 2 ^ low f / down e)
 
--- an f32 in units of 2⁻¹⁴⁹
+-- an f32 as an integer multiple of 2⁻¹⁴⁹
 abbrev pub unitsOf : Float → ℤ
 unitsOf x = value binary32 x
 
@@ -31,7 +31,7 @@ nought = fin false 0 (pos 0)
 abbrev pub unity : Float
 unity = fin false 1 (pos 0)
 
--- t 0 + … + t (n − 1), added in this order from +0: as f32 adds, and exactly in units of 2⁻¹⁴⁹
+-- t 0 + … + t (n − 1), in this order from +0: rounded as f32, and exact in units of 2⁻¹⁴⁹
 unfoldable pub sumTo : (ℕ → Float) → ℕ → Float
 sumTo t zero = nought
 sumTo t (suc n) = add binary32 (sumTo t n) (t n)

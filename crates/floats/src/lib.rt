@@ -1,11 +1,11 @@
-// What the library asks of an f32, and its bits, on every pattern and every value. What its sums and products are off by is in
-// `proofs/`, in whole numbers of `specs/Units.antt`. Uses `integers`.
+// Converts, tests and clamps f32 values, specified for every bit pattern and every value.
+// `proofs/` bounds the rounding errors of sums and products, in integer multiples of 2⁻¹⁴⁹ (`specs/Units.antt`).
 ghost use mathlib.Core.Path.{_≡_};
 ghost use lib.Ieee.{binary32, nanBits, ofBits, toBits};
 ghost use lib.Ieee.Scale.{finite};
 ghost use Rattle.floats.specs.Units.{clamp01};
 
-// Neither infinite nor NaN: strictly between the two infinities.
+// Neither infinite nor NaN.
 pub fn is_finite(x: f32) -> bool
     ensures { λ r. ⌜ r ≡ finite x ⌝ }
 {
@@ -22,14 +22,14 @@ fn is_nan_pattern(bits: u32) -> bool
     0x7F80_0000 < bits % 0x8000_0000
 }
 
-// The exponent's field is not all ones.
+// The exponent field is not all ones.
 pub fn is_finite_pattern(bits: u32) -> bool
     ensures { λ r. ⌜ r ≡ finite (ofBits binary32 bits) ⌝ }
 {
     bits % 0x8000_0000 < 0x7F80_0000
 }
 
-// The value of a pattern. All patterns of a NaN are one value.
+// The value of a bit pattern. All NaN patterns are one value.
 pub fn from_bits(bits: u32) -> f32
     ensures { λ r. ⌜ r ≡ ofBits binary32 bits ⌝ }
 {
@@ -39,7 +39,7 @@ pub fn from_bits(bits: u32) -> f32
     f32::from_bits(bits)
 }
 
-// The pattern of a value; 7FC00000 for NaN.
+// The bit pattern of a value; 7FC00000 for NaN.
 pub fn to_bits(x: f32) -> u32
     ensures { λ r. ⌜ r ≡ toBits binary32 x ⌝ }
 {
@@ -49,7 +49,7 @@ pub fn to_bits(x: f32) -> u32
     0x7FC0_0000
 }
 
-// To 0.0 from below and to 1.0 from above. NaN stays NaN.
+// x.clamp(0.0, 1.0): NaN stays NaN.
 pub fn clamp01(x: f32) -> f32
     ensures { λ r. ⌜ r ≡ clamp01 x ⌝ }
 {

@@ -1,4 +1,4 @@
--- The entries of the turns' matrices: their size, what they make of a point, and the least point of the turned unit square, by which the corners'
+-- The entries of the turns' matrices: their size, the images of points, and the minimum corner of the turned unit square, by which the corners'
 -- translation differs from the cells'. Assumes nothing.
 use mathlib.Core.Path.{_≡_, refl, ap₂}
 use Prim.Native.Nat.{ℕ, _+_, _*_, _≤_}
@@ -30,7 +30,7 @@ combination : (a b x y z : ℤ) → plus z + (plus a * minus x + minus a * plus 
 combination a b x y z h =
     ext (a *ℤ x +ℤ b *ℤ y) z (omega (arith, mul-is a x, mul-is b y, add-is (a *ℤ x) (b *ℤ y)))
 
--- what the entries, each read from a word, make of a point
+-- the image of a point, from entries each read from a word
 abbrev pub combined : Matrix → ℤ → ℤ → Coord
 combined m x y =
     point (word (m .a) *ℤ x +ℤ word (m .b) *ℤ y) (word (m .c) *ℤ x +ℤ word (m .d) *ℤ y)
@@ -47,13 +47,13 @@ combined-is r x y =
     (ap₂ point (combination (pos 0) (negsuc 0) x y (negℤ y) (omega (arith, plus-neg y, minus-neg y))) (combination (pos 1) (pos 0) x y x (omega arith)))
     r)
 
--- a turn makes no coordinate larger
+-- a turn keeps a bound on the coordinates
 pub sends-small : (r n : ℕ) (p : Coord) → natAbs (p .u) ≤ n → natAbs (p .v) ≤ n → (natAbs (sends r p .u) ≤ n) × (natAbs (sends r p .v) ≤ n)
 unfolding sends
 sends-small r n p hu hv =
     by-turn (λ (q : Coord). (natAbs (q .u) ≤ n) × (natAbs (q .v) ≤ n)) r (hu, hv) (hv, rw abs-neg hu) (rw abs-neg hu, rw abs-neg hv) (rw abs-neg hv, hu)
 
--- ---- the least point of the turned unit square, from the entries
+-- ---- the minimum corner of the turned unit square, from the entries
 abbrev pub minima : Matrix → Coord
 minima m =
     point (word (lesser (word (m .a)) (pos 0)) +ℤ word (lesser (word (m .b)) (pos 0)))
@@ -69,7 +69,7 @@ lowest-small r =
     rw (mod-mod r 4) at (each-turn (λ m. (natAbs (lowestPoint 1 m .u) ≤ 1) × (natAbs (lowestPoint 1 m .v) ≤ 1)) (omega arith) (omega arith)
     (omega arith) (omega arith) r)
 
--- the translation of the corners is that of the cells or one more
+-- the corners' translation is the cells' or one more
 pub small-corners : (n : ℕ) (a : GridAlignment) → SmallAlignment n a → SmallAlignment (n + 1) (cornerAlignment a)
 small-corners n a h =
     let low = lowestPoint 1 (a .turn) in

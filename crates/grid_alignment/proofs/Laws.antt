@@ -18,7 +18,7 @@ use Rattle.grid_alignment.specs.Alignment.{point, sends, moved, applied,
 use Rattle.grid_alignment.specs.Rules.{asPoint, TurnsAgree}
 
 -- ---- points
--- no turn leaves a point where it is
+-- turn 0 is the identity
 pub sends-none : (p : Coord) → sends 0 p ≡ p
 unfolding sends
 sends-none p = refl
@@ -37,19 +37,19 @@ step r p =
     r
     ∙ ap (sends 1) (sends-mod r p)
 
--- turning by s and then by r is turning by r + s, where four turns are none
+-- turning by s and then by r is turning by r + s
 pub sends-sends : (r s : ℕ) (p : Coord) → sends r (sends s p) ≡ sends (r + s) p
 sends-sends zero s p = sends-none (sends s p) ∙ ap (λ (m : ℕ). sends m p) (sym (zero-add s))
 sends-sends (suc r) s p =
     step r (sends s p) ∙ ap (sends 1) (sends-sends r s p) ∙ sym (step (r + s) p) ∙ ap (λ (m : ℕ). sends m p) (sym (suc-add r s))
 
--- a turn is undone by the turns that are left of four
+-- the inverse of a turn
 pub sends-back : (r : ℕ) (p : Coord) → sends (4 - r % 4) (sends r p) ≡ p
 sends-back r p =
     let whole : (4 - r % 4 + r) % 4 ≡ 0 = omega arith in
     sends-sends (4 - r % 4) r p ∙ sym (sends-mod (4 - r % 4 + r) p) ∙ ap (λ (m : ℕ). sends m p) whole ∙ sends-none p
 
--- different points stay different
+-- an alignment is injective
 pub applied-once : (a : GridAlignment) (p q : Coord) → applied a p ≡ applied a q → p ≡ q
 applied-once a p q e =
     let turned : sends (a .turn) p ≡ sends (a .turn) q = ap₂ point (unmoved _ _ (a .tx) (ap (λ (c : Coord). c .u) e)) (unmoved _ _ (a .ty) (ap (λ (c : Coord). c .v) e)) in
@@ -58,7 +58,7 @@ applied-once a p q e =
     unmoved : (x y t : ℤ) → x +ℤ t ≡ y +ℤ t → x ≡ y
     unmoved x y t f = ext x y (omega (arith, add-is x t, add-is y t, ap plus f, ap minus f))
 
--- a turn of a sum is the sum of the turns
+-- a turn is linear
 sends-moved : (r : ℕ) (p : Coord) (x y : ℤ) → sends r (moved p x y) ≡ moved (sends r p) (sends r (point x y) .u) (sends r (point x y) .v)
 unfolding sends
 sends-moved r p x y =
@@ -80,7 +80,7 @@ corner-is k p =
     rw (mod-mod k 4) at
     (each-turn (λ m. corner m p ≡ moved p (unit m .u) (unit m .v)) (ap₂ point (sym (+ℤ-idr (p .u))) (sym (+ℤ-idr (p .v)))) refl refl refl k)
 
--- r turns send corner k of the unit square to corner k + 3 r of the square at their least point
+-- r turns map corner k of the unit square to corner k + 3 r of the square at their minimum corner
 abbrev Lands : ℕ → ℕ → Type 0
 Lands r k = sends r (unit k) ≡ moved (unit (k + 3 * r)) (lowestPoint 1 r .u) (lowestPoint 1 r .v)
 
@@ -96,14 +96,14 @@ unit-lands r k =
     r
     k)
 
--- a coordinate: s of the turned cell, t of the translation, and o of the turned corner, which is d past the least one, l
+-- a coordinate: s of the turned cell, t of the translation, and o of the turned corner, which is d past the minimum l
 coordinate : (s t l d o : ℤ) → o ≡ d +ℤ l → (s +ℤ o) +ℤ (t -ℤ l) ≡ (s +ℤ t) +ℤ d
 coordinate s t l d o e =
     ext ((s +ℤ o) +ℤ (t -ℤ l)) ((s +ℤ t) +ℤ d)
     (omega
     (arith, ap plus e, ap minus e, add-is d l, add-is s o, sub-is-parts t l, add-is (s +ℤ o) (t -ℤ l), add-is s t, add-is (s +ℤ t) d))
 
--- The corner alignment sends the corners of a cell to the corners of the square on which the cell alignment puts it:
+-- The corner alignment maps the corners of a cell to those of the square to which the cell alignment maps it:
 -- corner k to corner k + 3 r after r turns.
 pub corners-land : (a : GridAlignment) (k : ℕ) (p : Coord) → applied (cornerAlignment a) (corner k p) ≡ corner (k + 3 * a .turn) (applied a p)
 corners-land a k p =
@@ -117,7 +117,7 @@ corners-land a k p =
     (coordinate (sends r p .v) (a .ty) (low .v) (to .v) (sends r (unit k) .v) (λ i. lands i .v))
     ∙ sym (corner-is (k + 3 * r) (applied a p))
 
--- so the corner that `rotate_gc_top_left` names lands on the top left of that square
+-- so the corner of `rotate_gc_top_left` maps to the top left of that square
 pub top-left-lands : (a : GridAlignment) (p : Coord) → applied (cornerAlignment a) (corner (a .turn) p) ≡ applied a p
 unfolding corner
 top-left-lands a p =
@@ -129,7 +129,7 @@ same : (b : Bool) (z : ℤ) → cond b z z ≡ z
 same true z = refl
 same false z = refl
 
--- the least of 0 and z over the corners of a square: where they are 0, 0, z, z, and where they are 0, z, z, 0
+-- the minimum over the corners of a square: where they are 0, 0, z, z, and where they are 0, z, z, 0
 along : (z : ℤ) → lesser (lesser (pos 0) (pos 0)) (lesser z z) ≡ lesser (pos 0) z
 along z = ap (lesser (pos 0)) (same (leZ z z) z)
 
@@ -138,7 +138,7 @@ around (pos zero) = refl
 around (pos (suc n)) = rw (le-leb 0 (suc n) zero-le, lt-leb (suc n) 0 (omega arith))
 around (negsuc n) = same (leZ (negsuc n) (negsuc n)) (negsuc n)
 
--- the least point of a turned square is that of two opposite corners
+-- the minimum corner of a turned square is that of two opposite corners
 lowest-is : (m r : ℕ) → lowestPoint m r ≡ meet (point (pos 0) (pos 0)) (sends r (point (pos m) (pos m)))
 unfolding sends lowestPoint
 lowest-is m r =
@@ -149,7 +149,7 @@ lowest-is m r =
     (ap₂ point (along (negℤ (pos m))) (around (pos m)))
     r)
 
--- a coordinate that a turn keeps, and one that it turns round
+-- a coordinate that a turn keeps, and one that it negates
 kept : (x m : ℕ) → pos x +ℤ lesser (pos 0) (pos m) ≡ pos x
 kept x m = rw (le-leb 0 m zero-le) (+ℤ-idr (pos x))
 
@@ -165,7 +165,7 @@ flipped x m h =
     least-neg zero = refl
     least-neg (suc k) = refl
 
--- the place that a bit of a turned code is read from is the turned place, counted from the least point of the turned square
+-- the place that a bit of a turned code is read from is the turned place, counted from the minimum corner of the turned square
 source-lands : (n r : ℕ) (q : Place) → Inside n q → moved (asPoint (source n r q)) (lowestPoint (n - 1) r .u) (lowestPoint (n - 1) r .v) ≡ sends r (asPoint q)
 unfolding sends source
 source-lands n r q h =

@@ -1,4 +1,4 @@
--- Document 01, "What takes another shape" and Emission: the quarter turns of grid points, cells and their corners.
+-- Document 01, "What takes another shape" and Emission: rotations of grid points, cells and their corners.
 use Prim.Native.Nat.{ℕ, _^_, _≤_, _<_}
 use mathlib.Core.List.{List, [], _∷_}
 use lib.IntN.{ℤ, pos, negsuc, natAbs, negℤ, _+ℤ_, _-ℤ_}
@@ -9,15 +9,14 @@ use Rattle.grid_alignment.specs.declared.Coord.{Coord}
 use Rattle.grid_alignment.specs.declared.Matrix.{Matrix}
 use Rattle.grid_alignment.specs.declared.GridAlignment.{GridAlignment}
 
--- the point (u, v)
 abbrev pub point : ℤ → ℤ → Coord
 point u v = record { u = u; v = v }
 
--- the fixed table: turn 0 sends (u, v) to (u, v), 1 to (v, −u), 2 to (−u, −v), 3 to (−v, u)
+-- rotation by 90° × turn about (0, 0), the fixed table: 0 maps (u, v) to (u, v), 1 to (v, −u), 2 to (−u, −v), 3 to (−v, u)
 unfoldable pub sends : ℕ → Coord → Coord
 sends turn p = byTurn turn p (point (p .v) (negℤ (p .u))) (point (negℤ (p .u)) (negℤ (p .v))) (point (negℤ (p .v)) (p .u))
 
--- the same as the entries of a matrix: (u, v) goes to (a × u + b × v, c × u + d × v)
+-- the same as a matrix: (u, v) maps to (a × u + b × v, c × u + d × v)
 abbrev pub matrix : ℤ → ℤ → ℤ → ℤ → Matrix
 matrix a b c d = record { a = a; b = b; c = c; d = d }
 
@@ -26,22 +25,22 @@ matrixOf turn =
     byTurn turn (matrix (pos 1) (pos 0) (pos 0) (pos 1)) (matrix (pos 0) (pos 1) (negsuc 0) (pos 0)) (matrix (negsuc 0) (pos 0) (pos 0) (negsuc 0))
     (matrix (pos 0) (negsuc 0) (pos 1) (pos 0))
 
--- a turn and then a translation
+-- translation, and an alignment: a turn, then a translation
 abbrev pub moved : Coord → ℤ → ℤ → Coord
 moved p tx ty = point (p .u +ℤ tx) (p .v +ℤ ty)
 
 abbrev pub applied : GridAlignment → Coord → Coord
 applied a p = moved (sends (a .turn) p) (a .tx) (a .ty)
 
--- A cell is named by its top left corner. Its corners, clockwise from there: top left, top right, bottom right, bottom left, and so on around.
+-- A cell is named by its top left corner. Its corner k modulo 4, clockwise: top left, top right, bottom right, bottom left.
 unfoldable pub corner : ℕ → Coord → Coord
 corner k p = byTurn k p (moved p (pos 1) (pos 0)) (moved p (pos 1) (pos 1)) (moved p (pos 0) (pos 1))
 
--- the least u and the least v of two points
+-- the componentwise minimum
 abbrev pub meet : Coord → Coord → Coord
 meet p q = point (lesser (p .u) (q .u)) (lesser (p .v) (q .v))
 
--- the least u and the least v of the turned corners of the square from (0, 0) to (m, m)
+-- the minimum corner of the bounding box of the turned square from (0, 0) to (m, m)
 unfoldable pub lowestPoint : ℕ → ℕ → Coord
 unfolding sends
 lowestPoint m r =
@@ -49,12 +48,12 @@ lowestPoint m r =
     (meet (sends r (point (pos m) (pos m))) (sends r (point (pos 0) (pos m))))
 
 -- `cell_to_corner_alignment`: a turned cell is named by its new top left corner, so the corners' translation is
--- the cells' less the least point of the turned unit square
+-- the cells' less the minimum corner of the turned unit square
 abbrev pub cornerAlignment : GridAlignment → GridAlignment
 cornerAlignment a =
     record { turn = a .turn; tx = a .tx -ℤ lowestPoint 1 (a .turn) .u; ty = a .ty -ℤ lowestPoint 1 (a .turn) .v }
 
--- a translation that adds up in 32 bits with every point of a cell
+-- a translation that does not overflow 32 bits with any point of a cell
 abbrev pub NearAlignment : GridAlignment → Type 0
 NearAlignment a = (natAbs (a .tx) ≤ 2 ^ 30) × (natAbs (a .ty) ≤ 2 ^ 30)
 
@@ -64,7 +63,7 @@ pub record SmallAlignment (n : ℕ) (a : GridAlignment) : Type 0 where
   pub tx : natAbs (a .tx) ≤ n
   pub ty : natAbs (a .ty) ≤ n
 
--- `cell_rect_corners_at`: the corners of a cell where a cell is s wide, the Rust's f32 operations in order
+-- `cell_rect_corners_at`: the corners of a cell of width s, upstream's f32 operations in order
 abbrev pub rectCorners : ℤ → ℤ → Float → List (List Float)
 rectCorners u v s =
     let x = mul binary32 (ofInt binary32 u) s in

@@ -7,12 +7,12 @@ use Rattle.matcher.specs.Codes.{bit, indexOf, turned}
 use Rattle.grid_alignment.specs.declared.Coord.{Coord}
 use Rattle.grid_alignment.specs.Alignment.{point, sends, moved, lowestPoint}
 
--- a place of a code as a grid point: u is its column, v its row
+-- a place of a code as a grid point: column u, row v
 abbrev pub asPoint : Place → Coord
 asPoint q = point (pos (q .x)) (pos (q .y))
 
--- The bit of a code of side n at place q, after r turns, is the bit of the code at the place on which the table's turn r puts q. A turn about
--- (0, 0) moves the square of the code's places, so the place counts from the least point of the turned square.
+-- Bit q of the code turned by r is the bit of the code at the place to which the table's turn r maps q. As the turn is about
+-- (0, 0), that place counts from the minimum corner of the turned square.
 pub record Agreed (n r c : ℕ) (q : Place) : Type 0 where
   pub from : Place
   pub column : from .x < n

@@ -1,10 +1,10 @@
-// What an alignment does to grid points, and the alignment of the corners, for translations that add up in 32 bits with every point.
+// Applies alignments to grid points and converts those of cells to those of corners; translations must not overflow 32 bits with any point.
 ghost use mathlib.Core.Path.{_≡_};
 ghost use Rattle.grid_alignment.specs.Alignment.{point, applied, cornerAlignment, NearAlignment};
 use super::Coord;
 use super::GridAlignment;
 
-// Where the alignment puts a grid point.
+// The image of a grid point.
 pub fn apply(alignment: GridAlignment, u: i16, v: i16) -> Coord
     requires { ⌜ NearAlignment alignment ⌝ }
     ensures { λ r. ⌜ r ≡ applied alignment (point u v) ⌝ }
@@ -16,7 +16,6 @@ pub fn apply(alignment: GridAlignment, u: i16, v: i16) -> Coord
     }
 }
 
-// The alignment of the corners, from that of the cells.
 pub fn cell_to_corner_alignment(alignment: GridAlignment) -> GridAlignment
     requires { ⌜ NearAlignment alignment ⌝ }
     ensures { λ r. ⌜ r ≡ cornerAlignment alignment ⌝ }

@@ -1,5 +1,5 @@
-// Quarter turns of the grid (grid_alignment.rs; `rotate_gc_top_left` of emit.rs). A grid point comes as two i16, as the record
-// holds it; results are i32, as the Rust's `Coord`. Uses `integers` and `matcher`.
+// Rotates grid points by multiples of 90° and applies grid alignments (grid_alignment.rs; `rotate_gc_top_left` of emit.rs).
+// A grid point is two i16, as in the record; results are i32, as upstream's `Coord`.
 ghost use mathlib.Core.Path.{_≡_};
 ghost use Rattle.grid_alignment.specs.Alignment.{point, sends, matrixOf, corner, rectCorners};
 
@@ -10,14 +10,14 @@ pub struct Coord {
     pub v: i32,
 }
 
-// A turn and a translation: of cells or of corners.
+// A turn (rotation by 90° × turn), then a translation: of cells or of corners.
 pub struct GridAlignment {
     pub turn: u8,
     pub tx: i32,
     pub ty: i32,
 }
 
-// (u, v) goes to (a u + b v, c u + d v).
+// Maps (u, v) to (a u + b v, c u + d v).
 pub struct Matrix {
     pub a: i32,
     pub b: i32,
@@ -50,7 +50,7 @@ pub fn turned(turn: u8, u: i16, v: i16) -> Coord
     }
 }
 
-// The corner of a cell that a turn makes its top left one.
+// The corner of a cell that the turn makes its top left one.
 pub fn rotate_gc_top_left(u: i16, v: i16, turn: u8) -> Coord
     ensures { λ r. ⌜ r ≡ corner turn (point u v) ⌝ }
 {
@@ -65,7 +65,7 @@ pub fn rotate_gc_top_left(u: i16, v: i16, turn: u8) -> Coord
     }
 }
 
-// The corners of a cell in the rectified picture, where a cell is `px_per_cell` wide: top left, top right, bottom right,
+// The corners of a cell in the rectified image, where a cell is `px_per_cell` wide: top left, top right, bottom right,
 // bottom left.
 pub fn cell_rect_corners_at(u: i16, v: i16, px_per_cell: f32) -> [[f32; 2]; 4]
     ensures { λ r. ⌜ r ≡ rectCorners u v «px_per_cell» ⌝ }

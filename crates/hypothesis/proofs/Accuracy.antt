@@ -1,5 +1,5 @@
--- Document 01's accuracy rule: reported evidence is finite and near the exact one, and a lead of more than twice the bound is a true
--- lead. Assumes nothing.
+-- Document 01's accuracy rule: reported evidence is finite and near the exact one, and a lead of more than twice the bound is a true lead. Assumes
+-- nothing.
 use Prim.Native.Nat.{ℕ, _*_, _^_}
 use native.Mathlib.Omega.{arith}
 use mathlib.Core.Path.{_≡_, refl, subst}
@@ -21,7 +21,7 @@ use Rattle.hypothesis.specs.Evidence.{Contribution, contributions, repor
 use Rattle.hypothesis.specs.Accuracy.{Checked, AccuracyRule, bound, wide}
 use Rattle.hypothesis.proofs.Partial.{reported-item, reported-near}
 
--- ---- by the list of contributing cells
+-- ---- from the list of contributing cells
 module _ (s : Shot) (r : ℕ) where
   none-if : (cs : List Contribution) → exactOver s r cs ≡ none → reportedOver s r cs ≡ evidence.Absent
   none-if [] e = refl

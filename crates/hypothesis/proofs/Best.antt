@@ -1,5 +1,5 @@
--- The best placement is one of the shot's placements, with its evidence and a small translation, and so is the runner-up, another one; and what the
--- answer of the search says of the best and of the number of placements. Assumes nothing.
+-- Best and runner-up are two of the shot's placements, with their evidence and small translations; and what the result of the search states of the
+-- best and of the number of placements. Assumes nothing.
 use mathlib.Core.Path.{_≡_, refl, sym, ap, _∙_}
 use Prim.Native.Nat.{ℕ, zero, suc, _/_, _%_, _≤_, _<_}
 use native.Mathlib.Nat.{div-lt-iff-lt-mul, mod-lt}
@@ -37,7 +37,7 @@ pub record BestPlaced (s : Shot) (b : Hypothesis) : Type 0 where
   pub evidence-is : b .evidence ≡ reported s (b .alignment)
   pub count-is : b .«contributing_cells» ≡ contributingCells s (b .alignment)
 
--- a hypothesis of the list: its placement stands at the same place
+-- a hypothesis of the list: its placement has the same index
 mapped : (s : Shot) (ps : List GridAlignment) (k : ℕ) (h : Hypothesis) → getElem? (map (hypothesis s) ps) k ≡ some h → (getElem? ps k ≡ some (h .alignment))
     × (h .evidence ≡ reported s (h .alignment)) × (h .«contributing_cells» ≡ contributingCells s (h .alignment))
 mapped s [] k h e = absurd (let z : _≡_ {A = ℕ} 0 1 = cc in omega arith)
@@ -76,7 +76,7 @@ module _ (s : Shot) (p : PassedShot s) where
       record { placement = (g .place, m .0); small = small-placement (b .alignment) (g .place, m .0); evidence-is = m .1; count-is = m .2 }
 
 -- ---- the runner-up
--- what stands in a list without its place p stands in the list, at another place
+-- an element of a list without index p is in the list, at another index
 without : {A : Type 0} (xs : List A) (p k : ℕ) (x : A) → getElem? (take p xs ++ drop (suc p) xs) k ≡ some x → (j : ℕ) × (j ≡ p → ⊥) × (getElem? xs j ≡ some x)
 without [] zero k x e = absurd (Option·none-ne-some x e)
 without [] (suc p) k x e = absurd (Option·none-ne-some x e)
@@ -105,7 +105,7 @@ module _ (s : Shot) (c : Checked s) where
         not-above = f .greatest (r .0) g (r .2);
       }
 
--- ---- the answer
+-- ---- the result
 pub record Chosen (s : Shot) (x : Selection) : Type 0 where
   pub best-is : best s ≡ choice.Placement (x .best)
   pub is : x ≡ selection s (x .best)

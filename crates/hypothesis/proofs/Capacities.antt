@@ -1,4 +1,4 @@
--- The capacity of a placement, cell by cell: what a cell of the index adds to the sum is what the shot's cell adds. Assumes nothing.
+-- The capacity of a placement, cell by cell: a cell of the index adds what the shot's cell adds. Assumes nothing.
 use mathlib.Core.Path.{_≡_, refl, sym, ap, ap₂, _∙_}
 use Prim.Native.Nat.{ℕ, suc, _<_}
 use mathlib.Core.Bool.{Bool, true, false, cond}
@@ -22,7 +22,7 @@ use Rattle.hypothesis.specs.Inputs.{Ready}
 use Rattle.hypothesis.specs.Capacity.{withMarker, markerUnder, withCell}
 use Rattle.hypothesis.proofs.IndexedCells.{point-is, weight-is}
 
--- ---- one cell more
+-- ---- one more cell
 module _ (s : Shot) (total most : Float) (most-is : most ≡ neg (nullScore (s .bits))) where
   abbrev with-cells : List Contribution → Float
   with-cells cs = foldl (λ (x : Float) (c : Contribution). add binary32 x (capacityTerm s c)) total cs

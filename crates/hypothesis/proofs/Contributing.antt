@@ -1,5 +1,5 @@
--- The contributing cells of a placement: how many they are, that what stands in their list comes from a cell that contributes, and that each such
--- cell stands in it. So evidence is none exactly if no cell contributes, and exactly if their count is 0. Assumes nothing.
+-- The contributing cells of a placement: their number, and that their list has exactly the cells that contribute. So evidence is none exactly when no
+-- cell contributes, and exactly when their count is 0. Assumes nothing.
 use mathlib.Core.Path.{_≡_, refl, sym, ap, ap₂, subst, _∙_}
 use mathlib.Core.Logic.{_⊎_, inl, inr}
 use mathlib.Core.Bool.{Bool, true, false, _&&_, cond, and-true, and-false}
@@ -29,7 +29,7 @@ use Rattle.hypothesis.specs.Evidence.{boardIn, weightOf, samplesOf, expe
 use Rattle.hypothesis.specs.Evidence.{reportedOver, reported, exactOver, exact}
 use Rattle.hypothesis.specs.Rules.{Contributes, NoneRule, isMarkerSquare, isContributing, CountRule}
 
--- ---- what f gives for 0 to n − 1
+-- ---- the lists f 0, …, f (n − 1)
 module _ {A : Type 0} (f : ℕ → List A) (x : A) where
   given-by : (n : ℕ) → List·Memᴰ x (upTo f n) → (k : ℕ) × (k < n) × List·Memᴰ x (f k)
   unfolding upTo
@@ -50,7 +50,7 @@ module _ {A : Type 0} (f : ℕ → List A) (x : A) where
       go earlier (inl e) = Memᴰ·append-right (upTo f n) (subst (λ (j : ℕ). List·Memᴰ x (f j)) e i)
       go earlier (inr m) = Memᴰ·append-left (f n) (earlier m)
 
--- ---- how many they are: a cell contributes once if it weighs more than 0 and lands on a marker square, else not
+-- ---- their number: a cell contributes once if its weight is above 0 and it lands on a marker square, else not
 pub one-if : (t : Bool) (c : Contribution) → length {A = Contribution} (cond t (c ∷ []) []) ≡ asOne t
 one-if true c = refl
 one-if false c = refl
@@ -78,7 +78,7 @@ module _ (s : Shot) (p : GridAlignment) where
   pub at-most : (n : ℕ) → length (contributionsTo s p n) ≤ n
   at-most n = rw (count-is n) (count-at-most (isContributing s p) n)
 
-  -- ---- a cell that contributes, and what stands in the list
+  -- ---- a cell that contributes, and the elements of the list
   pub of-some-cell : (c : Contribution) → List·Memᴰ c (contributions s p) → (k : ℕ) × (k < cellTotal s) × List·Memᴰ c (contributed s p k)
   of-some-cell c i = given-by (contributed s p) c (cellTotal s) i
 
@@ -100,7 +100,7 @@ module _ (s : Shot) (p : GridAlignment) where
       ∙ ap (λ (t : Bool). cond t (c ∷ []) []) (h .weight) in
       (c, given (contributed s p) c (cellTotal s) k (h .inside) (subst (List·Memᴰ c) (sym one) (List·Memᴰ·head refl)))
 
--- ---- none exactly if no cell contributes
+-- ---- none exactly when no cell contributes
 pub none-rule : NoneRule
 unfolding reported exact
 none-rule s p =
@@ -126,7 +126,7 @@ none-rule s p =
     exact-none [] e c = List·Memᴰ·not-nil (c .1)
     exact-none (d ∷ cs) e c = Option·some-ne-none _ e
 
--- ---- and exactly if their count is 0
+-- ---- and exactly when their count is 0
 pub count-rule : CountRule
 unfolding reported
 count-rule s p =

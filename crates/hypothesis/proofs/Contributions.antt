@@ -22,7 +22,7 @@ use Rattle.hypothesis.specs.Sums.{markerAfter, Stays}
 use Rattle.hypothesis.proofs.Moves.{on-square}
 use Rattle.hypothesis.proofs.Frames.{offsetU, offsetV, framed, lands}
 
--- cell k as one that may count
+-- cell k as one that may contribute
 abbrev pub countedCell : Shot → ℕ → ℕ → Counted
 countedCell s r k = record { i = offsetU s r k; j = offsetV s r k; weight = weightOf s k; null = nullScore (s .bits); board = boardIn s }
 
@@ -35,7 +35,7 @@ module _ (s : Shot) (r k : ℕ) (inside : k < cellTotal s) where
       record { bits = b; cols = c; rows = h; wide = omega (arith, f .wide, fit .0); high = omega (arith, f .high, fit .1); some = fit .1 }
 
   module _ (a b : ℕ) (l : a < movesAcross s r) (m : b < movesDown s r) where
-    -- what the placement whose frame is moved by (a, b) expects in the cell, and the marker's number, if there is one
+    -- the marker that the placement with its frame moved by (a, b) expects in the cell, and its id, if there is one
     abbrev pub on : Bool
     on = holdsMarker (parityOf (boardIn s)) (offsetU s r k + a) (offsetV s r k + b)
 
@@ -57,7 +57,7 @@ module _ (s : Shot) (r k : ℕ) (inside : k < cellTotal s) where
         let p : (offsetV s r k + b) * s .cols ≤ 31 * 32 = mul-le-mul {n₂ = 31} {m₂ = 32} (omega (arith, f .high, m, h)) c in
         omega (arith, p, f .wide, l, c)
 
-    -- a cell that weighs more than 0
+    -- a cell with weight above 0
     abbrev pub share : Contribution
     share = record { weight = weightOf s k; samples = samplesOf s k; id = id }
 
@@ -70,7 +70,7 @@ module _ (s : Shot) (r k : ℕ) (inside : k < cellTotal s) where
     unfolding contributed
     counts heavy = by-marker (expected s (shifted s r a b) k) on expects heavy
 
--- a cell that weighs nothing contributes to no placement
+-- a cell of weight 0 contributes to no placement
 pub light : (s : Shot) (p : GridAlignment) (k : ℕ) → lt nought (weightOf s k) ≡ false → contributed s p k ≡ []
 unfolding contributed
 light s p k w = go (expected s p k)

@@ -1,4 +1,4 @@
--- A cell of the index, as the sums take it. Assumes nothing.
+-- A cell of the index as input of the sums. Assumes nothing.
 use mathlib.Core.Path.{_≡_, refl, sym, ap, ap₂, _∙_, subst}
 use mathlib.Core.List.{List}
 use mathlib.Core.Bool.{Bool, true, false, false≢true}
@@ -35,7 +35,7 @@ use Rattle.hypothesis.proofs.IndexedCells.{bits-are, point-is, weight-i
 use Rattle.hypothesis.proofs.Contributions.{countedCell, stays, light}
 use Rattle.hypothesis.proofs.Filled.{with-cell, passed-over}
 
--- by its parts
+-- from its parts
 same : (s : Shot) (r k : ℕ) (t : Turn) (index : List ℕ) → sends (t .turn) (point (uIn index k) (vIn index k)) ≡ sends r (cellPoint s k)
     → t .u ≡ frame s r .u → t .v ≡ frame s r .v → weight (t .inputs .config) (borderIn index k) ≡ weightOf s k → t .inputs .board ≡ boardIn s
     → countedOf t index k ≡ countedCell s r k
@@ -46,7 +46,7 @@ same s r k t index p u v w e =
     let n = ap (λ (b : Board). nullScore (b .bits)) e in
     cc
 
--- a cell that weighs more than 0 is sampled, so that its grid is whole
+-- a cell with weight above 0 is sampled, so that its grid is complete
 pub whole-grid : (s : Shot) (k : ℕ) → PassedShot s → lt nought (weightOf s k) ≡ true
     → length (samplesOf s k .grid) ≡ side (s .bits) (s .border) * side (s .bits) (s .border)
 unfolding lt
@@ -57,8 +57,8 @@ whole-grid s k p heavy = go (cellAt s k .sample) refl heavy
     go none e t = absurd (false≢true t)
     go (some x) e t = p .grids k x e
 
--- ---- what the sums ask of it
--- a frame that fits the board moves on it at most 32 times each way
+-- ---- preconditions of the sums
+-- a frame that fits on the board has at most 32 positions each way
 pub room : (s : Shot) (r k : ℕ) → k < cellTotal s → s .cols ≤ 32 → s .rows ≤ 32 → movesAcross s r * movesDown s r ≤ 1024
 room s r k inside c h = let f = framed s r k inside in mul-le-mul {n₁ = movesAcross s r} {m₁ = movesDown s r} {n₂ = 32} {m₂ = 32} (omega (arith, c, f .wide))
     (omega (arith, h, f .high))
@@ -70,7 +70,7 @@ small-sources bits r sources h from k l = rw (from k l) (omega (
   mul-le-mul {n₁ = bits} {m₁ = bits} {n₂ = 8} {m₂ = 8} h h,
 ))
 
--- ---- its scores, from what its bits add
+-- ---- its scores, from the likelihoods of its bits
 pub code-scores : (s : Shot) (r k : ℕ) (likelihoods : List Float) (sources : List ℕ)
     → HoldsLikelihoods (tableOf s) (samplesOf s k) (s .bits * s .bits) likelihoods
     → Sources (s .bits) r (s .bits * s .bits) sources

@@ -1,5 +1,5 @@
--- The least and the greatest of f 0 to f n as the ends of a frame's side: how far each lies above the least, and by which translations all of them
--- stay below a size. Assumes nothing.
+-- Minimum and maximum of f 0, …, f n as the ends of a frame's side: the distance of each from the minimum, and the translations that keep all of them
+-- below a size. Assumes nothing.
 use mathlib.Core.Path.{_≡_, refl, sym, ap, ap₂, _∙_}
 use Prim.Native.Nat.{ℕ, _+_, _≤_, _<_}
 use native.Mathlib.Omega.{arith}
@@ -11,7 +11,7 @@ use Rattle.integers.proofs.Least.{in-order, le-opposite, opposite, least-bound,
 use Rattle.integers.proofs.Least.{least-greatest, greatest-opposite}
 use Rattle.hypothesis.specs.Placements.{squares}
 
--- what the parts of x and of t add up to
+-- the positive and the negative parts of x and t
 lands : (x t : ℤ) (i : ℕ) → x +ℤ t ≡ pos i → plus x + plus t ≡ i + (minus x + minus t)
 unfolding plus minus
 lands x t i e = omega (arith, add-is x t, ap plus e, ap minus e)
@@ -23,7 +23,7 @@ module _ (f : ℕ → ℤ) (n : ℕ) where
   abbrev high : ℤ
   high = greatestTo f n
 
-  -- x and y are the least and the greatest, in one order or the other
+  -- x and y are the minimum and the maximum, in one order or the other
   pub record Ends (x y : ℤ) : Type 0 where
     pub least-is : lesser x y ≡ low
     pub squares-are : squares x y ≡ squares low high
@@ -31,8 +31,8 @@ module _ (f : ℕ → ℤ) (n : ℕ) where
   pub kept : Ends low high
   kept = record { least-is = in-order low high (least-greatest f n) .0; squares-are = refl }
 
-  -- ---- moved so that the least of them is a
-  -- f k lies so far above the least
+  -- ---- moved so that the minimum is a
+  -- the distance of f k from the minimum
   abbrev pub offset : ℕ → ℕ
   offset k = natAbs (f k -ℤ low)
 
@@ -82,7 +82,7 @@ module _ (f : ℕ → ℤ) (n : ℕ) where
         fits = omega (arith, bg .inside, above-is low high (least-greatest f n));
       }
 
--- with the other sign they are exchanged
+-- negation exchanges them
 pub turned-round : (f : ℕ → ℤ) (n : ℕ) → Ends (opposite f) n (negℤ (leastTo f n)) (negℤ (greatestTo f n))
 turned-round f n =
     let l = leastTo f n in

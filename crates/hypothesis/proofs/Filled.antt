@@ -1,4 +1,4 @@
--- One cell more in the sums and counts of a turn. Assumes nothing.
+-- One more cell in the sums and counts of a turn. Assumes nothing.
 use mathlib.Core.Path.{_≡_, refl, sym, ap, ap₂, _∙_}
 use mathlib.Core.Logic.{inl, inr}
 use mathlib.Core.Bool.{Bool, true, false, cond}
@@ -30,7 +30,7 @@ use Rattle.hypothesis.specs.Sums.{plusScore, plusMarker, plusCell, Added
 use Rattle.hypothesis.proofs.Contributing.{one-if}
 use Rattle.hypothesis.proofs.Contributions.{countedCell, on, share, marker-is, id-small, counts}
 
--- ---- one cell more in a sum
+-- ---- one more cell in a sum
 abbrev with-cells : Shot → ℕ → Float → List Contribution → Float
 with-cells s r x cs = foldl (λ (y : Float) (c : Contribution). add binary32 y (reportedTerm s r c)) x cs
 
@@ -50,7 +50,7 @@ next-count s p n = ap (length {A = Contribution}) (more s p n) ∙ length-append
 without : (s : Shot) (p : GridAlignment) (n : ℕ) → contributed s p n ≡ [] → contributionsTo s p n ≡ contributionsTo s p (n + 1)
 without s p n e = sym (more s p n ∙ ap (λ (cs : List Contribution). contributionsTo s p n ++ cs) e ∙ append-nil (contributionsTo s p n))
 
--- ---- one cell more in a count
+-- ---- one more cell in a count
 even-or-odd : {A : Type 0} (n : ℕ) → (n % 2 ≡ 0 → A) → (n % 2 ≡ 1 → A) → A
 even-or-odd n f g = elim (eq-or-lt-of-le {n = n % 2} {m = 1} (omega arith)) [ inl e ↦ g e | inr l ↦ f (omega (arith, l)) ]
 
@@ -76,7 +76,7 @@ module _ (s : Shot) (r n : ℕ) (sums : List Float) (contributing : Contributing
         few = (omega (arith, h .few .0), omega (arith, h .few .1));
       }
 
-  -- a cell that counts
+  -- a cell with weight above 0
   module _ (inside : n < cellTotal s) (small : s .cols ≤ 32) (low : s .rows ≤ 32) (heavy : lt nought (weightOf s n) ≡ true)
       (score : ℕ → Float) (scores : CellScores s r n score) where
     abbrev counted : Counted

@@ -11,7 +11,7 @@ use Rattle.hypothesis.specs.Placements.{cellTotal, cellPoint, turnedU, t
 use Rattle.hypothesis.specs.Rules.{Fits, OnBoard}
 use Rattle.hypothesis.proofs.Extremes.{offset, offset-is, offset-below, moved-is, Move, move}
 
--- how far cell k lies right of the frame's least column, and below its least row
+-- the distance of cell k from the frame's least column and least row
 abbrev pub offsetU : Shot → ℕ → ℕ → ℕ
 offsetU s r k = offset (turnedU s r) (cellTotal s - 1) k
 
@@ -24,7 +24,7 @@ pub record Framed (s : Shot) (r k : ℕ) : Type 0 where
   pub wide : offsetU s r k < frame s r .width
   pub high : offsetV s r k < frame s r .height
 
--- the frame as large as it is said to be, on the board with its least point on square (a, b)
+-- the frame has its stated size, and is on the board with its least corner on square (a, b)
 pub record Moves (s : Shot) (r a b : ℕ) : Type 0 where
   pub columns : a < movesAcross s r
   pub rows : b < movesDown s r
@@ -42,7 +42,7 @@ module _ (s : Shot) (r : ℕ) where
         high = offset-below (turnedV s r) n k l;
       }
 
-  -- cell k under the placement whose frame has its least point on square (a, b)
+  -- cell k under the placement that puts the least corner of the frame on square (a, b)
   pub lands : (a b k : ℕ) → k < cellTotal s → applied (shifted s r a b) (cellPoint s k) ≡ point (pos (offsetU s r k + a)) (pos (offsetV s r k + b))
   unfolding frame
   lands a b k h =
@@ -68,7 +68,7 @@ module _ (s : Shot) (r : ℕ) where
 abbrev alignment : ℕ → ℤ → ℤ → GridAlignment
 alignment r x y = record { turn = r; tx = x; ty = y }
 
--- every placement that fits moves a frame
+-- every placement that fits is a move of the frame
 pub record Shifted (s : Shot) (p : GridAlignment) : Type 0 where
   pub a : ℕ
   pub b : ℕ

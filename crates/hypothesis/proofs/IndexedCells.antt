@@ -1,4 +1,4 @@
--- What the index has of a cell is what the shot has of it: its grid point, its weight, and its sample. Assumes nothing.
+-- The index has the cell's grid point, weight and sample of the shot. Assumes nothing.
 use mathlib.Core.Path.{_≡_, sym, ap, ap₂, _∙_, subst}
 use Prim.Native.Nat.{ℕ, _≤_, _<_}
 use native.Mathlib.Omega.{arith}

@@ -1,4 +1,4 @@
--- The margin of the search is at least 0, and so never NaN: reported evidence is small and the capacity is finite. Assumes nothing.
+-- The margin of the search is at least 0, so never NaN: reported evidence is small and the capacity is finite. Assumes nothing.
 use mathlib.Core.Path.{_≡_, refl, sym, subst}
 use mathlib.Core.List.{List, [], _∷_, map}
 use mathlib.Core.Bool.{false, not}
@@ -41,7 +41,7 @@ module _ (s : Shot) (c : Checked s) where
   small-next b choice.Absent h k = tt
   small-next b (choice.Placement g) h k = (small g h, k)
 
-  -- best and runner-up are among the placements, and the runner-up does not lie above the best: so the margin is at least 0, and a number
+  -- best and runner-up are among the placements, and the runner-up does not rank above the best: so the margin is at least 0, and a number
   module _ (b : Hypothesis) (is : best s ≡ choice.Placement b) where
     pub margin-at-least-0 : T (le nought (margin (b .evidence) (capacity s (b .alignment)) (runnerUp s)))
     margin-at-least-0 =

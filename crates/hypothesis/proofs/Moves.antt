@@ -29,16 +29,16 @@ use Rattle.hypothesis.specs.declared.sums.Move.{Move}
 use Rattle.hypothesis.specs.Sums.{plusScore, withScore, plusMarker, plusCell, Stays, NumberOn, OfMarker, OfEight, withCode}
 use Rattle.hypothesis.specs.Sums.{order, marked, OnMarker, moveFrom, FirstMove, nextMove, moveAfter, Inside, AddedBefore}
 
--- a word holds what is small
+-- small numbers fit in a word
 pub fits-small : (n : ℕ) → n ≤ 2048 → Fits w64 n
 fits-small n h = record { fits = omega (arith, h) }
 
--- a square of the board has its number
+-- the id of a square's marker
 pub on-square : (board : Board) (i j : ℕ) → i < board .cols → j < board .rows → NumberOn board i j ((j * board .cols + i) / 2)
 unfolding numberAtℤ
 on-square board i j a b = number-on (parityOf board) (board .rows) (board .cols) i j (parity-bit board) a b
 
--- ---- m is the first move from place n of the order on whose place has the parity of p
+-- ---- m is the first move whose order is at least n and has the parity of p
 record FirstFrom (down n p : ℕ) (m : Move) : Type 0 where
   pub row : m .b < down
   pub from : n ≤ order m
@@ -52,14 +52,14 @@ by-test P m n x y f g = go (ltb m n) refl
     go true e = f (ltb-true m n e)
     go false e = g (ltb-false m n e)
 
--- a place of column a from row z on, if z is the last row
+-- a move of column a from row z on, if z is the last row
 last : (a x y z : ℕ) → y ≤ z → 63 * a + z ≤ 63 * x + y → 63 * x + y < 63 * a + 63 → 63 * x + y ≡ 63 * a + z
 last a x y z l m n = let e : x ≡ a = omega arith in omega arith
 
 next-row : (a b n : ℕ) → n % 2 ≡ (63 * (a + 1) + (b + 1) % 2 + 1) % 2 → n % 2 ≡ (63 * a + b + 1) % 2
 next-row a b n e = omega arith
 
--- ---- x moves were gone through, from the first one on, and in all of them the frame stays on the board
+-- ---- x moves are done, from the first one on, and all of them keep the frame on the board
 pub record Walked (c : Counted) (across down : ℕ) (first : Move) (x : ℕ) (at : Move) : Type 0 where
   pub is : at ≡ moveAfter down first x
   pub here : OnMarker c down at
@@ -94,7 +94,7 @@ module _ (c : Counted) (across down : ℕ) (stays : Stays c across down) where
         ];
       })
 
-  -- markers alternate by the parity of places
+  -- markers alternate by the parity of the order
   landed : (n a b : ℕ) (m : Move) → marked c a b ≡ true → FirstFrom down n (63 * a + b) m → OnMarker c down m
   landed n a b m on f =
       record { row = f .row; on = agree (parityOf (c .board)) (c .i + a) (c .j + b) (c .i + m .a) (c .j + m .b) (omega (arith, f .same)) ∙ on }
@@ -115,7 +115,7 @@ module _ (c : Counted) (across down : ℕ) (stays : Stays c across down) where
         inside = below-more (λ y. moveAfter down first y .a < across) x (w .inside) (rw (w .is) at l);
       }
 
-  -- ---- sums: places without a marker are passed over
+  -- ---- sums: moves without a marker are skipped
   module _ (score : ℕ → Float) (entry : List Float) where
     passed : (n p : ℕ) (m : Move) (now : List Float) → OnMarker c down m → FirstFrom down n p m → AddedBefore c score across down n entry now
         → AddedBefore c score across down (order m) entry now
@@ -177,7 +177,7 @@ module _ (c : Counted) (across down : ℕ) (stays : Stays c across down) where
           | inr e ↦ others a b k (λ f. omega arith) ∙ u .done a b l k e
         ]
 
-    -- and so to the next one
+    -- the step to the next one
     pub added : (v : ℕ → Float) (first : Move) (x : ℕ) (at next : Move) (now then : List Float) → OfEight c score across down first v → x < 8
         → Walked c across down first x at → Walked c across down first (x + 1) next → at .a < across → across * down ≤ 1024 → next ≡ nextMove down at
         → then ≡ withScore c (at .a * down + at .b) (v x) now

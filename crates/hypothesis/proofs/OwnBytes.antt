@@ -1,4 +1,4 @@
--- A cell's scores and the code that is read from it depend on its own bytes alone. Assumes nothing.
+-- A cell's scores and the code read from it depend only on its own bytes. Assumes nothing.
 use mathlib.Core.Path.{_≡_, refl, sym, ap, ap₂, _∙_, subst}
 use mathlib.Core.List.{List, map}
 use mathlib.Core.Option.{none}
@@ -17,7 +17,7 @@ use Rattle.hypothesis.specs.Placements.{cellTotal, noCell, cell}
 use Rattle.hypothesis.specs.Evidence.{tableOf, samplesWith, samplesOf}
 use Rattle.hypothesis.specs.OwnBytes.{SampledCell, OwnBytesRule}
 
--- what is sampled of a cell, where it stands in its record
+-- the sample of a cell, at its offset in its record
 of-sample : (s : Shot) (n at : ℕ) (bytes : List ℕ) → (sampleAt n (gridSize (s .bits) (s .border)) at bytes ≡ none → ⊥)
     → samplesWith s (sampleAt n (gridSize (s .bits) (s .border)) at bytes) ≡ inRecord (s .bits) (s .border) (byte (thresholdFrom at) bytes) (gridFrom at) bytes
 of-sample s zero at bytes h = absurd (h refl)

@@ -19,7 +19,7 @@ use Rattle.hypothesis.specs.Accuracy.{Checked, wide, bound}
 use Rattle.hypothesis.proofs.Contributing.{at-most}
 use Rattle.hypothesis.proofs.Terms.{all-terms}
 
--- ---- n terms of size at most 512: x is their sum as f32 adds, and y their exact sum
+-- ---- n terms of size at most 512: x is their f32 sum, y their exact sum
 abbrev Total : ℕ → Float → ℤ → Type 0
 Total n x y = Inv binary32 (2 ^ 158) (tight (2 ^ 158)) n x y
 
@@ -43,7 +43,7 @@ module _ (f : Contribution → Float) where
 total-item : {n : ℕ} {x : Float} {y : ℤ} → n ≤ 256 → Total n x y → Item binary32 (2 ^ 166) x
 total-item l v = let i = inv-item v in record { holds = i .holds; is-finite = i .is-finite; small = le-trans (i .small) (mul-le-mul-right (2 ^ 158) l) }
 
--- ---- terms f near the exact terms g, each within e, in units of which w are one of f's
+-- ---- terms f within e of the exact terms g, in units of which w are one unit of f
 module _ (f g : Contribution → ℤ) (w e : ℕ) where
   near-next : (m : ℕ) (y t : ℤ) {z u : ℤ} → Near (y *ℤ pos w) z (m * e) → Near (t *ℤ pos w) u e → Near ((y +ℤ t) *ℤ pos w) (z +ℤ u) (suc m * e)
   near-next m y t h k = rw (scale-add w y t) (near-wider (omega arith) (near-add h k))

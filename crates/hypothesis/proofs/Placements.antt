@@ -1,4 +1,4 @@
--- The placements are exactly those that put every cell on the board, each once and in order, as many as document 01 says. Assumes nothing.
+-- The placements are exactly those that put every cell on the board, each once, in order, and as many as document 01 states. Assumes nothing.
 use mathlib.Core.Path.{_≡_, refl, sym, ap, ap₂, subst, _∙_}
 use mathlib.Core.Logic.{_⊎_, inl, inr}
 use Prim.Native.Nat.{ℕ, zero, suc, _+_, _-_, _*_, _/_, _%_, _<_}
@@ -71,7 +71,7 @@ module _ (s : Shot) where
       same a b e k l m h = subst (λ (c : ℕ). Precedes (placementAt s a k) (placementAt s c l)) e
           (turn-rising a k l (positive (movesAcross s a) (movesDown s a) k m) h)
 
-  -- ---- as many
+  -- ---- their number
   count-with : (r : ℕ) → many s r ≡ countWith s r
   count-with r = go (leb w (s .cols)) (leb h (s .rows)) refl refl
     where

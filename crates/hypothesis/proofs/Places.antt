@@ -1,4 +1,4 @@
--- Which placement stands where in the list: those of a turn follow those of the turns before it. Assumes nothing.
+-- The index of each placement in the list: those of a turn follow those of the turns before it. Assumes nothing.
 use mathlib.Core.Path.{_≡_, refl, sym, ap, _∙_}
 use mathlib.Core.Logic.{inl, inr}
 use Prim.Native.Nat.{ℕ, zero, suc, _+_, _-_, _*_, _≤_, _<_}
@@ -13,7 +13,7 @@ use Rattle.shot_record.specs.Shots.{Shot, list}
 use Rattle.shot_record.proofs.Lists.{length-list, getElem?-list, getElem?-list-past}
 use Rattle.hypothesis.specs.Placements.{movesAcross, movesDown, placementAt, withTurn, withTurnsBelow}
 
--- ---- the element at a place of two lists, one after the other
+-- ---- an element of the concatenation of two lists
 module _ {A : Type 0} where
   getElem?-first : (xs ys : List A) (k : ℕ) → k < length xs → getElem? (xs ++ ys) k ≡ getElem? xs k
   getElem?-first [] ys k h = absurd (omega arith)
@@ -25,7 +25,7 @@ module _ {A : Type 0} where
   getElem?-second (x ∷ xs) ys zero h = absurd (omega arith)
   getElem?-second (x ∷ xs) ys (suc k) h = getElem?-second xs ys k (le-of-suc-le-suc h) ∙ ap (getElem? ys) (omega arith)
 
-  -- of a list of f 0 to f (n − 1)
+  -- of the list f 0, …, f (n − 1)
   listed : (f : ℕ → A) (n k : ℕ) (x : A) → getElem? (list f n) k ≡ some x → (k < n) × (x ≡ f k)
   listed f n k x e = elim (lt-or-le k n) [
     | inl l ↦ (l, let p = getElem?-list f n k l in cc)
@@ -33,7 +33,7 @@ module _ {A : Type 0} where
   ]
 
 module _ (s : Shot) where
-  -- how many placements have a turn below r, and how many have turn r
+  -- the number of placements with a turn below r, and with turn r
   abbrev pub start : ℕ → ℕ
   start r = length (withTurnsBelow s r)
 
@@ -51,7 +51,7 @@ module _ (s : Shot) where
     | inr l ↦ omega (arith, start-next r, start-later q r l)
   ]
 
-  -- p stands at k as placement j of turn r
+  -- p has index k, as placement j of turn r
   pub record Stands (n k : ℕ) (p : GridAlignment) : Type 0 where
     pub r : ℕ
     pub j : ℕ

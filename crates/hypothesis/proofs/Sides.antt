@@ -1,4 +1,5 @@
--- The sides of the cells: one cell more; and the frame of a turn is made of the turned sides, and lies as near as the cells. Assumes nothing.
+-- The bounding box of the cells with one more cell; and the frame of a turn is the rotated bounding box, with coordinates as small as those of the
+-- cells. Assumes nothing.
 use mathlib.Core.Path.{_≡_, sym, ap, subst}
 use Prim.Native.Nat.{ℕ, suc, _+_, _-_, _≤_, _<_}
 use native.Mathlib.Nat.{mod-eq-of-lt}
@@ -17,7 +18,7 @@ use Rattle.hypothesis.specs.Inputs.{PassedShot}
 use Rattle.hypothesis.specs.Extremes.{extremesTo, extremesWith, us, vs, sidesOf, frameBetween, frameBy}
 use Rattle.hypothesis.proofs.Extremes.{Ends, kept, turned-round}
 
--- ---- one number more
+-- ---- one more number
 pub first-extremes : (f : ℕ → ℤ) (x : ℤ) → x ≡ f 0 → record { least = x; greatest = x } ≡ extremesTo f 0
 unfolding leastTo greatestTo
 first-extremes f x e = λ i. record { least = e i; greatest = e i }
@@ -47,7 +48,7 @@ module _ (s : Shot) where
       (each-turn P (made (kept u last) (kept v last)) (made (kept v last) (turned-round u last)) (made (turned-round u last) (turned-round v last))
       (made (turned-round v last) (kept u last)) r)
 
-  -- as near as the cells
+  -- coordinates as small as those of the cells
   module _ (p : PassedShot s) (r : ℕ) where
     near-point : (k : ℕ) → (natAbs (turnedU s r k) ≤ 4096) × (natAbs (turnedV s r k) ≤ 4096)
     near-point k = sends-small r 4096 (cellPoint s k) (p .near k .0) (p .near k .1)

@@ -1,4 +1,4 @@
--- The sums and counts of a turn: nought before the first cell, and after all cells those of its placements. Assumes nothing.
+-- The sums and counts of a turn: 0 before the first cell, and after all cells those of its placements. Assumes nothing.
 use mathlib.Core.Path.{_≡_, refl}
 use Prim.Native.Nat.{ℕ, _+_, _*_, _%_, _<_}
 use native.Mathlib.Nat.{mul-le-mul, le-refl, add-mul}

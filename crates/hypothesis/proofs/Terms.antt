@@ -1,4 +1,4 @@
--- What a contributing cell adds: to the reported evidence, to the exact one and to the capacity. Assumes nothing.
+-- The terms of a contributing cell: in the reported evidence, in the exact one and in the capacity. Assumes nothing.
 use Prim.Native.Nat.{ℕ, _*_, _/_, _^_, _≤_}
 use native.Mathlib.Nat.{le-trans, le-of-eq, mul-le-mul}
 use mathlib.Core.Path.{_≡_, refl, sym, subst, _∙_}
@@ -35,7 +35,7 @@ use Rattle.hypothesis.specs.Evidence.{reportedTerm, exactTerm, capacityT
 use Rattle.hypothesis.specs.Accuracy.{Sound, Checked}
 use Rattle.hypothesis.proofs.Contributing.{of-some-cell}
 
--- ---- what the questions let pass, as the rule for one cell asks it
+-- ---- what the checks ensure, as the rule for one cell requires it
 passed : (s : Shot) → Checked s → PassedTable (tableOf s)
 unfolding ofBits
 passed s c =
@@ -50,14 +50,14 @@ sampled s x c h = record { small = c .small; threshold = h .threshold; greys = h
 weighs : (s : Shot) (x : Sample) → Checked s → Sound x → WeightInRange (weightWith s (some x))
 weighs s x c h = is-weight (configOf s) (border.BlackFraction (ofPattern (x .fraction))) (c .threshold) (h .fraction)
 
--- ---- a change of sign
+-- ---- negation
 neg-size : (f : Format) (x : Float) → natAbs (value f (neg x)) ≡ natAbs (value f x)
 unfolding neg value
 neg-size f nan = refl
 neg-size f (inf s) = refl
 neg-size f (fin s m e) = let a = m * up e * 2 ^ low f / down e in abs-signed (not s) a ∙ sym (abs-signed s a)
 
--- ---- A term: an f32 of size at most 512, within 66 × 2⁻¹⁶ of the exact term. What the cell adds to the capacity has the same size.
+-- ---- A term: an f32 of size at most 512, within 66 × 2⁻¹⁶ of the exact term. The term of the capacity has the same size.
 pub record Term (s : Shot) (r : ℕ) (c : Contribution) : Type 0 where
   pub item : Item binary32 (2 ^ 158) (reportedTerm s r c)
   pub near : Near (unitsOf (reportedTerm s r c) *ℤ pos (2 ^ 149)) (exactTerm s r c) (66 * 2 ^ 282)

@@ -1,5 +1,5 @@
--- A ranking after all placements of a turn, from their sums, is that of the list with them at its end; and the answer of the search is what
--- the ranking of all placements makes. Assumes nothing.
+-- A ranking after all placements of a turn, from their sums, is that of the list with them appended; and the result of the search is that of the
+-- ranking of all placements. Assumes nothing.
 use mathlib.Core.Path.{_≡_, refl, sym, ap, ap₂, _∙_}
 use Prim.Native.Nat.{ℕ, zero, suc, _+_, _*_, _/_, _%_, _≤_, _<_}
 use native.Mathlib.Nat.{div-lt-iff-lt-mul, mod-lt, mul-le-mul}
@@ -51,7 +51,7 @@ module _ (s : Shot) (c : Checked s) where
   all-finite (p ∷ ps) zero h e = let q : hypothesis s p ≡ h = cc in rw (sym q) (reported-finite s c p)
   all-finite (p ∷ ps) (suc k) h e = all-finite ps k h e
 
-  -- the ranking of a list with f 0 to f (n − 1) at its end
+  -- the ranking of a list with f 0, …, f (n − 1) appended
   listed-ranked : (ps : List GridAlignment) (f : ℕ → GridAlignment) (n : ℕ)
       → rankedTo (rankingOf (map (hypothesis s) ps)) (λ (j : ℕ). hypothesis s (f j)) n ≡ rankingOf (map (hypothesis s) (ps ++ list f n))
   unfolding rankedTo list
@@ -63,7 +63,7 @@ module _ (s : Shot) (c : Checked s) where
       ∙ ap (λ (qs : List GridAlignment). rankingOf (map (hypothesis s) qs))
       (append-assoc ps (list f n) (f n ∷ []) ∙ ap (λ (qs : List GridAlignment). ps ++ qs) (sym (last-listed f n)))
 
-  -- a turn more
+  -- one more turn
   module _ (r : ℕ) (sums : List Float) (contributing : Contributing) (h : Summed s r sums contributing) where
     moved-is : (j : ℕ) → j < many s r → movedTo sums contributing (frame s r) r (movesDown s r) (j / movesDown s r) (j % movesDown s r)
         ≡ hypothesis s (placementAt s r j)
@@ -89,7 +89,7 @@ module _ (s : Shot) (c : Checked s) where
         ∙ listed-ranked (withTurnsBelow s r) (placementAt s r) (many s r)
         ∙ ap (λ (m : ℕ). rankingOf (map (hypothesis s) (withTurnsBelow s m))) e)
 
--- ---- how many there are
+-- ---- their number
 module _ (s : Shot) (wide : s .cols ≤ 32) (high : s .rows ≤ 32) where
   pub across-small : (r : ℕ) → movesAcross s r ≤ 32
   unfolding frame
@@ -123,7 +123,7 @@ no-placement-ranked s r none =
     (sym (append-nil (withTurnsBelow s r)) ∙ ap (λ (n : ℕ). withTurnsBelow s r ++ list (placementAt s r) n) (sym none))
     ∙ ap (λ (m : ℕ). rankingOf (map (hypothesis s) (withTurnsBelow s m))) e
 
--- ---- before the first turn, and the answer after the last
+-- ---- before the first turn, and the result after the last
 pub no-turn-ranked : (s : Shot) → rankingOf [] ≡ rankingOf (map (hypothesis s) (withTurnsBelow s 0))
 unfolding withTurnsBelow
 no-turn-ranked s = refl

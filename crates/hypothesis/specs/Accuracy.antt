@@ -1,4 +1,4 @@
--- Document 01, Search: the accuracy rule, for every placement of a shot. Exact values are whole numbers of 2⁻²⁹⁸.
+-- Document 01, Search: the accuracy rule, a bound of the rounding error, for every placement of a shot. Exact values are integer multiples of 2⁻²⁹⁸.
 use Prim.Native.Nat.{ℕ, _+_, _*_, _^_, _≤_, _<_}
 use mathlib.Core.Path.{_≡_}
 use mathlib.Core.Bool.{false}
@@ -34,12 +34,12 @@ wide x = unitsOf x *ℤ pos (2 ^ 149)
 abbrev pub Placement : Shot → GridAlignment → Type 0
 Placement s p = (k : ℕ) × (getElem? (placements s) k ≡ some p)
 
--- the best's lead over another placement with a number, worked out without rounding, is more than twice the bound
+-- the best's lead over another placement with a number, computed without rounding, is more than twice the bound
 abbrev pub Leads : Shot → Float → GridAlignment → Type 0
 Leads s x q = (y : Float) → reported s q ≡ evidence.Number y → pos (2 * bound s) <ℤ (wide x -ℤ wide y)
 
--- For every placement: the reported evidence is none exactly when the exact one is, is finite, and lies within the bound. If the best
--- leads every other placement that has a number, every other placement has less exact evidence than the best, or none.
+-- For every placement: the reported evidence is none exactly when the exact one is, is finite, and is within the bound of it. If the best leads every
+-- other placement that has a number, every other placement has less exact evidence than the best, or none.
 pub record AccurateEvidence (s : Shot) : Type 0 where
   pub none-if : (p : GridAlignment) → Placement s p → exact s p ≡ none → reported s p ≡ evidence.Absent
   pub none-only-if : (p : GridAlignment) → Placement s p → reported s p ≡ evidence.Absent → exact s p ≡ none
@@ -50,7 +50,7 @@ pub record AccurateEvidence (s : Shot) : Type 0 where
       → ((q : GridAlignment) → Placement s q → (q ≡ b .alignment → ⊥) → Leads s x q)
       → (q : GridAlignment) → Placement s q → (q ≡ b .alignment → ⊥) → (z : ℤ) → exact s q ≡ some z → z <ℤ e
 
--- g as runner-up of b: a placement other than b's, with the evidence reported for it and its count, that does not lie above b
+-- g is a runner-up of b: another placement, with its reported evidence and count, that does not rank above b
 pub record RunsUp (s : Shot) (b g : Hypothesis) : Type 0 where
   pub placed : Placement s (g .alignment)
   pub other : g .alignment ≡ b .alignment → ⊥
@@ -58,7 +58,7 @@ pub record RunsUp (s : Shot) (b g : Hypothesis) : Type 0 where
   pub count-is : g .«contributing_cells» ≡ contributingCells s (g .alignment)
   pub not-above : liesBelow (b .evidence) (g .evidence) ≡ false
 
--- ---- what the questions let pass
+-- ---- shots that pass the checks
 pub record Sound (x : Sample) : Type 0 where
   pub fraction : Between nought unity (ofPattern (x .fraction))
   pub threshold : x .threshold < 256

@@ -1,4 +1,4 @@
--- What one cell more makes of the capacity of a placement.
+-- The capacity of a placement with one more cell.
 use mathlib.Core.Bool.{cond}
 use mathlib.Core.List.{List}
 use Prim.Native.Nat.{ℕ}
@@ -15,7 +15,7 @@ use Rattle.score_matrix.specs.Weights.{weight}
 use Rattle.shot_record.specs.Index.{uIn, vIn, borderIn}
 use Rattle.hypothesis.specs.declared.Inputs.{Inputs}
 
--- with a cell of a weight in which a marker is expected or none
+-- with a cell of the given weight, in which a marker or none is expected
 abbrev pub withMarker : Float → Float → Float → Numbered → Float
 withMarker total most weight numbered.Absent = total
 withMarker total most weight (numbered.Id m) = cond (lt nought weight) (add binary32 total (mul binary32 weight most)) total

@@ -1,4 +1,5 @@
--- Document 01, Search: the contributing cells of a placement, how many they are (document 02, 2.5), its evidence, reported and exact, and its capacity.
+-- Document 01, Search: the contributing cells of a placement, their number (document 02, 2.5), its evidence (log-likelihood ratio), reported and
+-- exact, and its capacity.
 use Prim.Native.Nat.{ℕ}
 use mathlib.Core.Bool.{cond}
 use mathlib.Core.List.{List, [], _∷_, map, foldl}
@@ -35,7 +36,7 @@ tableOf s = map ofPattern (s .table)
 abbrev pub codeOf : Shot → ℕ → ℕ → ℕ
 codeOf s r m = turned (s .bits) r (getD (s .codes) m 0)
 
--- The weight of cell k, and what is sampled of it. An unsampled cell has weight 0, threshold 0 and an empty grid.
+-- The weight of cell k, and its samples. An unsampled cell has weight 0, threshold 0 and an empty grid.
 abbrev pub weightWith : Shot → Option Sample → Float
 weightWith s o = weight (configOf s) (borderWith o)
 
@@ -75,7 +76,7 @@ contributions s p = contributionsTo s p (cellTotal s)
 abbrev pub contributingCells : Shot → GridAlignment → ℕ
 contributingCells s p = length (contributions s p)
 
--- what a contributing cell adds after r quarter turns: weight × evidence, as f32 multiplies and exactly; and to the capacity weight × −null
+-- the term of a contributing cell after r quarter turns: weight × evidence, as f32 multiplies and exactly; and in the capacity weight × −null
 abbrev pub reportedTerm : Shot → ℕ → Contribution → Float
 reportedTerm s r c = weighted (c .weight) (tableOf s) (c .samples) (codeOf s r (c .id))
 
@@ -85,7 +86,7 @@ exactTerm s r c = exactWeighted (c .weight) (tableOf s) (c .samples) (codeOf s r
 abbrev pub capacityTerm : Shot → Contribution → Float
 capacityTerm s c = mul binary32 (c .weight) (neg (nullScore (s .bits)))
 
--- the sums from 0 over contributing cells in their order
+-- the sums from 0 over the contributing cells in order
 abbrev pub reportedSum : Shot → ℕ → List Contribution → Float
 reportedSum s r cs = foldl (λ (x : Float) (c : Contribution). add binary32 x (reportedTerm s r c)) nought cs
 
@@ -95,7 +96,7 @@ exactSum s r cs = foldl (λ (z : ℤ) (c : Contribution). z +ℤ exactTerm s r c
 abbrev pub capacitySum : Shot → List Contribution → Float
 capacitySum s cs = foldl (λ (x : Float) (c : Contribution). add binary32 x (capacityTerm s c)) nought cs
 
--- A placement's reported evidence: the f32 sum, or none where no cell contributes.
+-- A placement's reported evidence: the weighted log-likelihood ratio as f32 sum, or `Absent` (upstream's −∞) where no cell contributes.
 abbrev pub reportedOver : Shot → ℕ → List Contribution → Evidence
 reportedOver s r [] = evidence.Absent
 reportedOver s r (c ∷ cs) = evidence.Number (reportedSum s r (c ∷ cs))
@@ -103,7 +104,7 @@ reportedOver s r (c ∷ cs) = evidence.Number (reportedSum s r (c ∷ cs))
 unfoldable pub reported : Shot → GridAlignment → Evidence
 reported s p = reportedOver s (p .turn) (contributions s p)
 
--- Its exact evidence in whole numbers of 2⁻²⁹⁸, or none where no cell contributes.
+-- Its exact evidence: the same sum without rounding, as an integer multiple of 2⁻²⁹⁸, or none where no cell contributes.
 abbrev pub exactOver : Shot → ℕ → List Contribution → Option ℤ
 exactOver s r [] = none
 exactOver s r (c ∷ cs) = some (exactSum s r (c ∷ cs))
@@ -111,6 +112,6 @@ exactOver s r (c ∷ cs) = some (exactSum s r (c ∷ cs))
 unfoldable pub exact : Shot → GridAlignment → Option ℤ
 exact s p = exactOver s (p .turn) (contributions s p)
 
--- Its capacity: 0 where no cell contributes.
+-- Its capacity: the largest attainable evidence of its contributing cells, 0 if there are none.
 unfoldable pub capacity : Shot → GridAlignment → Float
 capacity s p = capacitySum s (contributions s p)

@@ -1,4 +1,4 @@
--- The sides of the cells, and the frame that they make after a turn.
+-- The bounding box of the cells, and the frame of a turn from it.
 use Prim.Native.Nat.{ℕ, _-_}
 use lib.IntN.{ℤ}
 use Rattle.integers.specs.Least.{lesser, higher, leastTo, greatestTo}
@@ -10,14 +10,14 @@ use Rattle.hypothesis.specs.declared.framing.Extremes.{Extremes}
 use Rattle.hypothesis.specs.declared.framing.Sides.{Sides}
 use Rattle.hypothesis.specs.Placements.{cellTotal, cell, squares}
 
--- the least and the greatest of f 0 to f n, and with one number more
+-- minimum and maximum of f 0, …, f n, and with one more number
 abbrev pub extremesTo : (ℕ → ℤ) → ℕ → Extremes
 extremesTo f n = record { least = leastTo f n; greatest = greatestTo f n }
 
 abbrev pub extremesWith : Extremes → ℤ → Extremes
 extremesWith e x = record { least = lesser (e .least) x; greatest = higher (e .greatest) x }
 
--- the coordinates of the cells, and their extremes
+-- the coordinates of the cells, and their bounding box
 abbrev pub us : Shot → ℕ → ℤ
 us s k = cell s k .u
 

@@ -1,4 +1,4 @@
--- The sums of all placements of a turn after the first n cells, as the search keeps them.
+-- The sums of all placements of a turn after the first n cells.
 use mathlib.Core.Path.{_≡_}
 use mathlib.Core.Bool.{true, false}
 use mathlib.Core.List.{List}
@@ -26,7 +26,7 @@ use Rattle.hypothesis.specs.Inputs.{Loaded}
 use Rattle.hypothesis.specs.Sums.{Added}
 use Rattle.hypothesis.specs.Turns.{countAt}
 
--- each sum, and how many cells contribute to it
+-- each sum, and the number of cells that contribute to it
 pub record SumsTo (s : Shot) (r n : ℕ) (sums : List Float) (contributing : Contributing) : Type 0 where
   pub size : length sums ≡ 1024
   pub value : (a b : ℕ) → a < movesAcross s r → b < movesDown s r
@@ -37,17 +37,17 @@ pub record SumsTo (s : Shot) (r n : ℕ) (sums : List Float) (contributing : Con
 abbrev pub noneContributing : Contributing
 noneContributing = record { even = 0; odd = 0 }
 
--- one cell more, which contributes if its square in the frame holds a marker: where the frame is moved by (0, 0), and by (1, 0)
+-- One more cell, which contributes if its square in the frame holds a marker: with the frame moved by (0, 0), and by (1, 0).
 abbrev pub withCounted : Contributing → Counted → Contributing
 withCounted contributing c =
     let p = parityOf (c .board) in
     record { even = contributing .even + asOne (holdsMarker p (c .i) (c .j)); odd = contributing .odd + asOne (holdsMarker p (c .i + 1) (c .j)) }
 
--- so many sums are nought
+-- the first sums are 0
 abbrev pub Cleared : ℕ → List Float → Type 0
 Cleared n sums = (length sums ≡ 1024) × ((k : ℕ) → k < n → getD sums k nan ≡ nought)
 
--- a turn, as the search keeps it: from its frame, and of a shot
+-- a turn as the search represents it: from its frame, and of a shot
 abbrev pub turnWith : Inputs → Frame → ℕ → Turn
 turnWith i f r =
     record { inputs = i; turn = r; u = f .u; v = f .v; across = i .board .cols + 1 - f .width; down = i .board .rows + 1 - f .height }
@@ -55,8 +55,7 @@ turnWith i f r =
 abbrev pub turnOf : Inputs → Shot → ℕ → Turn
 turnOf i s r = record { inputs = i; turn = r; u = frame s r .u; v = frame s r .v; across = movesAcross s r; down = movesDown s r }
 
--- What the sums of a turn are made of: the turn of a record that was loaded, on whose board its frame fits, and where the bits of a turned code
--- come from.
+-- The inputs of the sums of a turn: a turn of a loaded record whose frame fits on the board, and the source bit of each bit of a rotated code.
 pub record Turning (bytes index : List ℕ) (table : List Float) (codes sources : List ℕ) (t : Turn) : Type 0 where
   pub loaded : Loaded bytes (t .inputs) index table codes
   pub is : t ≡ turnOf (t .inputs) (shot bytes) (t .turn)
@@ -64,7 +63,7 @@ pub record Turning (bytes index : List ℕ) (table : List Float) (codes sources 
   pub fits : (0 < t .across) × (0 < t .down)
   pub near : (natAbs (t .u) ≤ 4096) × (natAbs (t .v) ≤ 4096)
 
--- cell k of an index, as the sums take it
+-- cell k of an index, as input of the sums
 abbrev pub countedOf : Turn → List ℕ → ℕ → Counted
 countedOf t index k =
     let p = sends (t .turn) (point (uIn index k) (vIn index k)) in
@@ -77,12 +76,12 @@ countedOf t index k =
       board = i .board;
     }
 
--- what a cell makes of the sums and of the counts: nothing, unless it weighs more than 0
+-- the effect of a cell on the sums and the counts: none unless its weight is above 0
 pub record Counts (c : Counted) (score : ℕ → Float) (across down : ℕ) (before after : List Float) (contributing contributing' : Contributing) : Type 0 where
   pub size : length after ≡ 1024
   pub heavy : lt nought (c .weight) ≡ true → Added c score across down before after × (contributing' ≡ withCounted contributing c)
   pub light : lt nought (c .weight) ≡ false → (after ≡ before) × (contributing' ≡ contributing)
 
--- the scores of cell n after r quarter turns, by the marker's id
+-- the scores of cell n after r quarter turns, as a function of the marker's id
 abbrev pub CellScores : Shot → ℕ → ℕ → (ℕ → Float) → Type 0
 CellScores s r n scores = (m : ℕ) → m < 512 → scores m ≡ score (tableOf s) (samplesOf s n) (codeOf s r m)

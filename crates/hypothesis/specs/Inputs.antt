@@ -1,4 +1,4 @@
--- What the search is given: a record that the questions before 15 let pass (21, 1 to 14, 22 and 23), and what was found in it once.
+-- The input of the search: a record that passes the questions before 15 (21, 1 to 14, 22 and 23), and what was computed from it once.
 use mathlib.Core.Path.{_≡_}
 use mathlib.Core.List.{List}
 use mathlib.Core.Option.{some}
@@ -15,7 +15,7 @@ use Rattle.hypothesis.specs.Placements.{cellTotal, cell}
 use Rattle.hypothesis.specs.Evidence.{boardIn, tableOf}
 use Rattle.hypothesis.specs.Accuracy.{Checked}
 
--- what the questions let pass, as far as the search uses it
+-- what these questions ensure, as far as the search uses it
 pub record PassedShot (s : Shot) : Type 0 where
   pub checked : Checked s
   pub rows : s .rows ≤ 32

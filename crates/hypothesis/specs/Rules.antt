@@ -1,4 +1,4 @@
--- What `proofs/` shows of the placements, of their evidence and of the counts of their contributing cells.
+-- Laws of the placements, of their evidence and of the counts of their contributing cells.
 use Prim.Native.Nat.{ℕ, _+_, _-_, _*_, _≤_, _<_}
 use mathlib.Core.Path.{_≡_}
 use mathlib.Core.Logic.{_⊎_}
@@ -34,7 +34,7 @@ pub record OnBoard (s : Shot) (p : Coord) : Type 0 where
 abbrev pub Fits : Shot → GridAlignment → Type 0
 Fits s p = (p .turn < 4) × ((k : ℕ) → k < cellTotal s → OnBoard s (applied p (cellPoint s k)))
 
--- by turn, then tx, then ty
+-- lexicographic order of turn, tx, ty
 abbrev pub Precedes : GridAlignment → GridAlignment → Type 0
 Precedes p q = (p .turn < q .turn) ⊎ ((p .turn ≡ q .turn) × ((p .tx <ℤ q .tx) ⊎ ((p .tx ≡ q .tx) × (p .ty <ℤ q .ty))))
 
@@ -47,7 +47,7 @@ countWith s r =
 abbrev pub countOf : Shot → ℕ
 countOf s = countWith s 0 + countWith s 1 + countWith s 2 + countWith s 3
 
--- the placements are exactly those that fit, each once and in order, as many as document 01 says
+-- the placements are exactly those that fit, each once, in order, and as many as document 01 states
 pub record PlacementsInOrder (s : Shot) : Type 0 where
   pub sound : (k : ℕ) (p : GridAlignment) → getElem? (placements s) k ≡ some p → Fits s p
   pub complete : (p : GridAlignment) → Fits s p → (k : ℕ) × (getElem? (placements s) k ≡ some p)
@@ -64,7 +64,7 @@ pub record Contributes (s : Shot) (p : GridAlignment) (k : ℕ) : Type 0 where
   pub marker : expected s p k ≡ numbered.Id id
   pub weight : lt nought (weightOf s k) ≡ true
 
--- evidence, reported and exact, is none exactly if no cell contributes
+-- evidence, reported and exact, is none exactly when no cell contributes
 pub record NoneExactly (s : Shot) (p : GridAlignment) : Type 0 where
   pub reported-if : ((k : ℕ) → Contributes s p k → ⊥) → reported s p ≡ evidence.Absent
   pub reported-only-if : reported s p ≡ evidence.Absent → (k : ℕ) → Contributes s p k → ⊥
@@ -83,10 +83,11 @@ isMarkerSquare b (negsuc i) j = false
 abbrev pub landsOnMarker : Shot → GridAlignment → ℕ → Bool
 landsOnMarker s p k = let q = applied p (cellPoint s k) in isMarkerSquare (boardIn s) (q .u) (q .v)
 
+-- by weight and square, without the ids of markers by which `contributions` goes
 abbrev pub isContributing : Shot → GridAlignment → ℕ → Bool
 isContributing s p k = lt nought (weightOf s k) && landsOnMarker s p k
 
--- the count is that number, of N cells at most N, and evidence is none exactly when it is 0
+-- the count is that number, at most N, and evidence is none exactly when it is 0
 pub record CountsCells (s : Shot) (p : GridAlignment) : Type 0 where
   pub number : contributingCells s p ≡ countPassing (isContributing s p) (cellTotal s)
   pub at-most : contributingCells s p ≤ cellTotal s

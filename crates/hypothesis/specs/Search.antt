@@ -14,21 +14,21 @@ use Rattle.hypothesis.specs.declared.Enumerated.the-variants as enumerat
 use Rattle.hypothesis.specs.Placements.{placements}
 use Rattle.hypothesis.specs.Evidence.{contributingCells, reported, capacity}
 
--- a placement with its evidence and the count of its contributing cells, and all of them in order
+-- a placement with its evidence and its count of contributing cells, and all of them in order
 abbrev pub hypothesis : Shot → GridAlignment → Hypothesis
 hypothesis s p = record { alignment = p; evidence = reported s p; «contributing_cells» = contributingCells s p }
 
 abbrev pub hypotheses : Shot → List Hypothesis
 hypotheses s = map (hypothesis s) (placements s)
 
--- Best is the first greatest, the runner-up the first greatest of the rest.
+-- Best is the first maximum of evidence, the runner-up the first maximum of the rest.
 abbrev pub best : Shot → Choice
 best s = firstGreatest (hypotheses s)
 
 abbrev pub runnerUp : Shot → Choice
 runnerUp s = firstGreatest (rest (hypotheses s))
 
--- The answer of the search: none if there is no placement.
+-- The result of the search: none if there is no placement.
 abbrev pub selection : Shot → Hypothesis → Selection
 selection s b =
     record { best = b; «runner_up» = runnerUp s; total = length (placements s); margin = margin (b .evidence) (capacity s (b .alignment)) (runnerUp s) }

@@ -1,5 +1,5 @@
--- What one cell adds to the sums of all placements of a turn, as the search keeps them: for the placement with its frame moved by (a, b), where
--- there are d moves down, the sum stands at place a × d + b. A score is a function of the marker's id, wherever it comes from.
+-- What one cell adds to the sums of all placements of a turn: with d moves down, the placement whose frame is moved by (a, b) has its sum at index a
+-- × d + b. A score is any function of the marker's id.
 use mathlib.Core.Path.{_≡_}
 use mathlib.Core.Bool.{Bool, true, cond}
 use mathlib.Core.List.{List}
@@ -18,14 +18,14 @@ use Rattle.score_matrix.specs.Likelihoods.{pickedFrom}
 use Rattle.hypothesis.specs.declared.sums.Counted.{Counted}
 use Rattle.hypothesis.specs.declared.sums.Move.{Move}
 
--- the sum with a score's weighed evidence, and the list of sums with it at a place
+-- a sum plus a score's weighted evidence, and the list of sums with it at an index
 abbrev pub plusScore : Float → Float → Float → Float → Float
 plusScore weight null score sum = add binary32 sum (mul binary32 weight (sub binary32 score null))
 
 abbrev pub withScore : Counted → ℕ → Float → List Float → List Float
 withScore c at score sums = set sums at (plusScore (c .weight) (c .null) score (getD sums at nan))
 
--- the marker on the cell's square after a move by (a, b), and whether there is one
+-- the marker on the cell's square after a move by (a, b), if there is one
 abbrev pub markerAfter : Counted → ℕ → ℕ → Numbered
 markerAfter c a b = markerOn (c .board) (pos (c .i + a)) (pos (c .j + b))
 
@@ -42,7 +42,7 @@ abbrev pub Added : Counted → (ℕ → Float) → ℕ → ℕ → List Float �
 Added c score across down before after =
     (a b : ℕ) → a < across → b < down → getD after (a * down + b) nan ≡ plusCell c score a b (getD before (a * down + b) nan)
 
--- the cell's square stays on the board in every move, and there is one
+-- every move keeps the cell's square on the board, and there is one
 pub record Stays (c : Counted) (across down : ℕ) : Type 0 where
   pub bits : c .board .bits ≤ 8
   pub cols : c .board .cols ≤ 32
@@ -51,8 +51,8 @@ pub record Stays (c : Counted) (across down : ℕ) : Type 0 where
   pub high : c .j + down ≤ c .board .rows
   pub some : 0 < down
 
--- ---- the moves that put the cell on a marker. They are ordered by 63 a + b: by a, and then by b, which is below 63. Its parity is that of a + b, by
--- which markers alternate.
+-- ---- the moves that put the cell on a marker, ordered by 63 a + b: by a, then by b, which is below 63. Its parity is that of a + b, by which
+-- markers alternate.
 abbrev pub order : Move → ℕ
 order m = 63 * m .a + m .b
 
@@ -82,30 +82,30 @@ moveAfter down m (suc x) = nextMove down (moveAfter down m x)
 abbrev pub Inside : ℕ → ℕ → Move → ℕ → Type 0
 Inside across down first n = (y : ℕ) → y < n → moveAfter down first y .a < across
 
--- the cell is added to the sums of the moves that come before place n of the order
+-- the cell is added to the sums of the moves whose order is below n
 pub record AddedBefore (c : Counted) (score : ℕ → Float) (across down n : ℕ) (before after : List Float) : Type 0 where
   pub size : length after ≡ 1024
   pub done : (a b : ℕ) → a < across → b < down → 63 * a + b < n → getD after (a * down + b) nan ≡ plusCell c score a b (getD before (a * down + b) nan)
   pub left : (a b : ℕ) → a < across → b < down → n ≤ 63 * a + b → getD after (a * down + b) nan ≡ getD before (a * down + b) nan
 
--- ---- scores that are worked out from codes: what their bits pick, in the order of a turn
+-- ---- scores computed from codes: the sum of the likelihoods that the bits of the rotated code select
 abbrev pub codeScore : ℕ → List Float → List ℕ → List ℕ → ℕ → Float
 codeScore bits likelihoods sources codes m = sumTo (pickedFrom likelihoods sources (getD codes m 0)) (bits * bits)
 
 abbrev pub Small : ℕ → List ℕ → Type 0
 Small n sources = (k : ℕ) → k < n → getD sources k 0 < 64
 
--- the number of the marker on a square, if the square holds one
+-- the id of the marker on a square, if the square holds one
 abbrev pub NumberOn : Board → ℕ → ℕ → ℕ → Type 0
 NumberOn board i j m = markerOn board (pos i) (pos j) ≡ numberIf (holdsMarker (parityOf board) i j) m
 
--- v is the code or the score of the marker after a move, which f gives by its number; and those of eight moves, as far as the frame stays on the board
+-- v is the code or the score of the marker after a move, as f maps its id; and those of eight moves, while the frame stays on the board
 abbrev pub OfMarker : {A : Type 0} → Counted → (ℕ → A) → Move → A → Type 0
 OfMarker c f m v = (k : ℕ) × NumberOn (c .board) (c .i + m .a) (c .j + m .b) k × (v ≡ f k)
 
 abbrev pub OfEight : {A : Type 0} → Counted → (ℕ → A) → ℕ → ℕ → Move → (ℕ → A) → Type 0
 OfEight c f across down first v = (x : ℕ) → x < 8 → Inside across down first (x + 1) → OfMarker c f (moveAfter down first x) (v x)
 
--- lanes with a code as lane x
+-- lanes with a code in lane x
 abbrev pub withCode : ℕ → ℕ → List ℕ → List ℕ
 withCode x code lanes = set (set lanes x (code % 2 ^ 32)) (x + 8) (code / 2 ^ 32)

@@ -1,4 +1,4 @@
-// The capacity of a placement: the evidence that its contributing cells would give if each were certain.
+// The capacity of a placement: the largest evidence that its contributing cells can attain.
 ghost use mathlib.Core.Path.{_≡_};
 ghost use Prim.Native.Nat.{_<_};
 ghost use Rattle.grid_alignment.specs.Alignment.{NearAlignment};
@@ -12,7 +12,7 @@ use grid_alignment::GridAlignment;
 use grid_alignment::alignments;
 use shot_record::index;
 
-// The sum with a cell of a weight in which a marker is expected or none.
+// The sum with a cell of the given weight, in which `marker` is expected.
 fn with_marker(total: f32, most: f32, weight: f32, marker: Numbered) -> f32
     ensures { λ r. ⌜ r ≡ withMarker total most weight marker ⌝ }
 {
@@ -28,7 +28,7 @@ fn with_marker(total: f32, most: f32, weight: f32, marker: Numbered) -> f32
     }
 }
 
-// The sum with cell k. An unsampled cell has weight 0, and adds nothing.
+// The sum with cell k. An unsampled cell has weight 0 and adds nothing.
 fn with_cell(
     total: f32,
     most: f32,
@@ -46,8 +46,7 @@ fn with_cell(
     with_marker(total, most, weight, board.marker_id_at(square.u, square.v))
 }
 
-// A contributing cell gives at most its weight times what a certain cell gives, which is the null score without its sign. The record stands in the
-// contract alone.
+// A score is at most 0, so a contributing cell adds at most its weight times minus the null score. `bytes` is used only in the contract.
 pub fn capacity(bytes: &[u8], inputs: Inputs, index: &[u32; 768], alignment: GridAlignment) -> f32
     requires { ⌜ Ready (now bytes) inputs (now index) × NearAlignment alignment ⌝ }
     ensures { λ r. ⌜ r ≡ capacityOf (shot (now (bytes .entry))) alignment ⌝ }

@@ -1,4 +1,4 @@
-// The sums of all placements of one turn, over the cells of a record in order.
+// The sums of all placements of one turn, over the cells in record order.
 ghost use mathlib.Core.Path.{_≡_};
 ghost use mathlib.Core.Bool.{true};
 ghost use Prim.Native.Nat.{_*_, _<_, _≤_};
@@ -23,7 +23,8 @@ use super::turns::Contributing;
 use score_matrix::cell;
 use shot_record::index;
 
-// A turn: the least u and v of its frame, and in how many ways the frame moves on the board.
+// A turn (rotation by 90° × `turn`): the least u and v of its frame, and the number of translations that keep the frame on the board, across and
+// down.
 pub struct Turn {
     pub inputs: Inputs,
     pub turn: u8,
@@ -33,8 +34,8 @@ pub struct Turn {
     pub down: usize,
 }
 
-// A cell lands on markers in the placements that move the frame by an even number of squares if its square in the frame holds one. In the others
-// it does if the square beside that one does, so if that one does not.
+// Markers alternate by parity: a cell lands on a marker in the placements that move the frame by an even number of squares if its square in the frame
+// holds one, and in the others if that square holds none.
 fn with_counted(contributing: Contributing, cell: Counted) -> Contributing
     requires { ⌜ (contributing .even < 256) × (contributing .odd < 256) ⌝ }
     ensures { λ r. ⌜ r ≡ withCounted contributing cell ⌝ }
@@ -52,7 +53,7 @@ fn with_counted(contributing: Contributing, cell: Counted) -> Contributing
     }
 }
 
-// What cell k is: its square in the frame and its weight.
+// Cell k: its square in the frame and its weight.
 fn counted(t: Turn, index: &[u32; 768], k: usize) -> Counted
     requires { ⌜ (natAbs (uIn (now index) k) ≤ 4096) × (natAbs (vIn (now index) k) ≤ 4096) × (natAbs (t .u) ≤ 4096) × (natAbs (t .v) ≤ 4096) × (k < 256) ⌝ }
     ensures { λ r. ⌜ r ≡ countedOf t (now (index .entry)) k ⌝ }
@@ -69,7 +70,7 @@ fn counted(t: Turn, index: &[u32; 768], k: usize) -> Counted
     }
 }
 
-// What its scores are made of, if it weighs more than 0: what each bit of a code adds.
+// What each bit of a code adds to the scores of a cell with weight above 0.
 fn likelihoods(
     adds: &mut [f32; 128],
     bytes: &[u8],
@@ -95,7 +96,7 @@ fn likelihoods(
     cell::bit_likelihoods(adds, table, grid, threshold, board.bits, board.border_bits);
 }
 
-// Adds a cell, if it weighs more than 0.
+// Adds a cell if its weight is above 0.
 fn add_counted(
     sums: &mut [f32; 1024],
     contributing: Contributing,
@@ -118,7 +119,7 @@ fn add_counted(
     with_counted(contributing, cell)
 }
 
-// The sums of a turn over all cells, in their order, and how many contribute.
+// The sums of a turn over all cells in order, and the counts of contributing cells.
 pub fn fill(
     sums: &mut [f32; 1024],
     bytes: &[u8],

@@ -1,4 +1,4 @@
-// The frame of the cells after a turn: their least u and v, and how many squares they take. The sides of the cells are found once, and turned.
+// The frame of a turn, computed by rotating the bounding box of the cells, which is found once.
 ghost use mathlib.Core.Path.{_≡_};
 ghost use Rattle.shot_record.specs.Shots.{shot};
 ghost use Rattle.hypothesis.specs.Inputs.{Ready};
@@ -12,13 +12,12 @@ pub struct Extremes {
     pub greatest: i16,
 }
 
-// The least and the greatest u and v.
+// The bounding box: the least and the greatest u and v.
 pub struct Sides {
     pub u: Extremes,
     pub v: Extremes,
 }
 
-// With one number more.
 fn extremes_with(e: Extremes, x: i16) -> Extremes
     ensures { λ r. ⌜ r ≡ extremesWith e x ⌝ }
 {
@@ -27,7 +26,7 @@ fn extremes_with(e: Extremes, x: i16) -> Extremes
     Extremes { least, greatest }
 }
 
-// The sides of all cells. The record stands in the contract alone.
+// The bounding box of all cells. `bytes` is used only in the contract.
 pub fn cell_sides(bytes: &[u8], inputs: Inputs, index: &[u32; 768]) -> Sides
     requires { ⌜ Ready (now bytes) inputs (now index) ⌝ }
     ensures { λ r. ⌜ r ≡ sidesOf (shot (now (bytes .entry))) ⌝ }
@@ -52,7 +51,7 @@ pub fn cell_sides(bytes: &[u8], inputs: Inputs, index: &[u32; 768]) -> Sides
     Sides { u, v }
 }
 
-// The frame of a turn: two opposite corners are turned.
+// The frame of a turn, from two opposite corners, rotated.
 pub fn frame(sides: Sides, turn: u8) -> Frame
     ensures { λ r. ⌜ r ≡ frameBy turn sides ⌝ }
 {

@@ -1,5 +1,4 @@
-// The search for the placement (hypothesis.rs). Uses `integers`, `grid_alignment`, `board`, `score_matrix`, `shot_record` and `ranking`, and for its
-// definitions and laws `floats`, `lent_list` and `matcher`.
+// Searches all placements of the observed cells on the board for the one with the greatest evidence (hypothesis.rs).
 mod capacity;
 mod fill;
 mod framing;
@@ -13,14 +12,14 @@ use ranking::Hypothesis;
 use score_matrix::BoardMatchConfig;
 use shot_record::fields::Fields;
 
-// What the search is given beside the record: what was found in it once.
+// The inputs of the search beside the record, computed from it once.
 pub struct Inputs {
     pub fields: Fields,
     pub board: Board,
     pub config: BoardMatchConfig,
 }
 
-// The cells after a turn: the least u and v, and how many squares they take.
+// The bounding box of the rotated cells: least u and v, width and height in squares.
 pub struct Frame {
     pub u: i32,
     pub v: i32,
@@ -28,7 +27,7 @@ pub struct Frame {
     pub height: usize,
 }
 
-// The chosen placement, its runner-up, how many there are, and the margin.
+// The best placement, its runner-up, the number of placements, and the margin.
 pub struct Selection {
     pub best: Hypothesis,
     pub runner_up: Choice,

@@ -1,4 +1,4 @@
-// The search: each turn in order, all of its placements ranked, then the margin of the best.
+// The search: for each turn in order all its placements are ranked; then the margin of the best.
 ghost use mathlib.Core.Path.{_≡_};
 ghost use mathlib.Core.List.{map};
 ghost use Prim.Native.Nat.{_+_, _-_, _≤_, _<_};
@@ -22,7 +22,7 @@ use ranking::Choice;
 use ranking::Ranking;
 use score_matrix::turned;
 
-// In how many ways a frame of so many squares moves on a board side: 0 where it is too long.
+// The number of positions of so many squares on a board side: 0 if they do not fit.
 fn moves(side: u8, squares: usize) -> usize
     ensures { λ r. ⌜ r ≡ side + 1 - squares ⌝ }
 {
@@ -33,7 +33,7 @@ fn moves(side: u8, squares: usize) -> usize
     places - squares
 }
 
-// A turn, with in how many ways its frame moves on the board.
+// A turn, with the numbers of moves of its frame on the board.
 fn turn_of(inputs: Inputs, frame: Frame, turn: u8) -> Turn
     requires { ⌜ (natAbs (frame .u) ≤ 4096) × (natAbs (frame .v) ≤ 4096) ⌝ }
     ensures { λ r. ⌜ r ≡ turnWith inputs frame turn ⌝ }
@@ -51,7 +51,7 @@ fn turn_of(inputs: Inputs, frame: Frame, turn: u8) -> Turn
     }
 }
 
-// Clears the first sums, as many as a turn has placements.
+// Sets the first `count` sums to 0.
 fn clear(sums: &mut [f32; 1024], count: usize)
     requires { ⌜ (count ≤ 1024) × (length (now sums) ≡ 1024) ⌝ }
     ensures { λ _. ⌜ Cleared count (now (sums .exit)) ⌝ }

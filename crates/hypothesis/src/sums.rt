@@ -1,7 +1,6 @@
-// The sums of all placements of one turn, cell by cell, so that what a cell's bits add is looked up once for all of them. For the placement
-// with its frame moved by (a, b), where there are d moves down, the sum stands at place a d + b. Only moves that put the cell on a marker change
-// their sums, and those are gone through eight at a time. Uses `board` for the marker on a square and `score_matrix` for
-// the scores.
+// The sums of all placements of one turn, cell by cell, so that the likelihoods of a cell's bits are looked up once for all of them. With d moves
+// down, the placement whose frame is moved by (a, b) has its sum at index a d + b. A cell changes only the sums of moves that put it on a marker;
+// these are processed eight at a time.
 ghost use mathlib.Core.Path.{_≡_};
 ghost use mathlib.Core.List.{List};
 ghost use Prim.Native.Nat.{ℕ, _+_, _*_, _<_, _≤_};
@@ -14,7 +13,7 @@ use board::Board;
 use board::squares;
 use score_matrix::turned;
 
-// A cell that counts: its square in the frame and its weight, and what is the same for all cells of a shot.
+// A cell that may contribute: its square in the frame, its weight, and what is the same for all cells of a shot.
 pub struct Counted {
     pub i: usize,
     pub j: usize,
@@ -38,7 +37,7 @@ fn code_after(codes: &[u64; 512], cell: Counted, at: Move) -> u64
     codes[id]
 }
 
-// Adds the cell to the sum of a move, by the score of the marker that is expected.
+// Adds the cell to the sum of a move, from the score of the expected marker.
 fn add_score(sums: &mut [f32; 1024], cell: Counted, at: Move, down: usize, score: f32)
     requires { ⌜ at .a * down + at .b < 1024 ⌝ }
     ensures { λ _. ⌜ now (sums .exit) ≡ withScore cell (at .a * down + at .b) score (now (sums .entry)) ⌝ }
@@ -47,7 +46,7 @@ fn add_score(sums: &mut [f32; 1024], cell: Counted, at: Move, down: usize, score
     sums[place] = sums[place] + cell.weight * (score - cell.null);
 }
 
-// The first move that puts the cell on a marker. With a return for each first row in place of `b`, a match was measured 3 % slower.
+// The first move that puts the cell on a marker. With a return for each first row instead of `b`, a match was measured 3 % slower.
 fn first_move(cell: Counted, down: usize) -> Move
     ensures { λ r. ⌜ FirstMove cell down r ⌝ }
 {
@@ -63,7 +62,7 @@ fn first_move(cell: Counted, down: usize) -> Move
     Move { a: 1, b: 0 }
 }
 
-// The next one: markers are on every second row, and on the other rows of the next column.
+// The next such move: markers are on every second row, and on the other rows of the next column.
 fn next_move(down: usize, at: Move) -> Move
     requires { ⌜ (at .a < 32) × (at .b < 32) ⌝ }
     ensures { λ r. ⌜ r ≡ nextMove down at ⌝ }
@@ -82,7 +81,7 @@ fn next_move(down: usize, at: Move) -> Move
     Move { a: a + 1, b: 0 }
 }
 
-// Puts a code into lane x: its low half there, and its high half eight lanes on.
+// Stores a code in lane x: its low half there, its high half eight lanes later.
 fn put_code(lanes: &mut [u32; 16], x: usize, code: u64)
     requires { ⌜ x < 8 ⌝ }
     ensures { λ _. ⌜ now (lanes .exit) ≡ withCode x code (now (lanes .entry)) ⌝ }
@@ -91,8 +90,8 @@ fn put_code(lanes: &mut [u32; 16], x: usize, code: u64)
     lanes[x + 8] = (code / 0x1_0000_0000) as u32;
 }
 
-// The codes of the markers at eight moves from `first` on, as `turned::sum_eight` takes them. Where the frame leaves the board earlier, the lanes
-// that are left have the code 0.
+// The codes of the markers at eight moves from `first` on, as `turned::sum_eight` takes them. Where the frame leaves the board earlier, the remaining
+// lanes have code 0.
 fn gather(cell: Counted, first: Move, across: usize, down: usize, codes: &[u64; 512]) -> [u32; 16]
     requires { ⌜ Stays cell across down × OnMarker cell down first ⌝ }
     ensures { λ r. ⌜ OfEight cell (λ k. getD (now (codes .entry)) k 0) across down first (laneCode r) ⌝ }
@@ -111,7 +110,7 @@ fn gather(cell: Counted, first: Move, across: usize, down: usize, codes: &[u64; 
     lanes
 }
 
-// Adds the cell to the sums of the same moves, by the scores of their markers. Gives the move after them.
+// Adds the cell to the sums of the same moves, from the scores of their markers. Returns the move after them.
 fn add_eight(
     sums: &mut [f32; 1024],
     cell: Counted,

@@ -1,5 +1,5 @@
-// The ranking of all placements of one turn, from their sums, and the answer that the last ranking makes. For the placement with its frame
-// moved by (a, b), where there are d moves down, the sum stands at place a d + b. Uses `ranking`.
+// The ranking of all placements of one turn from their sums, and the result of the last ranking. With d moves down, the placement whose frame is
+// moved by (a, b) has its sum at index a d + b.
 ghost use mathlib.Core.Path.{_≡_};
 ghost use Prim.Native.Nat.{_<_, _≤_};
 ghost use lib.IntN.{pos, natAbs, _-ℤ_};
@@ -11,13 +11,13 @@ use ranking::Evidence;
 use ranking::Hypothesis;
 use ranking::Ranking;
 
-// How many cells contribute: a square holds a marker or not by parity, so all placements with the same parity of a + b have the same count.
+// Counts of contributing cells. Markers alternate by parity, so all placements with the same parity of a + b have the same count.
 pub struct Contributing {
     pub even: usize,
     pub odd: usize,
 }
 
-// Of the placements that move the frame by n squares in all.
+// The count of the placements that move the frame by n squares in all.
 fn count_at(contributing: Contributing, n: usize) -> usize
     ensures { λ r. ⌜ r ≡ countAt contributing n ⌝ }
 {
@@ -27,7 +27,7 @@ fn count_at(contributing: Contributing, n: usize) -> usize
     contributing.odd
 }
 
-// The evidence of the placement moved by (a, b): none where no cell contributes.
+// The evidence of the placement moved by (a, b): `Absent` where no cell contributes.
 pub fn placement_sum(
     sums: &[f32; 1024],
     contributing: Contributing,
@@ -47,7 +47,7 @@ pub fn placement_sum(
     }
 }
 
-// What puts the least coordinate of the frame on column or row `a`.
+// The translation that puts the least coordinate of the frame on column or row `a`.
 fn translation(a: usize, least: i32) -> i32
     requires { ⌜ (a < 32) × (natAbs least ≤ 8192) ⌝ }
     ensures { λ r. ⌜ r ≡ pos a -ℤ least ⌝ }
@@ -81,8 +81,8 @@ fn moved_to(
     }
 }
 
-// The first row from `from` on whose placement changes best or runner-up, else `down`. Most change neither, and while none does the loop compares
-// with the same two numbers.
+// The first row from `from` on whose placement changes best or runner-up, else `down`. Most change neither, and until one does the loop compares with
+// the same two numbers.
 fn next_change(
     held: Ranking,
     sums: &[f32; 1024],
@@ -157,7 +157,7 @@ pub fn rank_turn(
     held
 }
 
-// The answer, where there is a best placement.
+// The result, if there is a best placement.
 pub fn selected(ranking: Ranking, best: Hypothesis, best_capacity: f32) -> Selection
     ensures { λ r. ⌜ r ≡ selectionOf ranking best «best_capacity» ⌝ }
 {

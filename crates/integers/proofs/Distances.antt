@@ -1,4 +1,4 @@
--- Order and distance of whole numbers, as inequalities of their parts, so that `omega` reads them. Assumes nothing.
+-- Order and distance of integers, as inequalities of their parts, so that `omega` reads them. Assumes nothing.
 use mathlib.Core.Path.{_≡_, sym, ap, subst, _∙_}
 use mathlib.Core.Logic.{_⊎_, inl, inr}
 use mathlib.Core.Bool.{Bool, true, false, not, _&&_, false≢true}
@@ -58,13 +58,13 @@ near-sub {a} {b} {c} {d} h k =
     let y = sub-is-parts b d in
     record { above = omega arith; below = omega arith }
 
--- ---- how far apart two numbers are
+-- ---- distance of two integers
 pub distance-sym : (x y : ℤ) → natAbs (x -ℤ y) ≡ natAbs (y -ℤ x)
 distance-sym x y =
     let z = y -ℤ x in
     ap natAbs (ext (x -ℤ y) (negℤ z) (omega (arith, sub-is-parts x y, sub-is-parts y x, plus-neg z, minus-neg z))) ∙ abs-neg z
 
--- how far x lies above low
+-- distance of x from a lower bound
 pub above-is : (low x : ℤ) → Le low x → natAbs (x -ℤ low) + (plus low + minus x) ≡ plus x + minus low
 above-is low x h =
     let z = x -ℤ low in
@@ -139,7 +139,7 @@ lt-or-le a b = go (ltb a b) (ltb→lt a b) (nltb→le a b)
     go true l m = inl (l tt)
     go false l m = inr (m tt)
 
--- ---- equal
+-- ---- equality
 pub same-refl : (a : ℤ) → same a a ≡ true
 same-refl (pos a) = rw (le-leb a a (le-refl a))
 same-refl (negsuc a) = rw (le-leb a a (le-refl a))
@@ -153,7 +153,7 @@ same-eq (pos a) (negsuc b) e = absurd (false≢true e)
 same-eq (negsuc a) (pos b) e = absurd (false≢true e)
 same-eq (negsuc a) (negsuc b) e = ap negsuc (sym (each-way b a e))
 
--- ---- from −m to m
+-- ---- |z| ≤ m
 pub within-abs : (m : ℕ) (z : ℤ) → isWithin m z ≡ true → natAbs z ≤ m
 within-abs m (pos n) e = leb→le n m (and-r (leZ (negℤ (pos m)) (pos n)) (leb n m) (subst T (sym e) tt))
 within-abs zero (negsuc n) e = absurd (false≢true e)

@@ -1,4 +1,4 @@
--- The least and the greatest of f 0 to f n: bounds of all of them, reached, and exchanged with the other sign. Assumes nothing.
+-- The minimum and the maximum of f 0 to f n: bounds, attained, and exchanged by negation. Assumes nothing.
 use mathlib.Core.Path.{_≡_, refl, sym, ap, _∙_}
 use mathlib.Core.Logic.{inl, inr}
 use Prim.Native.Nat.{ℕ, zero, suc, _≤_}
@@ -19,7 +19,6 @@ lesser-le x y = go (leZ x y) refl
     go true e = (omega arith, leZ→Le x y e)
     go false e = (nleZ→Le x y e, omega arith)
 
--- of two in order
 pub in-order : (x y : ℤ) → Le x y → (lesser x y ≡ x) × (lesser y x ≡ x)
 in-order x y h = (first (leZ x y) refl, second (leZ y x) refl)
   where
@@ -31,7 +30,7 @@ in-order x y h = (first (leZ x y) refl, second (leZ y x) refl)
     second true e = ext y x (omega (arith, leZ→Le y x e))
     second false e = refl
 
--- with the other sign the order is the other one, and the lesser is the higher
+-- negation reverses the order and exchanges minimum and maximum
 pub le-opposite : (x y : ℤ) → Le x y → Le (negℤ y) (negℤ x)
 le-opposite x y h = omega (arith, plus-neg x, minus-neg x, plus-neg y, minus-neg y)
 
@@ -46,7 +45,7 @@ lesser-opposite x y = go (leZ x y) refl
 abbrev pub opposite : (ℕ → ℤ) → ℕ → ℤ
 opposite f k = negℤ (f k)
 
--- z is one of them
+-- z is one of f 0 to f n
 pub record Reached (f : ℕ → ℤ) (n : ℕ) (z : ℤ) : Type 0 where
   pub k : ℕ
   pub within : k ≤ n
@@ -94,6 +93,6 @@ module _ (f : ℕ → ℤ) (n : ℕ) where
   pub least-greatest : Le (leastTo f n) high
   least-greatest = omega (arith, least-bound f n 0 (omega arith), greatest-bound 0 (omega arith))
 
--- with the other sign they are exchanged
+-- negation exchanges them
 pub greatest-opposite : (f : ℕ → ℤ) (n : ℕ) → greatestTo (opposite f) n ≡ negℤ (leastTo f n)
 greatest-opposite f n = greatest-is (opposite f) n ∙ ap (λ (h : ℕ → ℤ). negℤ (leastTo h n)) (λ i k. negℤ-negℤ (f k) i)

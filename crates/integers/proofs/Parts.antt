@@ -1,4 +1,4 @@
--- Whole numbers by their two parts, each a natural number, so that `omega` reads them: z is `plus z − minus z`, and one of the two is 0.
+-- Integers by their two parts, each a natural number, so that `omega` reads them: z is `plus z − minus z`, and one of the two is 0.
 -- Each operation on ℤ is an equation between the parts, with no subtraction in it. Assumes nothing.
 use mathlib.Core.Path.{_≡_, refl, ap}
 use Prim.Native.Nat.{ℕ, zero, suc, _+_, _-_, _*_, _^_, _≤_, _<_}
@@ -65,13 +65,13 @@ mul-is (pos a) (negsuc b) = omega (arith, neg-pos (a * suc b))
 mul-is (negsuc a) (pos b) = omega (arith, neg-pos (suc a * b))
 mul-is (negsuc a) (negsuc b) = omega arith
 
--- ---- the magnitude
+-- ---- absolute value
 pub abs-is : (z : ℤ) → natAbs z ≡ plus z + minus z
 unfolding plus minus
 abs-is (pos n) = omega arith
 abs-is (negsuc n) = omega arith
 
--- one of the parts is 0: the magnitude is at most e when each part is within e of the other
+-- one part is 0: the absolute value is at most e if each part is within e of the other
 pub parts-le : (z : ℤ) (e : ℕ) → plus z ≤ minus z + e → minus z ≤ plus z + e → plus z + minus z ≤ e
 unfolding plus minus
 parts-le (pos n) e h k = omega arith
@@ -96,7 +96,7 @@ abs-neg a = omega (arith, abs-is a, abs-is (negℤ a), plus-neg a, minus-neg a)
 pub abs-sub : (a b : ℤ) → natAbs (a -ℤ b) ≤ natAbs a + natAbs b
 abs-sub a b = omega (arith, abs-add a (negℤ b), abs-neg b)
 
--- a signed width holds what is small, and what it holds is small
+-- bounds of the signed widths
 pub small-fits : (z : ℤ) → natAbs z < 2 ^ 31 → SFits w32 z
 small-fits (pos n) h = record { sfits = h }
 small-fits (negsuc n) h = record { sfits = omega arith }
@@ -111,11 +111,11 @@ abs-mul (pos a) (negsuc b) = abs-neg (pos (a * suc b))
 abs-mul (negsuc a) (pos b) = abs-neg (pos (suc a * b))
 abs-mul (negsuc a) (negsuc b) = refl
 
--- a factor of size at most 1 makes nothing larger
+-- a factor of absolute value at most 1
 pub abs-factor : (a b : ℤ) → natAbs a ≤ 1 → natAbs (a *ℤ b) ≤ natAbs b
 abs-factor a b h = omega (arith, abs-mul a b, mul-le-mul-right (natAbs b) h)
 
--- ---- two whole numbers are equal when their parts differ by as much
+-- ---- equality from the parts
 pub ext : (x y : ℤ) → plus x + minus y ≡ minus x + plus y → x ≡ y
 unfolding plus minus
 ext (pos a) (pos b) e = ap pos (omega arith)

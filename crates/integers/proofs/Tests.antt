@@ -1,4 +1,4 @@
--- A test of two parts, and a test of the numbers below n: that all pass, as a loop asks it, and that one does. Assumes nothing.
+-- Conjunction of two tests, and the quantifiers of `specs/Tests.antt` as a loop checks them. Assumes nothing.
 use mathlib.Core.Path.{_≡_, refl, sym, ap, ap₂, _∙_}
 use mathlib.Core.Bool.{Bool, true, false, false≢true, not, _&&_, _||_, or-true}
 use mathlib.Core.Logic.{_⊎_, inl, inr}
@@ -13,7 +13,7 @@ pub both : (a b : Bool) → (a && b) ≡ true → (a ≡ true) × (b ≡ true)
 both true b e = (refl, e)
 both false b e = absurd (false≢true e)
 
--- ---- all of 0 to n − 1
+-- ---- for all k < n
 module _ (test : ℕ → Bool) where
   pub each : (n : ℕ) → every test n ≡ true → (k : ℕ) → k < n → test k ≡ true
   unfolding every
@@ -29,7 +29,7 @@ module _ (test : ℕ → Bool) where
   from-each zero h = refl
   from-each (suc n) h = rw (from-each n (λ k l. h k (omega (arith, l))), h n (omega arith))
 
-  -- in a loop: before it, after k that passes, at k that does not, and after the last
+  -- in a loop: before it, after k that passes, at k that fails, after the last
   pub none-tested : every test 0 ≡ true
   unfolding every
   none-tested = refl
@@ -50,13 +50,13 @@ module _ (test : ℕ → Bool) where
       let last : k ≡ n = omega arith in
       sym e ∙ ap (every test) last
 
--- two tests that agree on 0 to n − 1
+-- two tests that agree below n
 pub same-answers : (f g : ℕ → Bool) (n : ℕ) → ((k : ℕ) → k < n → f k ≡ g k) → every f n ≡ every g n
 unfolding every
 same-answers f g zero e = refl
 same-answers f g (suc n) e = ap₂ _&&_ (same-answers f g n (λ k h. e k (omega (arith, h)))) (e n (omega arith))
 
--- ---- one of 0 to n − 1
+-- ---- for some k < n
 module _ (test : ℕ → Bool) where
   pub any-true : (n k : ℕ) → k < n → test k ≡ true → anyBelow test n ≡ true
   unfolding anyBelow

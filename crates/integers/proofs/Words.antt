@@ -1,4 +1,4 @@
--- Whole numbers through the words that hold them: a local of a signed type is its bits, and is read back from them. Assumes nothing.
+-- Integers and their words: a local of a signed type is its bit pattern and is decoded from it. Assumes nothing.
 use mathlib.Core.Path.{_≡_, ap, ap₂, sym, _∙_, subst}
 use mathlib.Core.Bool.{Bool, cond}
 use Prim.Native.Nat.{_^_, _≤_, _<_}
@@ -10,18 +10,18 @@ use mir.Val.{SFits, toZ, ofZ}
 use mir.ValLaws.{toZ-ofZ}
 use Rattle.integers.proofs.Parts.{small-fits, fits-small}
 
--- what is read back from a word of 32 bits, and from one of 16
+-- the integer decoded from the word of z, of 32 and of 16 bits
 abbrev pub word : ℤ → ℤ
 word z = toZ w32 (ofZ w32 z)
 
 abbrev pub half : ℤ → ℤ
 half z = toZ w16 (ofZ w16 z)
 
--- a number that fits a word is read back from it
+-- an integer that fits is decoded from its word
 pub read-back : (z : ℤ) → mag z < 2 ^ 31 → word z ≡ z
 read-back z h = toZ-ofZ w32 z (record { sfits = h })
 
--- z is small enough, and y is read back as z
+-- the same for a y that equals z
 pub word-is : {y : ℤ} (z : ℤ) → y ≡ z → natAbs z < 2 ^ 31 → word y ≡ z
 word-is z e h = ap word e ∙ toZ-ofZ w32 z (small-fits z h)
 
@@ -34,7 +34,7 @@ widened-fits z f = subst (SFits w32) (sym (toZ-ofZ w16 z f)) (small-fits z (omeg
 pub widened-small : (z : ℤ) → SFits w16 z → natAbs (word (half z)) ≤ 2 ^ 15
 widened-small z f = rw (widened z f) (fits-small z f)
 
--- by the outcome of a test on the bits, z is chosen
+-- the outcome of a test on the bits chooses z
 pub chosen : (w : Width) (x y p q z : ℤ) (t : Bool) → SFits w x → SFits w y → SFits w z → leZ (toZ w (ofZ w x)) (toZ w (ofZ w y)) ≡ t → z ≡ cond t p q
     → toZ w (ofZ w z) ≡ cond (leZ x y) p q
 chosen w x y p q z t fx fy fz e is =

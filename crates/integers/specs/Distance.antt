@@ -1,4 +1,4 @@
--- How far two whole numbers lie apart, whether they are equal, and whether one lies near 0.
+-- Distance, equality and absolute bound of integers.
 use Prim.Native.Nat.{ℕ, _≤_}
 use mathlib.Core.Bool.{Bool, _&&_}
 use lib.IntN.{ℤ, pos, negℤ, natAbs, _-ℤ_}
@@ -11,6 +11,6 @@ Within a b e = natAbs (a -ℤ b) ≤ e
 abbrev pub same : ℤ → ℤ → Bool
 same a b = leZ a b && leZ b a
 
--- from −m to m
+-- |z| ≤ m
 abbrev pub isWithin : ℕ → ℤ → Bool
 isWithin m z = leZ (negℤ (pos m)) z && leZ z (pos m)

@@ -1,4 +1,4 @@
--- The lesser and the higher of two whole numbers, and the least and the greatest of f 0 to f n.
+-- Minimum and maximum of two integers, and of f 0 to f n.
 use Prim.Native.Nat.{ℕ, zero, suc}
 use mathlib.Core.Bool.{cond}
 use lib.IntN.{ℤ}
@@ -10,7 +10,7 @@ lesser x y = cond (leZ x y) x y
 abbrev pub higher : ℤ → ℤ → ℤ
 higher x y = cond (leZ x y) y x
 
--- of f 0 to f n
+-- minimum and maximum of f 0 to f n
 unfoldable pub leastTo : (ℕ → ℤ) → ℕ → ℤ
 leastTo f zero = f 0
 leastTo f (suc n) = lesser (leastTo f n) (f (suc n))

@@ -1,6 +1,5 @@
-// Signed arithmetic on small numbers, said in whole numbers. The laws of whole numbers are in `proofs/Parts.antt`, and those of
-// their order and distance in `proofs/Distances.antt`; the least and the greatest of f 0 to f n in `specs/Least.antt`, tests of the numbers below n in
-// `specs/Tests.antt`. Uses no other crate.
+// Computes combinations, minima, distances and words of small signed numbers, specified on the integers.
+// `proofs/Parts.antt` has the laws of ℤ, `proofs/Distances.antt` those of order and distance.
 ghost use mathlib.Core.Path.{_≡_};
 ghost use Prim.Native.Nat.{_^_, _≤_};
 ghost use lib.IntN.{natAbs, _+ℤ_, _-ℤ_, _*ℤ_};
@@ -8,7 +7,7 @@ ghost use mir.Syntax.{w32};
 ghost use mir.Val.{ofZ};
 ghost use Rattle.integers.specs.Least.{lesser};
 
-// a x + b y, for factors a and b of size at most 1.
+// a x + b y for |a|, |b| ≤ 1.
 pub fn combine(a: i32, b: i32, x: i16, y: i16) -> i32
     requires { ⌜ (natAbs a ≤ 1) × (natAbs b ≤ 1) ⌝ }
     ensures { λ r. ⌜ r ≡ a *ℤ x +ℤ b *ℤ y ⌝ }
@@ -25,7 +24,6 @@ pub fn min(x: i32, y: i32) -> i32
     y
 }
 
-// How far apart two small numbers are.
 pub fn distance(x: i32, y: i32) -> usize
     requires { ⌜ (natAbs x ≤ 2 ^ 29) × (natAbs y ≤ 2 ^ 29) ⌝ }
     ensures { λ r. ⌜ r ≡ natAbs (x -ℤ y) ⌝ }
@@ -37,7 +35,7 @@ pub fn distance(x: i32, y: i32) -> usize
     d as usize
 }
 
-// The bits of a word of 32 that holds a number, in two's complement: the complement of z is −1 − z.
+// Two's complement of z; `!z` is −1 − z.
 pub fn word(z: i32) -> u32
     ensures { λ r. ⌜ r ≡ ofZ w32 z ⌝ }
 {

@@ -1,4 +1,4 @@
--- Words that are put one behind the other, results in front of a list that was lent, and what is given for 0 to n − 1. Assumes nothing.
+-- Words written consecutively, results at the start of an output array, and concatenations. Assumes nothing.
 use mathlib.Core.Path.{_≡_, refl, sym, ap, ap₂, subst, _∙_}
 use mathlib.Core.List.{List, [], _∷_, _++_, append-assoc, append-nil, flatMap}
 use Prim.Native.Nat.{ℕ, zero, suc, _+_, _*_, _≤_, _<_}
@@ -8,7 +8,7 @@ use lib.ListN.{length, take, drop, length-append, length-take, length-drop, take
 use lib.Seq.{take-at, take-all, take-append-le, drop-append-add, drop-drop, length-take-le}
 use Rattle.lent_list.specs.Front.{inFront, upTo, Put}
 
--- ---- words that are put one behind the other
+-- ---- words written consecutively
 module _ {A : Type 0} where
   pub nothing-put : (l : List A) (n : ℕ) → Put l l n n []
   nothing-put l n =
@@ -41,13 +41,13 @@ module _ {A : Type 0} where
               ∙ ap (λ (l : List A). l ++ drop r before) (append-assoc (take n before) xs ys);
         }
 
--- ---- results in front
+-- ---- results at the start of an output array
 module _ {A : Type 0} where
-  -- where there is room for them
+  -- the array is long enough
   pub front-is : (results lent : List A) → length results ≤ length lent → inFront results lent ≡ results ++ drop (length results) lent
   front-is results lent h = ap (λ (l : List A). l ++ drop (length results) lent) (take-all (length lent) results h)
 
-  -- where there is none for all of them: the first are enough
+  -- the array is too short: the results are truncated
   pub front-first : (results lent : List A) → length lent ≤ length results → inFront (take (length lent) results) lent ≡ inFront results lent
   front-first results lent h =
       let first = take (length lent) results in
@@ -60,14 +60,14 @@ module _ {A : Type 0} where
       length-append (take (length lent) results) (drop (length results) lent)
       ∙ omega (arith, length-take (length lent) results, length-drop (length results) lent)
 
-  -- words that are put from the first place on are the results in front
+  -- words written from index 0 on
   pub put-front : {lent after results : List A} {r : ℕ} → r ≤ length lent → Put lent after 0 r results → after ≡ inFront results lent
   put-front {lent} {after} {results} h p =
       p .list
       ∙ ap (λ (k : ℕ). results ++ drop k lent) (p .end ∙ zero-add (length results))
       ∙ sym (front-is results lent (omega (arith, p .end, h)))
 
-  -- words that are put behind the results are results
+  -- words written after the results
   pub put-in-front : (results lent : List A) {mid after ws : List A} {n r : ℕ} → mid ≡ inFront results lent → n ≡ length results
       → r ≤ length lent → Put mid after n r ws → after ≡ inFront (results ++ ws) lent
   put-in-front results lent {mid} {n = n} e l h p =
@@ -78,7 +78,7 @@ module _ {A : Type 0} where
       } in
       put-front h (put-more first (omega arith) p)
 
-  -- there is no room for more
+  -- no room for more
   pub front-full : (results ws lent : List A) → length lent ≤ length results → inFront results lent ≡ inFront (results ++ ws) lent
   front-full results ws lent h =
       let longer : length lent ≤ length (results ++ ws) = omega (arith, length-append results ws, h) in
@@ -90,7 +90,7 @@ module _ {A : Type 0} where
   front-taken results lent h =
       ap (take (length results)) (front-is results lent h) ∙ take-at results (drop (length results) lent) (length results) refl
 
--- ---- what is given for 0 to n − 1
+-- ---- concatenation of f 0 to f (n − 1)
 module _ {A : Type 0} (f : ℕ → List A) where
   pub up-to-longer : (k d : ℕ) → length (upTo f k) ≤ length (upTo f (k + d))
   unfolding upTo
@@ -99,7 +99,7 @@ module _ {A : Type 0} (f : ℕ → List A) where
       let one-more : upTo f (k + suc d) ≡ upTo f (k + d) ++ f (k + d) = ap (upTo f) (add-suc k d) in
       omega (arith, up-to-longer k d, ap length one-more, length-append (upTo f (k + d)) (f (k + d)))
 
-  -- nothing is given from k on for d places
+  -- f is empty from k on for d indices
   pub up-to-same : (k d : ℕ) → ((j : ℕ) → k ≤ j → j < k + d → f j ≡ []) → upTo f (k + d) ≡ upTo f k
   unfolding upTo
   up-to-same k zero h = ap (upTo f) (add-zero k)
@@ -108,7 +108,7 @@ module _ {A : Type 0} (f : ℕ → List A) where
       ∙ append-nil (upTo f (k + d))
       ∙ up-to-same k d (λ j a b. h j a (omega (arith, b)))
 
-  -- at most w for each
+  -- at most w elements each
   pub up-to-most : (w n : ℕ) → ((k : ℕ) → k < n → length (f k) ≤ w) → length (upTo f n) ≤ w * n
   unfolding upTo
   up-to-most w zero h = omega arith
@@ -120,7 +120,7 @@ module _ {A : Type 0} (f : ℕ → List A) where
   up-to-as g zero e = refl
   up-to-as g (suc n) e = ap₂ (λ (l m : List A). l ++ m) (up-to-as g n (λ k h. e k (omega (arith, h)))) (e n (omega arith))
 
--- ---- the words of a list are those of its elements
+-- ---- `flatMap`
 module _ {A B : Type 0} (g : A → List B) where
   pub flatMap-append : (xs ys : List A) → flatMap g (xs ++ ys) ≡ flatMap g xs ++ flatMap g ys
   unfolding flatMap
@@ -128,7 +128,7 @@ module _ {A B : Type 0} (g : A → List B) where
   flatMap-append (x ∷ xs) ys =
       ap (λ (l : List B). g x ++ l) (flatMap-append xs ys) ∙ sym (append-assoc (g x) (flatMap g xs) (flatMap g ys))
 
-  -- w for each element: w times as many
+  -- w words for each element
   pub flatMap-length : (w : ℕ) → ((x : A) → length (g x) ≡ w) → (xs : List A) → length (flatMap g xs) ≡ w * length xs
   unfolding flatMap
   flatMap-length w e [] = omega arith

@@ -1,4 +1,4 @@
--- Loops that put words into a lent list: word by word, and part by part. Assumes nothing.
+-- Loops that write words to an output array, one word or one part at a time. Assumes nothing.
 use mathlib.Core.Path.{_≡_, refl, sym, ap, ap₂, _∙_}
 use mathlib.Core.List.{List, _++_, flatMap}
 use Prim.Native.Nat.{ℕ, suc, _+_, _-_, _≤_, _<_}
@@ -9,7 +9,7 @@ use lib.Seq.{paste, paste-zero, paste-suc, length-paste, take-all}
 use Rattle.lent_list.specs.Front.{upTo, Put}
 use Rattle.lent_list.proofs.Front.{nothing-put, put-as, put-more, put-length, flatMap-append, flatMap-up-to, up-to-longer}
 
--- ---- the first i words are put
+-- ---- the first i words are written
 pub record Begun {A : Type 0} (before : List A) (at : ℕ) (words after : List A) (i : ℕ) : Type 0 where
   pub few : i ≤ length words
   pub list : after ≡ paste before at words i
@@ -45,7 +45,7 @@ module _ {A : Type 0} where
               ∙ ap₂ (λ (l : List A) (k : ℕ). take at before ++ l ++ drop (at + k) before) (take-all i words h) e;
         }
 
--- ---- the words of what f gives for 0 to k − 1 are put from place n on, and there is room for what it gives up to `end`
+-- ---- the words of f 0 to f (k − 1) are written from index n on, and there is room for those of f up to `end`
 module _ {A B : Type 0} (g : A → List B) (f : ℕ → List A) (before : List B) (n end : ℕ) (room : n + length (flatMap g (upTo f end)) ≤ length before) where
   abbrev pub PutTo : List B → ℕ → ℕ → Type 0
   PutTo after at k = Put before after n at (flatMap g (upTo f k))
@@ -68,7 +68,7 @@ module _ {A B : Type 0} (g : A → List B) (f : ℕ → List A) (before : List B
   unfolding upTo
   to-next k = flatMap-append g (upTo f k) (f k)
 
-  -- for the next part too
+  -- room for the next part
   pub to-room : {after : List B} {at : ℕ} (k : ℕ) → PutTo after at k → k < end → at + length (flatMap g (f k)) ≤ length after
   to-room k p h =
       omega (

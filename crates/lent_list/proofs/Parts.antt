@@ -1,4 +1,4 @@
--- The numbers of a part of a list are those of the list. Assumes nothing.
+-- The elements of a sublist are those of the list. Assumes nothing.
 use mathlib.Core.Path.{_≡_, _∙_}
 use mathlib.Core.List.{List}
 use Prim.Native.Nat.{ℕ, _+_, _<_}

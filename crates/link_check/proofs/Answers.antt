@@ -1,4 +1,4 @@
--- The answer of the link entry and the list that it leaves, by the question that is answered with no. Assumes nothing.
+-- The result of the link entry point and its output array, by the question that fails. Assumes nothing.
 use mathlib.Core.Path.{_≡_, refl, sym, ap, ap₂, _∙_}
 use mathlib.Core.Bool.{Bool, true, false}
 use mathlib.Core.List.{List}
@@ -28,7 +28,7 @@ use Rattle.link_check.proofs.Enough.{enough}
 use Rattle.link_check.proofs.Writing.{words-length}
 
 module _ (spec : CharucoBoardSpec) (codes : List ℕ) (mode : LinkCheckMode) (links lent : List ℕ) where
-  -- what is promised of an answer and of the list
+  -- the contract on the result and the output array
   abbrev pub Promised : CheckedLinks → List ℕ → Type 0
   Promised r list = (r ≡ checkLinks spec codes mode links lent) × (list ≡ checkLinksList spec codes mode links lent)
 

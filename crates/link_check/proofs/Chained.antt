@@ -1,4 +1,4 @@
--- Links that are chained by their keys: how the chains are filled, and that a walk along one passes no link that is the same.
+-- Hash chains: how they are filled, and that following one skips no link of the marker and the corner.
 -- Assumes nothing.
 use mathlib.Core.Path.{_≡_, refl, sym, ap, ap₂, subst, _∙_}
 use mathlib.Core.Logic.{_⊎_, inl, inr}
@@ -18,7 +18,7 @@ use Rattle.link_check.specs.Chains.{keyFor, keyOf, linksTo, LeastFrom, C
 
 -- ---- filling, from the last link to the first
 module _ (κ : ℕ → ℕ) (n : ℕ) where
-  -- the chain of no link
+  -- the empty chains
   pub none-chained : (chain : List ℕ) → length chain ≡ 8192 → ((b : ℕ) → b < 4096 → getD chain b 0 ≡ n) → ChainedFrom κ n n chain
   none-chained chain long all =
       record {
@@ -28,9 +28,9 @@ module _ (κ : ℕ → ℕ) (n : ℕ) where
         tails = λ i h l. absurd (omega (arith, h, l));
       }
 
-  -- link k before the others becomes the first of its key
+  -- link k is prepended to the chain of its key
   module _ (k b : ℕ) (chain : List ℕ) (c : ChainedFrom κ n (k + 1) chain) (inside : k < n) (few : n ≤ 4096) (e : b ≡ κ k) (small : b < 4096) where
-    -- the chain with what comes after link k
+    -- the chain with the next link of k
     abbrev linked : List ℕ
     linked = set chain (4096 + k) (getD chain b 0)
 
@@ -71,8 +71,8 @@ module _ (κ : ℕ → ℕ) (n : ℕ) where
               (next-after i l (eq-or-lt-of-le {n = k} {m = i} h));
         }
 
--- ---- a walk along the chain of a marker and a corner
--- a link of theirs has their key
+-- ---- following the chain of a marker and a corner
+-- a link that has them has their key
 pub same-key : (weight : ℕ) (links : List ℕ) (m c j : ℕ) → linksTo weight links m c j ≡ true → keyOf weight links j ≡ keyFor weight m c
 same-key zero links m c j e =
     ap₂ (λ (a z : ℕ). (61 * a + z) % 4096) (eqb-true (linkMarker links j) m e) (zero-mul (linkCorner links j) ∙ sym (zero-mul c))
@@ -80,7 +80,7 @@ same-key (suc w) links m c j e =
     let s = both _ _ e in
     ap₂ (λ (a b : ℕ). (61 * a + suc w * b) % 4096) (eqb-true (linkMarker links j) m (s .0)) (eqb-true (linkCorner links j) c (s .1))
 
--- The walk has come from i to j: none of the links between is theirs, and j has their key or is n.
+-- Following has come from i to j: no link between has them, and j has their key or is n.
 pub record Walked (weight : ℕ) (links : List ℕ) (n m c i j : ℕ) : Type 0 where
   pub from : i ≤ j
   pub most : j ≤ n
@@ -112,7 +112,7 @@ module _ (weight : ℕ) (links : List ℕ) (n m c : ℕ) where
         walked (j + 1) (getD chain (4096 + j) 0)
         (subst (λ (b : ℕ). LeastFrom (keyOf weight links) n b (j + 1) (getD chain (4096 + j) 0)) e (chained .tails j (omega arith) h))
 
-  -- past a link of the key that is not theirs
+  -- past a link of the key that does not have them
   pub walked-on : (i j r : ℕ) → Walked weight links n m c i j → linksTo weight links m c j ≡ false → Walked weight links n m c (j + 1) r
       → Walked weight links n m c i r
   walked-on i j r w e v = record { from = omega (arith, w .from, v .from); most = v .most; passed = λ l h g. at l h g (lt-or-le l j); keyed = v .keyed }

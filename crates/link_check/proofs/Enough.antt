@@ -1,4 +1,4 @@
--- Three places for each link are enough: a link has at most one entry of its own, one as a repeated one and one as the first of its
+-- Three places for each link are enough: a link has at most one violation of its own, one as a repeated one and one as the first of its
 -- marker. Assumes nothing.
 use mathlib.Core.Path.{_≡_, refl, sym, ap}
 use mathlib.Core.Bool.{Bool, true, false, not, _&&_, _||_, cond}
@@ -33,7 +33,7 @@ unfolding countPassing
 apart p q r h zero = omega arith
 apart p q r h (suc n) = omega (arith, apart p q r h n, h n)
 
--- ---- the entries of one link
+-- ---- the violations of one link
 at-most-one : (b : Bool) (v : Violation) → length (unless b v) ≤ 1
 at-most-one true v = omega arith
 at-most-one false v = omega arith
@@ -43,7 +43,7 @@ own-one Unknown m c = omega arith
 own-one NoFourCorners m c = omega arith
 own-one (Expected a b d e) m c = at-most-one (has (a ∷ b ∷ d ∷ e ∷ []) c) _
 
--- a link has at most one entry of its own
+-- a link has at most one violation of its own
 pub own-few : (links : List ℕ) (expected : ℕ → MarkerExpectation) (n : ℕ) → length (upTo (own links expected) n) ≤ n
 own-few links expected n =
     omega
@@ -63,7 +63,7 @@ when : (b : Bool) (vs : List Violation) (t : ℕ → Bool) (n : ℕ) → length 
 when true vs t n h = h
 when false vs t n h = omega arith
 
--- s: named before; f: is the first; a and b: both links name the same marker
+-- s: marker seen before; f: is the first; a and b: both links have the same marker
 bits : (s f a b : Bool) → (a ≡ true → b ≡ true) → (a ≡ true → f ≡ not s) → asOne s + asOne (f && a) ≤ asOne (s || b)
 bits true true true b h g = let e = g refl in let z : _≡_ {A = ℕ} 0 1 = cc in absurd (omega arith)
 bits true true false b h g = omega arith
@@ -73,7 +73,7 @@ bits false true false b h g = omega arith
 bits false false a b h g = omega arith
 
 module _ (links : List ℕ) (n : ℕ) (mode : LinkCheckMode) (expected : ℕ → MarkerExpectation) where
-  -- the entries of a marker: one for each link that names it, and one
+  -- the violations of a marker: one for each of its links, and one
   of-marker : (m : ℕ) (e : MarkerExpectation) → length (ofMarker links n mode m e) ≤ countPassing (names links m) n + 1
   of-marker m Unknown = omega arith
   of-marker m NoFourCorners = omega arith
@@ -88,11 +88,11 @@ module _ (links : List ℕ) (n : ℕ) (mode : LinkCheckMode) (expected : ℕ →
         missing-one mode m four missing,
       )
 
-  -- link j's marker is named among the first k links
+  -- link j's marker is among those of the first k links
   abbrev seen : ℕ → ℕ → Bool
   seen k j = anyBelow (names links (linkMarker links j)) k
 
-  -- link j is of the marker that link k is the first to name
+  -- link j has the marker of which link k is the first
   abbrev begins : ℕ → ℕ → Bool
   begins k j = first links k && names links (linkMarker links k) j
 

@@ -1,4 +1,4 @@
--- A walk along the links of a marker passes over no link that repeats one of them. Assumes nothing.
+-- Following the links of a marker skips no link that repeats one of them. Assumes nothing.
 use mathlib.Core.Path.{_≡_, sym, ap, _∙_}
 use mathlib.Core.Bool.{Bool, false, _&&_, cond}
 use mathlib.Core.List.{List, [], _∷_}

@@ -1,4 +1,4 @@
--- Links chained by a key below 4,096. A chain is one list: at place b the first link with the key b, at 4,096 + k the next link after k
+-- Hash chains over the links, with keys below 4,096, in one list: index b has the first link with key b, index 4,096 + k the next link after k
 -- with k's key.
 use Prim.Native.Nat.{ℕ, zero, suc, _+_, _*_, _%_, _≤_, _<_}
 use mathlib.Core.Path.{_≡_}
@@ -7,19 +7,19 @@ use mathlib.Core.List.{List}
 use lib.ListN.{length, getD}
 use Rattle.link_check.specs.Links.{linkMarker, linkCorner, names, reports}
 
--- the key of a marker and a corner: with the weight 0 of the marker alone
+-- the key (hash) of a marker and a corner: with weight 0 of the marker alone
 abbrev pub keyFor : ℕ → ℕ → ℕ → ℕ
 keyFor weight m c = (61 * m + weight * c) % 4096
 
 abbrev pub keyOf : ℕ → List ℕ → ℕ → ℕ
 keyOf weight links k = keyFor weight (linkMarker links k) (linkCorner links k)
 
--- link j is of the marker and, unless the weight is 0, of the corner
+-- link j has the marker and, unless the weight is 0, the corner
 abbrev pub linksTo : ℕ → List ℕ → ℕ → ℕ → ℕ → Bool
 linksTo zero links m c j = names links m j
 linksTo (suc weight) links m c j = reports links m c j
 
--- r is the first of the links from i to n − 1 that has the key b, or n
+-- r is the first of the links from i to n − 1 that has key b, or n
 pub record LeastFrom (κ : ℕ → ℕ) (n b i r : ℕ) : Type 0 where
   pub from : i ≤ r
   pub most : r ≤ n
@@ -32,6 +32,5 @@ pub record ChainedFrom (κ : ℕ → ℕ) (n k : ℕ) (chain : List ℕ) : Type 
   pub heads : (b : ℕ) → b < 4096 → LeastFrom κ n b k (getD chain b 0)
   pub tails : (i : ℕ) → k ≤ i → i < n → LeastFrom κ n (κ i) (i + 1) (getD chain (4096 + i) 0)
 
--- all n links are chained
 abbrev pub Chained : (ℕ → ℕ) → ℕ → List ℕ → Type 0
 Chained κ n chain = ChainedFrom κ n 0 chain

@@ -1,4 +1,4 @@
--- The link entry (document 01, "The questions asked"): the board's questions, 19, then 14 with three places for each link.
+-- The link entry point (document 01, "The questions asked"): the board's questions, 19, then 14 with three places for each link.
 use Prim.Native.Nat.{ℕ, _*_}
 use mathlib.Core.List.{List}
 use mathlib.Core.Option.{Option, none, some}
@@ -21,7 +21,7 @@ use Rattle.link_check.specs.Violations.{Violation, expectation, violatio
 abbrev pub violationsOn : Board → LinkCheckMode → List ℕ → List Violation
 violationsOn b mode links = violations links (linkCount links) mode (expectation b)
 
--- The questions after the board's: the one that is answered with no, if one is; twelve words a place
+-- The questions after the board's: the one that fails, if any; a place of the output array is twelve words
 unfoldable pub askedFrom19 : List ℕ → ℕ → Option Refusal
 askedFrom19 links words =
     ask (leb (linkCount links) 4096) refusal.TooManyLinks
@@ -32,7 +32,7 @@ askedFrom19 links words =
 abbrev pub linksRefusedBy : CharucoBoardSpec → List ℕ → List ℕ → ℕ → Option Refusal
 linksRefusedBy spec codes links words = askedOfBoard spec codes (askedFrom19 links words)
 
--- The answer, and the list at exit.
+-- The result, and the output array at exit.
 abbrev pub checkedBy : Option Refusal → List Violation → CheckedLinks
 checkedBy (some r) vs = checked.Refused r
 checkedBy none vs = checked.Checked (length vs)

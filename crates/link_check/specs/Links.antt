@@ -1,4 +1,4 @@
--- Document 01, Links: the links that are lent, and which of them repeat an earlier one.
+-- Document 01, Links: the input links, and which of them repeat an earlier one.
 use Prim.Native.Nat.{ℕ, _+_, _*_, _/_}
 use mathlib.Core.Bool.{Bool, not, _&&_}
 use mathlib.Core.List.{List}
@@ -16,7 +16,7 @@ linkMarker links k = getD links (2 * k) 0
 abbrev pub linkCorner : List ℕ → ℕ → ℕ
 linkCorner links k = getD links (2 * k + 1) 0
 
--- link j names the marker, and the corner
+-- link j has the marker, and the corner
 abbrev pub names : List ℕ → ℕ → ℕ → Bool
 names links m j = eqb (linkMarker links j) m
 

@@ -1,4 +1,4 @@
--- Document 01, Links: the violations, in order, and the 12 words by which each is told.
+-- Document 01, Links: the violations, in order, and the 12 words of each.
 use Prim.Native.Nat.{ℕ}
 use mathlib.Core.Bool.{Bool, false, _&&_, _||_, cond}
 use mathlib.Core.List.{List, [], _∷_, _++_, flatMap}
@@ -33,7 +33,7 @@ onSquare (located.At i j) four = ofCorners four
 unfoldable pub expectation : Board → ℕ → MarkerExpectation
 expectation b m = onSquare (markerSquare b m) (surroundingCorners b m)
 
--- An entry: marker, kind, reported corner if any, the expected four if any, and the missing ones.
+-- A violation: marker, kind, reported corner if any, the expected four if any, and the missing ones.
 pub record Violation : Type 0 where
   pub marker : ℕ
   pub kind : LinkViolationKind
@@ -41,7 +41,7 @@ pub record Violation : Type 0 where
   pub expected : List ℕ
   pub missing : List ℕ
 
--- an entry that names the corner of a link
+-- a violation with the corner of a link
 abbrev pub ofLink : LinkViolationKind → ℕ → ℕ → List ℕ → Violation
 ofLink kind m c four = record { marker = m; kind = kind; reported = some c; expected = four; missing = [] }
 
@@ -62,7 +62,7 @@ against (Expected a b d e) m c = unless (has (a ∷ b ∷ d ∷ e ∷ []) c) (of
 abbrev pub repeatAt : List ℕ → ℕ → List ℕ → ℕ → List Violation
 repeatAt links m four k = cond (names links m k && repeated links k) (ofLink DuplicateCorner m (linkCorner links k) four ∷ []) []
 
--- and under `MustMatchAll4` one entry of missing corners, if any is missing, in the order of the four.
+-- and under `MustMatchAll4` one violation for the missing corners, if any is missing, in the order of the four.
 unfoldable pub without : (ℕ → Bool) → List ℕ → List ℕ
 without seen [] = []
 without seen (c ∷ cs) = unless (seen c) c ++ without seen cs
@@ -76,11 +76,11 @@ abbrev pub inMode : LinkCheckMode → List Violation → List Violation
 inMode mode.SubsetOk vs = []
 inMode mode.MustMatchAll4 vs = vs
 
--- link k's own entry, by what is expected of each marker
+-- link k's own violation, by what is expected of each marker
 abbrev pub own : List ℕ → (ℕ → MarkerExpectation) → ℕ → List Violation
 own links expected k = against (expected (linkMarker links k)) (linkMarker links k) (linkCorner links k)
 
--- The links, how many they are, and the mode.
+-- The links, their number, and the mode.
 module _ (links : List ℕ) (n : ℕ) (mode : LinkCheckMode) where
   abbrev pub missingOf : ℕ → List ℕ → List Violation
   missingOf m four = inMode mode (missingEntry m four (without (isReported links n m) four))
@@ -93,14 +93,14 @@ module _ (links : List ℕ) (n : ℕ) (mode : LinkCheckMode) where
   ofMarker m NoFourCorners = []
   ofMarker m (Expected a b c d) = ofFour m (a ∷ b ∷ c ∷ d ∷ [])
 
-  -- the entries of link k's marker, if the link is the first that names it
+  -- the violations of link k's marker, if the link is its first
   abbrev pub ofFirst : (ℕ → MarkerExpectation) → ℕ → List Violation
   ofFirst expected k = cond (first links k) (ofMarker (linkMarker links k) (expected (linkMarker links k))) []
 
   abbrev pub violations : (ℕ → MarkerExpectation) → List Violation
   violations expected = upTo (own links expected) n ++ upTo (ofFirst expected) n
 
--- The words: marker, kind, reported corner or 0, the expected four or 0, how many are missing, those that are missing and 0 past them.
+-- The words: marker, kind, reported corner or 0, the expected four or 0, the number of missing corners, and these, padded with 0.
 abbrev pub kindNumber : LinkViolationKind → ℕ
 kindNumber UnknownMarker = 1
 kindNumber MarkerHasNoFourCorners = 2

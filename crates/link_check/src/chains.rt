@@ -1,5 +1,5 @@
-// Links chained by a key below 4,096, so that the links of a marker, and earlier links with the same marker and corner, are found
-// without a walk over all links. A link is two words: a marker's id and a corner's.
+// Hash chains over the links, with keys below 4,096, to find the links of a marker, and earlier links with the same marker and corner,
+// without a scan of all links. A link is two words: a marker's id and a corner's.
 ghost use mathlib.Core.Path.{_≡_};
 ghost use Prim.Native.Nat.{ℕ, _+_, _*_, _≤_, _<_};
 ghost use lib.ListN.{length, getD};
@@ -7,7 +7,7 @@ ghost use Rattle.integers.specs.Tests.{anyBelow};
 ghost use Rattle.link_check.specs.Links.{linkMarker, linkCorner, repeated, first as firstOf, isReported};
 ghost use Rattle.link_check.specs.Chains.{keyFor, keyOf, linksTo, Chained};
 
-// The word at a place; 0 past the list.
+// The word at an index; 0 past the end.
 fn word(links: &[u32], at: usize) -> u32
     ensures { λ r. ⌜ r ≡ getD (now (links .entry)) at 0 ⌝ }
 {
@@ -31,7 +31,7 @@ pub fn corner_of(links: &[u32], k: usize) -> u32
     word(links, 2 * k + 1)
 }
 
-// The key of a marker and a corner. With the weight 0 the corner does not count; markers below 4,096 then have different keys, as 61
+// The key (hash) of a marker and a corner. With weight 0 the corner is ignored; markers below 4,096 then have distinct keys, as 61
 // is odd.
 pub fn key_for(marker: u32, corner: u32, weight: u64) -> usize
     requires { ⌜ weight ≤ 1 ⌝ }
@@ -40,7 +40,6 @@ pub fn key_for(marker: u32, corner: u32, weight: u64) -> usize
     ((61 * marker as u64 + weight * corner as u64) % 4096) as usize
 }
 
-// The key of link k.
 fn key(links: &[u32], k: usize, weight: u64) -> usize
     requires { ⌜ (k ≤ 4096) × (weight ≤ 1) ⌝ }
     ensures { λ r. ⌜ (r ≡ keyOf weight (now (links .entry)) k) × (r < 4096) ⌝ }
@@ -48,7 +47,7 @@ fn key(links: &[u32], k: usize, weight: u64) -> usize
     key_for(marker_of(links, k), corner_of(links, k), weight)
 }
 
-// Is link j of the marker and, unless the weight is 0, of the corner?
+// Does link j have the marker and, unless the weight is 0, the corner?
 fn links_to(links: &[u32], weight: u64, marker: u32, corner: u32, j: usize) -> bool
     requires { ⌜ j ≤ 4096 ⌝ }
     ensures { λ r. ⌜ r ≡ linksTo weight (now (links .entry)) marker corner j ⌝ }
@@ -62,7 +61,7 @@ fn links_to(links: &[u32], weight: u64, marker: u32, corner: u32, j: usize) -> b
     corner_of(links, j) == corner
 }
 
-// No key has a link yet.
+// Empties all chains: `n` means none.
 fn clear(chain: &mut [u16; 8192], n: usize)
     requires { ⌜ (n ≤ 4096) × (length (now chain) ≡ 8192) ⌝ }
     ensures { λ _. ⌜ (length (now (chain .exit)) ≡ 8192) × ((b : ℕ) → b < 4096 → getD (now (chain .exit)) b 0 ≡ n) ⌝ }
@@ -74,7 +73,7 @@ fn clear(chain: &mut [u16; 8192], n: usize)
     }
 }
 
-// chain[b] is the first link with the key b, chain[4096 + k] the first one after k with k's key, each `n` if there is none. Filled
+// chain[b] is the first link with key b, chain[4096 + k] the first one after k with k's key, each `n` if there is none. Filled
 // from the last link to the first.
 pub fn fill_chain(links: &[u32], n: usize, weight: u64, chain: &mut [u16; 8192])
     requires { ⌜ (n ≤ 4096) × (weight ≤ 1) × (length (now chain) ≡ 8192) ⌝ }
@@ -90,7 +89,7 @@ pub fn fill_chain(links: &[u32], n: usize, weight: u64, chain: &mut [u16; 8192])
     }
 }
 
-// Is one of the first `end` links of the marker and, unless the weight is 0, of the corner? Walks along the chain of their key.
+// Does one of the first `end` links have the marker and, unless the weight is 0, the corner? Follows the chain of their key.
 fn found_before(
     links: &[u32],
     n: usize,
@@ -113,7 +112,7 @@ fn found_before(
     false
 }
 
-// Does link k repeat an earlier one? By the chain of weight 1.
+// Does link k repeat an earlier one? `chain` has weight 1.
 pub fn is_repeated(links: &[u32], n: usize, chain: &[u16; 8192], k: usize) -> bool
     requires { ⌜ (n ≤ 4096) × (k < n) × Chained (keyOf 1 (now links)) n (now chain) ⌝ }
     ensures { λ r. ⌜ r ≡ repeated (now (links .entry)) k ⌝ }
@@ -129,7 +128,7 @@ pub fn is_repeated(links: &[u32], n: usize, chain: &[u16; 8192], k: usize) -> bo
     )
 }
 
-// Does a link report the marker's corner? By the chain of weight 1.
+// Does a link report the marker's corner? `chain` has weight 1.
 pub fn is_reported(links: &[u32], n: usize, chain: &[u16; 8192], marker: u32, corner: u32) -> bool
     requires { ⌜ (n ≤ 4096) × Chained (keyOf 1 (now links)) n (now chain) ⌝ }
     ensures { λ r. ⌜ r ≡ isReported (now (links .entry)) n marker corner ⌝ }
@@ -137,7 +136,7 @@ pub fn is_reported(links: &[u32], n: usize, chain: &[u16; 8192], marker: u32, co
     found_before(links, n, 1, chain, marker, corner, n)
 }
 
-// Is link k the first of its marker? By the chain of weight 0.
+// Is link k the first of its marker? `chain` has weight 0.
 pub fn is_first(links: &[u32], n: usize, chain: &[u16; 8192], k: usize) -> bool
     requires { ⌜ (n ≤ 4096) × (k < n) × Chained (keyOf 0 (now links)) n (now chain) ⌝ }
     ensures { λ r. ⌜ r ≡ firstOf (now (links .entry)) k ⌝ }

@@ -1,4 +1,4 @@
-// What the board expects of a marker.
+// The corners that the board expects for a marker.
 ghost use mathlib.Core.Path.{_≡_};
 ghost use mathlib.Core.List.{[], _∷_};
 ghost use Rattle.link_check.specs.Violations.{expectation, ofCorners, has};
@@ -17,7 +17,6 @@ pub enum MarkerExpectation {
     },
 }
 
-// A marker and its four corners.
 pub struct MarkerCorners {
     pub marker: u32,
     pub top_left: u32,

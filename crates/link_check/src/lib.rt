@@ -1,5 +1,4 @@
-// The link entry (link_check.rs): do reported links of markers and corners agree with the board? Uses `refusal`, `lent_list` and
-// `board`, and for its definitions and laws `integers`.
+// The link entry point: checks reported links of markers and corners against the board and lists the violations (link_check.rs).
 ghost use mathlib.Core.Path.{_≡_};
 ghost use Prim.Native.Nat.{_*_, _≤_};
 ghost use lib.ListN.{length};
@@ -52,13 +51,13 @@ impl LinkViolationKind {
     }
 }
 
-// How many violations there are.
+// The number of violations.
 pub enum CheckedLinks {
     Checked(usize),
     Refused(Refusal),
 }
 
-// Both passes, for links that passed the questions. Gives the place after the last word.
+// Both passes, for links that passed the questions. Returns the index after the last word.
 fn check(
     board: Board,
     links: &[u32],
@@ -85,7 +84,7 @@ fn check(
     )
 }
 
-// The violations of links on a board, twelve words each, in front of the list that is lent. A refusal leaves the list as it is.
+// Writes the violations of links on a board, twelve words each, to the start of the output array; on a refusal it is unchanged.
 pub fn validate_marker_corner_links(
     spec: CharucoBoardSpec,
     codes: &[u64],

@@ -1,4 +1,4 @@
-// The missing ones of a marker's four corners, and their entry.
+// The missing ones of a marker's four corners, and their violation.
 ghost use mathlib.Core.Path.{_≡_};
 ghost use mathlib.Core.List.{List, [], _∷_, _++_};
 ghost use Prim.Native.Nat.{ℕ, _+_, _≤_, _<_};
@@ -15,7 +15,7 @@ use super::expected::MarkerCorners;
 use super::words;
 use super::words::Missing;
 
-// One more of the four, unless it was reported.
+// Adds a corner unless it was reported.
 fn and_next(missing: Missing, reported: bool, corner: u32) -> Missing
     requires { ⌜ missing .count < 4 ⌝ }
     ensures { λ r. ⌜ ((ms : List ℕ) → missing ≡ padded ms → r ≡ padded (ms ++ unless reported corner)) ⌝ }
@@ -56,7 +56,7 @@ fn missing_from(
     and_next(of_three, chains::is_reported(links, n, chain, marker, d), d)
 }
 
-// One entry of missing corners, if any is missing and the mode asks for all four.
+// One violation for the missing corners, if any is missing and the mode requires all four.
 pub fn put_missing(
     links: &[u32],
     n: usize,

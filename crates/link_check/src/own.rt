@@ -1,4 +1,4 @@
-// The entry of a link itself: unknown marker, no four corners, or corner not in neighbourhood.
+// The violation of a link itself: unknown marker, no four corners, or corner not in neighbourhood.
 ghost use Prim.Native.Nat.{_+_, _≤_};
 ghost use lib.ListN.{length};
 ghost use Rattle.lent_list.specs.Front.{Put};
@@ -12,7 +12,7 @@ use board::Board;
 
 const NONE: [u32; 4] = [0, 0, 0, 0];
 
-// An entry that names the corner of a link.
+// A violation with the corner of a link.
 pub fn put_of_link(
     kind: LinkViolationKind,
     marker: u32,

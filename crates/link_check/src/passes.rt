@@ -1,4 +1,4 @@
-// The two passes over the links: each link's own entry, then the entries of each expected marker.
+// The two passes over the links: each link's own violation, then the violations of each expected marker.
 ghost use Prim.Native.Nat.{_+_, _*_, _≤_, _<_};
 ghost use lib.ListN.{length};
 ghost use Rattle.lent_list.specs.Front.{upTo, Put};
@@ -36,7 +36,7 @@ pub fn put_own_entries(board: Board, links: &[u32], n: usize, violations: &mut [
     end
 }
 
-// The entries of a marker with its four corners.
+// The violations of a marker with its four corners.
 fn put_of_four(
     links: &[u32],
     n: usize,
@@ -57,7 +57,7 @@ fn put_of_four(
     missing::put_missing(links, n, chain, mode, expected, violations, end)
 }
 
-// The entries of link k's marker, if the link is the first that names it and the marker is expected.
+// The violations of link k's marker, if the link is its first and the marker is expected.
 fn put_of_first(
     standard: Standard,
     links: &[u32],
@@ -107,7 +107,7 @@ fn put_of_first(
     }
 }
 
-// The entries of each expected marker, in order of first appearance.
+// The violations of each expected marker, in order of first appearance.
 pub fn put_marker_entries(
     standard: Standard,
     links: &[u32],

@@ -10,7 +10,7 @@ use super::chains;
 use super::expected::MarkerCorners;
 use super::own;
 
-// The entry of link k, if it names the marker and repeats an earlier one. `chain` is the chain of weight 1.
+// The violation of link k, if it has the marker and repeats an earlier one. `chain` has weight 1.
 fn put_repeat(
     links: &[u32],
     n: usize,
@@ -46,7 +46,7 @@ fn put_repeat(
     )
 }
 
-// The entries of the links of a marker that repeat an earlier one, in link order. `marker_chain` is the chain of weight 0.
+// The violations of the links of a marker that repeat an earlier one, in link order. `marker_chain` has weight 0.
 pub fn put_repeats(
     links: &[u32],
     n: usize,

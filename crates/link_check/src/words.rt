@@ -1,17 +1,17 @@
-// The twelve words of a violation, in the list that is lent.
+// Writes the twelve words of a violation to the output array.
 ghost use Prim.Native.Nat.{_+_, _≤_};
 ghost use lib.ListN.{length};
 ghost use Rattle.lent_list.specs.Front.{Put};
 ghost use Rattle.link_check.specs.Violations.{told, kindNumber};
 use super::LinkViolationKind;
 
-// The missing ones of four corners, in order, and 0 past them.
+// The missing ones of four corners, in order, padded with 0.
 pub struct Missing {
     pub count: u32,
     pub corners: [u32; 4],
 }
 
-// A violation is put behind those before it.
+// Appends a violation.
 pub fn put_violation(
     marker: u32,
     kind: LinkViolationKind,

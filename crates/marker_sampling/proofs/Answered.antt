@@ -1,4 +1,4 @@
--- The questions of the cells entry one by one, and what a refusal and a success leave. Assumes nothing.
+-- The questions of the cells entry point one by one, and the output array on a refusal and on success. Assumes nothing.
 use mathlib.Core.Path.{_≡_, sym, ap, ap₂, _∙_}
 use mathlib.Core.Bool.{Bool, true, _&&_}
 use mathlib.Core.List.{List}
@@ -23,7 +23,7 @@ use Rattle.integers.specs.Tests.{every}
 use Rattle.integers.proofs.Tests.{both}
 use Rattle.marker_sampling.proofs.Passing.{words-length}
 
--- what question 18 tells
+-- what question 18 implies
 pub placed-corners : (scores : List Float) (grid : List ℤ) → cornersAnswer scores grid ≡ true → (length scores ≤ 1024)
     × (every (placed 4096 (corners scores grid)) (length scores) ≡ true)
 placed-corners scores grid e =
@@ -31,7 +31,7 @@ placed-corners scores grid e =
     (leb-true (length scores) 1024 (h .0), both (every (placed 4096 (corners scores grid)) (length scores)) _ (h .1) .0)
 
 module _ (scores : List Float) (grid : List ℤ) (inliers : List ℕ) (lent : List ℤ) where
-  -- the answers of the three questions, in order
+  -- the results of the three questions, in order
   pub asked : (a b d : Bool) → (cornersAnswer scores grid && leb (length inliers) 1024) ≡ a → leb 1536 (length lent) ≡ b
       → leb (length (cellsOf scores grid inliers)) 256 ≡ d
       → cellsRefusedBy scores grid inliers lent ≡ ask a refusal.CornersOutOfRange (ask b refusal.ListTooShort (ask d refusal.TooManyCells none))
@@ -45,7 +45,7 @@ module _ (scores : List Float) (grid : List ℤ) (inliers : List ℕ) (lent : Li
     sym (ap (λ (o : Option Refusal). atExit o (wordsOfCells (corners scores grid) inliers (cellsOf scores grid inliers)) lent) e),
   )
 
-  -- the words of at most 256 cells, put in front
+  -- the words of at most 256 cells, at the start of the array
   pub found-all : (n : ℕ) {end : ℕ} {buffer results after : List ℤ} → cellsRefusedBy scores grid inliers lent ≡ none → 1536 ≤ length lent → n ≤ 256
       → length buffer ≡ 1536 → Collected 4096 (corners scores grid) inliers 67125249 buffer results n → Put lent after 0 end (take (6 * n) results)
       → (found.Found n ≡ markerCells scores grid inliers lent) × (after ≡ markerCellsList scores grid inliers lent)

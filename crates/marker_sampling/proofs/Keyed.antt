@@ -1,4 +1,4 @@
--- The key of a grid point is its place row by row: an index stands where its key says. Assumes nothing.
+-- The key of a grid point is its row-major index: an index is at the point of its key. Assumes nothing.
 use mathlib.Core.Path.{_≡_, refl, sym, ap, ap₂, _∙_}
 use mathlib.Core.Bool.{true, false, _&&_}
 use Prim.Native.Nat.{ℕ, _+_, _*_, _/_, _%_, _<_}
@@ -17,12 +17,12 @@ use Rattle.marker_sampling.specs.Keys.{keySide, rangePoint, HasKey}
 use Rattle.integers.proofs.Tests.{both}
 use Rattle.marker_sampling.proofs.Tests.{agree, fails, offset-only}
 
--- rows of w: a place has one row and one column
+-- rows of w: an index determines row and column
 digits-same : (w : ℕ) {u v a b : ℕ} → u < w → a < w → v * w + u ≡ b * w + a → (u ≡ a) × (v ≡ b)
 digits-same w {u} {v} {a} {b} hu ha e =
     (sym (digits-mod v hu) ∙ ap (λ (n : ℕ). n % w) e ∙ digits-mod b ha, sym (digits-div v hu) ∙ ap (λ (n : ℕ). n / w) e ∙ digits-div b ha)
 
--- the row and the column of a place
+-- the row and the column of an index
 module _ (m : ℕ) {r : ℕ} (h : r < keySide m * keySide m) where
   pub column : r % keySide m < keySide m
   column = mod-lt r (omega arith)
@@ -31,7 +31,7 @@ module _ (m : ℕ) {r : ℕ} (h : r < keySide m * keySide m) where
   row = div-lt-iff-lt-mul {k = keySide m} (omega arith) .1 h
 
 module _ (m : ℕ) (c : Corners) (k : ℕ) where
-  -- an index that stands nowhere
+  -- a skipped index
   pub passed-over : ((p : Coord) → stands c k p ≡ false) → HasKey m c k (keySide m * keySide m)
   passed-over h = record {
     at = λ u v hu hv. h (rangePoint m u v) ∙ sym (ne-eqb (keySide m * keySide m) (v * keySide m + u) (λ e. let l = digits-lt hv hu in omega arith));
@@ -43,7 +43,7 @@ module _ (m : ℕ) (c : Corners) (k : ℕ) where
 
   module _ (a b : ℕ) (ha : a < keySide m) (hb : b < keySide m) (hk : k < c .count) (hl : labelled c k ≡ true)
       (eu : word c k 1 ≡ pos a -ℤ pos m) (ev : word c k 2 ≡ pos b -ℤ pos m) where
-    -- where it stands
+    -- its point
     stands-is : (p : Coord) → stands c k p ≡ (same (pos a -ℤ pos m) (p .u) && same (pos b -ℤ pos m) (p .v))
     stands-is p = rw (lt-ltb k (c .count) hk, hl, eu, ev)
 
@@ -66,7 +66,7 @@ module _ (m : ℕ) (c : Corners) (k : ℕ) where
       small = λ l. hk;
     }
 
--- the corners of a cell are a column and a row on
+-- the corners of a cell are one column and one row further
 module _ (m : ℕ) where
   shift-one : (n : ℕ) → (pos n -ℤ pos m) +ℤ pos 1 ≡ pos (n + 1) -ℤ pos m
   unfolding plus minus

@@ -1,4 +1,4 @@
--- The whole cells of the definition are in order, complete and without repeats, and its places are those of all points in range.
+-- The whole cells of the definition are in order, complete and without duplicates, and its places are those of all points in range.
 -- Assumes nothing.
 use mathlib.Core.Path.{_≡_, refl, sym, ap, ap₂, subst, _∙_}
 use mathlib.Core.Bool.{Bool, true, false, cond, false≢true}
@@ -24,7 +24,7 @@ module _ {A : Type 0} where
   map-snoc f [] x = refl
   map-snoc f (y ∷ ys) x = ap (λ (l : List A). f y ∷ l) (map-snoc f ys x)
 
--- ---- a list to which each place adds its element, if the place passes a test
+-- ---- a list to which each place that passes a test adds its element
 module _ {A : Type 0} (test : ℕ → Bool) (element : ℕ → A) where
   abbrev before : ℕ → List A
   before = upTo (λ k. cond (test k) (element k ∷ []) [])

@@ -1,4 +1,4 @@
--- The whole cells among the first places: places without a key add none, and a place with one adds its words. Assumes nothing.
+-- The whole cells among the first places: places that are no key add none, and a place that is one adds its words. Assumes nothing.
 use mathlib.Core.Path.{_≡_, refl, sym, ap, _∙_}
 use mathlib.Core.Bool.{Bool, true, false, cond, false≢true}
 use mathlib.Core.List.{List, [], _∷_, _++_, flatMap}
@@ -53,7 +53,7 @@ module _ (c : Corners) (inliers : List ℕ) (p : Coord) where
   not-whole e = rw e
 
 -- ---- the walk
--- a cell that is whole counts
+-- a whole cell counts
 one-if : {A : Type 0} (b : Bool) (n : ℕ) (x : A) → cond b (n + 1) n ≡ n + length (cond b (x ∷ []) [])
 one-if true n x = refl
 one-if false n x = omega arith
@@ -90,7 +90,7 @@ module _ (m : ℕ) (c : Corners) (inliers : List ℕ) where
         ∙ up-to-same at-place from (r - from)
         (λ j a b. empty j (omega (arith, n .most, n .least)) (λ i l q. omega (arith, n .passed i l (omega (arith, n .least)))))
 
-  -- the words of the cell at a point are those that were found, if it is whole
+  -- the words of the cell at a point are those found, if it is whole
   cell-words : (q : Coord) → wordsOfCells c inliers (cond (wholeCell c inliers q) (q ∷ []) [])
       ≡ cond (wholeWords (foundWords c inliers q)) (foundWords c inliers q) []
   unfolding flatMap

@@ -1,4 +1,4 @@
--- If the first corners lie in range, each that has a grid point does. Assumes nothing.
+-- If the first corners are in range, each that has a grid point is. Assumes nothing.
 use mathlib.Core.Path.{_≡_, sym, ap, _∙_}
 use mathlib.Core.Bool.{Bool, true, not, _&&_, _||_}
 use Prim.Native.Nat.{ℕ, _<_}

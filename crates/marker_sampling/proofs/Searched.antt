@@ -1,4 +1,4 @@
--- What a search in the corner map finds, the last inlier at a key and the next key, and where the next search can start. Assumes nothing.
+-- The results of searches in the corner map: the last inlier at a key, the next key, and where the next search can start. Assumes nothing.
 use mathlib.Core.Path.{_≡_, ap, _∙_}
 use mathlib.Core.List.{List}
 use mathlib.Core.Logic.{_⊎_, inl, inr}
@@ -14,15 +14,15 @@ use Rattle.sorting.specs.Order.{Rising}
 use Rattle.marker_sampling.proofs.Holders.{nobody, last-holds}
 
 -- ---- where a search can start
--- one for a greater word
+-- for a greater word
 pub still-below : {map : List ℕ} {n x y p : ℕ} → x ≤ y → FirstBelow map n x p → FirstBelow map n y p
 still-below l b = record { inside = b .inside; below = λ k h. omega (arith, l, b .below k h) }
 
--- one after another search
+-- after another search
 pub searched-below : {map : List ℕ} {n x y p : ℕ} → x ≤ y → LowerBound map n x p → FirstBelow map n y p
 searched-below l b = still-below l (record { inside = b .inside; below = b .below })
 
--- the first place will always do
+-- index 0
 pub none-before : (map : List ℕ) (n x : ℕ) → FirstBelow map n x 0
 none-before map n x = record { inside = omega arith; below = λ k h. absurd (omega arith) }
 
@@ -56,7 +56,7 @@ module _ (m : ℕ) (c : Corners) (inliers map : List ℕ) (h : MapOf m c inliers
       nobody c (rangePoint m u v) inliers
       (λ i l. let f = h .has i l in f .2 .key .at u v hu hv ∙ ne-eqb (getD map (f .0) 0 / 1024) key (absent (f .0) (f .1)))
 
-  -- the words with the key stand from `first` to `end` − 1
+  -- the words with the key are at `first` to `end` − 1
   module _ (first end : ℕ) (f : LowerBound map (length inliers) (key * 1024) first) (b : LowerBound map (length inliers) ((key + 1) * 1024) end) where
     inside : (j : ℕ) → j < length inliers → getD map j 0 / 1024 ≡ key → (first ≤ j) × (j < end)
     inside j l e = (from-first (lt-or-le j first), before-end (lt-or-le j end))

@@ -1,4 +1,4 @@
--- Tests of truth values and of whole numbers, as equations. Assumes nothing.
+-- Tests of Booleans and of integers, as equations. Assumes nothing.
 use mathlib.Core.Path.{_≡_, refl, sym, ap, _∙_}
 use mathlib.Core.Bool.{Bool, true, false, not}
 use Prim.Native.Nat.{ℕ, _+_, _*_, _≤_, _<_}
@@ -11,7 +11,7 @@ use Rattle.integers.proofs.Parts.{plus, minus, plus-neg, minus-neg, add-is, sub
 use Rattle.integers.proofs.Distances.{leZ→Le}
 use Rattle.integers.specs.Distance.{isWithin}
 
--- two tests that hold together
+-- two equivalent tests
 pub agree : (a b : Bool) → (a ≡ true → b ≡ true) → (b ≡ true → a ≡ true) → a ≡ b
 agree true b f g = sym (f refl)
 agree false true f g = g refl
@@ -21,12 +21,12 @@ pub fails : (a : Bool) → (a ≡ true → ⊥) → a ≡ false
 fails true f = absurd (f refl)
 fails false f = refl
 
--- the test of a sign
+-- the sign test
 pub not-negative : (z : ℤ) → leZ (pos 0) z ≡ not (ltZ z (pos 0))
 not-negative (pos n) = leb·zero n ∙ sym (ap not (leb·suc-zero n))
 not-negative (negsuc n) = refl
 
--- a whole number from −m to m is some n from 0 to 2m, less m
+-- an integer from −m to m is some n from 0 to 2m, less m
 pub offset-of : ℕ → ℤ → ℕ
 offset-of m z = natAbs (z +ℤ pos m)
 

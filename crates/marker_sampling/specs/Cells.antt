@@ -1,4 +1,4 @@
--- Document 01, Cells: `build_corner_map`, then `build_marker_cells`, with the corners' indices for their positions.
+-- Document 01, Cells: `build_corner_map`, then `build_marker_cells`, with the corners' indices instead of their positions.
 use Prim.Native.Nat.{ℕ, _+_, _*_, _/_, _%_}
 use mathlib.Core.Bool.{Bool, true, false, not, _&&_, cond}
 use mathlib.Core.List.{List, [], _∷_, flatMap}
@@ -11,8 +11,8 @@ use Rattle.lent_list.specs.Front.{upTo}
 use Rattle.grid_alignment.specs.declared.Coord.{Coord}
 use Rattle.grid_alignment.specs.Alignment.{point, corner}
 
--- The corners that inliers pick from: how many there are, and three words of `grid` for each: not 0 where the corner has a
--- grid point, its u and its v. Words past the list count as 0, so a corner without words has no grid point.
+-- The corners that inliers select from: their number, and three words of `grid` for each: nonzero if the corner has a
+-- grid point, its u and its v. Words past the end are 0, so a corner without words has no grid point.
 pub record Corners : Type 0 where
   pub count : ℕ
   pub grid : List ℤ
@@ -26,11 +26,11 @@ word c k w = getD (c .grid) (3 * k + w) (pos 0)
 abbrev pub labelled : Corners → ℕ → Bool
 labelled c k = not (same (word c k 0) (pos 0))
 
--- index k is a corner's and that corner stands at p: an index beyond the list and a corner without a grid point are passed over
+-- index k is that of a corner at p: an index past the end and a corner without a grid point are skipped
 abbrev pub stands : Corners → ℕ → Coord → Bool
 stands c k p = ltb k (c .count) && (labelled c k && (same (word c k 1) (p .u) && same (word c k 2) (p .v)))
 
--- the corner of a grid point: at one grid point the last inlier wins
+-- the corner at a grid point: of several inliers the last
 abbrev pub later : Option ℕ → Bool → ℕ → Option ℕ
 later (some j) stood k = some j
 later none true k = some k
@@ -55,7 +55,7 @@ hasCorner c inliers p k = held (holder c inliers (corner k p))
 abbrev pub wholeCell : Corners → List ℕ → Coord → Bool
 wholeCell c inliers p = hasCorner c inliers p 0 && (hasCorner c inliers p 1 && (hasCorner c inliers p 2 && hasCorner c inliers p 3))
 
--- the points with u and v from −m to m have the places 0 to (2m + 1)² − 1, row by row: v, then u
+-- the points with u and v from −m to m by their row-major index (place), 0 to (2m + 1)² − 1
 abbrev pub pointAt : ℕ → ℕ → Coord
 pointAt m r = point (pos (r % (2 * m + 1)) -ℤ pos m) (pos (r / (2 * m + 1)) -ℤ pos m)
 
@@ -63,7 +63,7 @@ pointAt m r = point (pos (r % (2 * m + 1)) -ℤ pos m) (pos (r / (2 * m + 1)) -�
 abbrev pub wholeAt : ℕ → Corners → List ℕ → ℕ → List Coord
 wholeAt m c inliers r = cond (wholeCell c inliers (pointAt m r)) (pointAt m r ∷ []) []
 
--- the whole cells, row by row
+-- the whole cells in row-major order
 abbrev pub cells : ℕ → Corners → List ℕ → List Coord
 cells m c inliers = upTo (wholeAt m c inliers) ((2 * m + 1) * (2 * m + 1))
 

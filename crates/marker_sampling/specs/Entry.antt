@@ -1,4 +1,4 @@
--- The cells entry (document 01, "The questions asked"): question 18 without turn and translation, 14 with 256 places, 20.
+-- The cells entry point (document 01, "The questions asked"): question 18 without turn and translation, 14 with 256 places, 20.
 use Prim.Native.Nat.{ℕ, _*_}
 use mathlib.Core.Bool.{Bool, true, not, _&&_, _||_}
 use mathlib.Core.List.{List, [], _∷_}
@@ -19,11 +19,11 @@ use Rattle.marker_sampling.specs.declared.MarkerCells.{MarkerCells}
 use Rattle.marker_sampling.specs.declared.MarkerCells.the-variants as found
 use Rattle.marker_sampling.specs.Cells.{Corners, word, labelled, cells, wordsOfCells}
 
--- the corners of the lists that are lent: one score each
+-- the corners of the input arrays: one score each
 abbrev pub corners : List Float → List ℤ → Corners
 corners scores grid = record { count = length scores; grid = grid }
 
--- does corner k lie from −m to m, if it has a grid point?
+-- is corner k from −m to m, if it has a grid point?
 abbrev pub placed : ℕ → Corners → ℕ → Bool
 placed m c k = not (labelled c k) || (isWithin m (word c k 1) && isWithin m (word c k 2))
 
@@ -35,11 +35,11 @@ finiteScores (x ∷ xs) = finite x && finiteScores xs
 abbrev pub cornersAnswer : List Float → List ℤ → Bool
 cornersAnswer scores grid = leb (length scores) 1024 && (every (placed 4096 (corners scores grid)) (length scores) && finiteScores scores)
 
--- the cells of the lists that are lent
+-- the cells of the input arrays
 abbrev pub cellsOf : List Float → List ℤ → List ℕ → List Coord
 cellsOf scores grid inliers = cells 4096 (corners scores grid) inliers
 
--- the question that is answered with no, if one is; six words a place
+-- the question that fails, if any; a place of the output array is six words
 unfoldable pub cellsRefusedBy : List Float → List ℤ → List ℕ → List ℤ → Option Refusal
 cellsRefusedBy scores grid inliers lent =
     ask (cornersAnswer scores grid && leb (length inliers) 1024) refusal.CornersOutOfRange

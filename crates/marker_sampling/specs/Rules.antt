@@ -1,4 +1,4 @@
--- What `proofs/Laws.antt` shows of the definitions, for every m, all corners and all inliers.
+-- The laws that `proofs/Laws.antt` proves of the definitions, for every m, all corners and all inliers.
 use mathlib.Core.Path.{_≡_}
 use mathlib.Core.Bool.{Bool, true}
 use mathlib.Core.List.{List, map}
@@ -9,8 +9,8 @@ use Rattle.marker_sampling.specs.Cells.{Corners, wholeCell, pointAt, cel
 use Rattle.integers.specs.Distance.{isWithin}
 use Rattle.marker_sampling.specs.Keys.{keySide}
 
--- Of a list: its elements are those of some places below n, each of these passes a test, all places that pass are among them, and they rise, so
--- that none comes twice.
+-- The elements of a list are exactly those of the places below n that pass a test, in increasing order, so
+-- without duplicates.
 pub record PassingInOrder {A : Type 0} (test : ℕ → Bool) (element : ℕ → A) (n : ℕ) (l : List A) : Type 0 where
   pub places : List ℕ
   pub are : l ≡ map element places
@@ -18,7 +18,7 @@ pub record PassingInOrder {A : Type 0} (test : ℕ → Bool) (element : ℕ → 
   pub complete : (r : ℕ) → r < n → test r ≡ true → (i : ℕ) × (i < length places) × (getD places i 0 ≡ r)
   pub rising : (i j : ℕ) → i < j → j < length places → getD places i 0 < getD places j 0
 
--- so are the whole cells, of all places: `cells` has those below (2m + 1)²
+-- this holds of the whole cells and all places: `cells` has those below (2m + 1)²
 abbrev pub CellsInOrder : Type 0
 CellsInOrder = (m : ℕ) (c : Corners) (inliers : List ℕ)
     → PassingInOrder (λ r. wholeCell c inliers (pointAt m r)) (pointAt m) (keySide m * keySide m) (cells m c inliers)

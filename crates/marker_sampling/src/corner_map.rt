@@ -1,5 +1,5 @@
-// The corner map: a word for each inlier, 1,024 × key + its place in the list, in rising order. A key is the place of a grid point,
-// row by row from (−4,096, −4,096); an inlier that is passed over has the key `PAST`. At one grid point the last inlier has the
+// The corner map: a word for each inlier, 1,024 × key + its index in the list, sorted. A key is the row-major index of a grid
+// point, from (−4,096, −4,096); a skipped inlier has the key `PAST`. Of the inliers at one grid point the last has the
 // greatest word.
 ghost use mathlib.Core.Path.{_≡_};
 ghost use mathlib.Core.Bool.{true};
@@ -18,7 +18,6 @@ use super::questions;
 // Past every grid point: 8,193 × 8,193.
 pub const PAST: u64 = 67_125_249;
 
-// How far a coordinate is from −4,096.
 fn offset(z: i32) -> u64
     requires { ⌜ isWithin 4096 z ≡ true ⌝ }
     ensures { λ r. ⌜ (z ≡ pos r -ℤ pos 4096) × (r < 8193) ⌝ }
@@ -43,7 +42,7 @@ fn key_of(count: usize, grid: &[i32], k: usize) -> u64
     v * 8193 + u
 }
 
-// The word of each inlier, in the order of the list.
+// The word of each inlier, in input order.
 fn words(count: usize, grid: &[i32], inliers: &[usize]) -> [u64; 1024]
     requires { ⌜ count ≤ 1024 ⌝ }
     requires { ⌜ every (placed 4096 (cornersOf count (now grid))) count ≡ true ⌝ }
@@ -70,8 +69,8 @@ pub fn build_corner_map(count: usize, grid: &[i32], inliers: &[usize]) -> [u64; 
     map
 }
 
-// The first of the first `n` words that is not below `x`, or `n`. It is known that the words before `from` are
-// below `x`: keys rise in the walk, so each of its searches starts where one before it ended.
+// The index of the first of the first `n` words that is not below `x` (lower bound), or `n`. The words before `from` are known to be
+// below `x`: keys increase in the walk, so each search starts where an earlier one ended.
 fn seek(map: &[u64; 1024], n: usize, from: usize, x: u64) -> usize
     requires { ⌜ (n ≤ 1024) × Rising (now map) n ⌝ }
     requires { ⌜ FirstBelow (now map) n x from ⌝ }
@@ -87,13 +86,13 @@ fn seek(map: &[u64; 1024], n: usize, from: usize, x: u64) -> usize
     p
 }
 
-// An inlier or −1, and the place where the next search can start.
+// An inlier or −1, and the index at which the next search can start.
 pub struct Found {
     pub index: i32,
     pub end: usize,
 }
 
-// The last inlier at the point with the offsets u and v, or −1, and the place of the first word with a greater key.
+// The last inlier at the point with the offsets u and v, or −1, and the index of the first word with a greater key.
 pub fn last(map: &[u64; 1024], inliers: &[usize], from: usize, u: u64, v: u64) -> Found
     requires { ⌜ Searchable 4096 (now inliers) (now map) ⌝ }
     requires { ⌜ (u < 8193) × (v < 8193) ⌝ }
@@ -113,7 +112,7 @@ pub fn last(map: &[u64; 1024], inliers: &[usize], from: usize, u: u64, v: u64) -
     Found { index, end }
 }
 
-// The same for a point that may lie past the range, where no inlier is.
+// The same for a point that may be out of range, where no inlier is.
 pub fn find(map: &[u64; 1024], inliers: &[usize], from: usize, u: u64, v: u64) -> Found
     requires { ⌜ Searchable 4096 (now inliers) (now map) ⌝ }
     requires { ⌜ FirstBelow (now map) (length (now inliers)) ((v * 8193 + u) * 1024) from ⌝ }

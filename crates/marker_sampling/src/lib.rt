@@ -1,5 +1,4 @@
-// The cells entry (marker_sampling.rs, corner_map.rs): which cells are whole, from labelled corners. Uses `refusal`, `floats`,
-// `grid_alignment`, `lent_list`, `sorting` and, for the laws of whole numbers, `integers`.
+// The cells entry point: finds the whole cells, those with an inlier at each of their four corners (marker_sampling.rs, corner_map.rs).
 ghost use mathlib.Core.Path.{_≡_};
 ghost use Rattle.marker_sampling.specs.Entry.{cornersAnswer, markerCells, markerCellsList};
 
@@ -9,7 +8,7 @@ mod walk;
 
 use refusal::Refusal;
 
-// How many cells were found.
+// The number of cells found.
 pub enum MarkerCells {
     Found(usize),
     Refused(Refusal),
@@ -28,7 +27,7 @@ pub fn corners_in_range(scores: &[f32], grid: &[i32]) -> bool
     questions::all_finite(scores)
 }
 
-// The whole cells row by row, six words each, in front of the list that is lent. A refusal leaves the list as it is.
+// Writes the whole cells in row-major order, six words each, to the start of the output array; on a refusal it is unchanged.
 pub fn build_marker_cells(
     scores: &[f32],
     grid: &[i32],

@@ -1,4 +1,4 @@
-// The answers to question 18 of document 01 that are more than one comparison, and the words of a corner that they read.
+// The parts of question 18 of document 01 that are more than one comparison, and the words of a corner that they read.
 ghost use mathlib.Core.Path.{_≡_};
 ghost use Prim.Native.Nat.{_≤_};
 ghost use lib.ListN.{getD};
@@ -8,7 +8,7 @@ ghost use Rattle.integers.specs.Distance.{isWithin};
 ghost use Rattle.integers.specs.Tests.{every};
 ghost use Rattle.marker_sampling.specs.Entry.{placed, finiteScores};
 
-// The word at a place; 0 past the list.
+// The word at an index; 0 past the end.
 pub fn word(grid: &[i32], at: usize) -> i32
     ensures { λ r. ⌜ r ≡ getD (now (grid .entry)) at (pos 0) ⌝ }
 {
@@ -18,7 +18,7 @@ pub fn word(grid: &[i32], at: usize) -> i32
     0
 }
 
-// Does a number lie from −limit to limit?
+// |z| ≤ limit?
 pub fn within(limit: u16, z: i32) -> bool
     ensures { λ r. ⌜ r ≡ isWithin limit z ⌝ }
 {
@@ -34,7 +34,7 @@ pub fn labelled(grid: &[i32], k: usize) -> bool
     word(grid, 3 * k) != 0
 }
 
-// Does corner k lie in range, if it has a grid point?
+// Is corner k in range, if it has a grid point?
 fn placed(grid: &[i32], k: usize) -> bool
     requires { ⌜ k ≤ 1024 ⌝ }
     ensures { λ r. ⌜ r ≡ placed 4096 (cornersOf 0 (now (grid .entry))) k ⌝ }

@@ -1,4 +1,4 @@
-// The walk over the keys in order: the six words of each whole cell.
+// The walk over the keys in increasing order: the six words of each whole cell.
 ghost use mathlib.Core.Path.{_≡_};
 ghost use Prim.Native.Nat.{_+_, _*_, _<_};
 ghost use lib.ListN.{length};
@@ -7,7 +7,6 @@ ghost use Rattle.marker_sampling.specs.Cells.{Corners, pointAt};
 ghost use Rattle.marker_sampling.specs.Keys.{MapOf, LowerBound, FirstBelow, Searchable, Collected, foundWords, wholeWords, CellAdded};
 use super::corner_map;
 
-// The coordinate at an offset from −4,096.
 fn coordinate(offset: u64) -> i32
     requires { ⌜ offset < 8193 ⌝ }
     ensures { λ r. ⌜ r ≡ pos offset -ℤ pos 4096 ⌝ }
@@ -15,15 +14,15 @@ fn coordinate(offset: u64) -> i32
     offset as i32 - 4096
 }
 
-// A cell's words, and the places where the searches for the cells after it can start: in its row, and in the row below.
+// A cell's words, and the indices at which the searches for the cells after it can start: in its row, and in the row below.
 struct Cell {
     words: [i32; 6],
     here: usize,
     under: usize,
 }
 
-// The words of the cell at a key, with −1 for a corner that is missing. No word before `here` has the key or a greater one, and
-// none before `under` has that of the point below or a greater one.
+// The words of the cell at a key, with −1 for a missing corner. No word before `here` has this key or a greater one, and
+// none before `under` that of the point below or a greater one.
 fn cell_at(map: &[u64; 1024], inliers: &[usize], key: u64, here: usize, under: usize) -> Cell
     requires { ⌜ Searchable 4096 (now inliers) (now map) ⌝ }
     requires { ⌜ key < 67125249 ⌝ }
@@ -70,7 +69,7 @@ fn whole(cell: &[i32; 6]) -> bool
     0 <= cell[5]
 }
 
-// The cell is put behind the `n` cells before it, if it is whole; past 256 it is only counted.
+// Appends the cell to the `n` cells before it if it is whole; past 256 it is only counted.
 fn put(results: &mut [i32], n: usize, cell: &[i32; 6]) -> usize
     requires { ⌜ (n < 67125249) × (length (now results) ≡ 1536) ⌝ }
     ensures { λ r. ⌜ CellAdded n (now (cell .entry)) (now (results .entry)) (now (results .exit)) r ⌝ }
@@ -85,7 +84,7 @@ fn put(results: &mut [i32], n: usize, cell: &[i32; 6]) -> usize
     n + 1
 }
 
-// The words of the whole cells, row by row, and how many cells there are: past 256 they are only counted.
+// Writes the words of the whole cells in row-major order and returns their number: past 256 they are only counted.
 pub fn collect(map: &[u64; 1024], inliers: &[usize], results: &mut [i32]) -> usize
     requires { ⌜ Searchable 4096 (now inliers) (now map) × (length (now results) ≡ 1536) ⌝ }
     ensures { λ r. ⌜ ((c : Corners) → MapOf 4096 c (now (inliers .entry)) (length (now (inliers .entry))) (now (map .entry))

@@ -10,7 +10,7 @@ use lib.Dec.{lit<}
 use lib.Pow.{pow-pos, pow-add, pow-mono, shl-exact, high, mod-pow-add}
 use Rattle.matcher.specs.Codes.{bit, fromBits}
 
--- every value is a bit
+-- every value is 0 or 1
 abbrev pub Bits : (ℕ → ℕ) → Type 0
 Bits f = (k : ℕ) → f k < 2
 
@@ -30,7 +30,7 @@ from-below f b (suc n) =
     let h : f n ≤ 1 = le-of-suc-le-suc (b n) in
     omega (arith, from-below f b n, mul-le-mul-right (2 ^ n) h, pow-suc 2 n)
 
--- what stands from place n up leaves the bits below n as they are
+-- adding a multiple of 2 ^ n leaves the bits below n unchanged
 pub bit-under : (a b n k : ℕ) → k < n → bit (a + b * 2 ^ n) k ≡ bit a k
 bit-under a b n k h =
     ap (λ (m : ℕ). (a + m) / 2 ^ k % 2) split
@@ -57,7 +57,7 @@ bit-from f b (suc n) k h = go (eq-or-lt-of-le (le-of-suc-le-suc h)) (bit-from f 
     go (inl e) ih = rw e top
     go (inr l) ih = bit-under (fromBits f n) (f n) n k l ∙ ih l
 
--- the bits 0 to n − 1 of a number
+-- the number formed by bits 0 to n − 1
 pub from-bits : (c n : ℕ) → fromBits (bit c) n ≡ c % 2 ^ n
 unfolding fromBits
 from-bits c zero = sym (mod-one c)
@@ -69,7 +69,7 @@ pub bits-determine : (n a b : ℕ) → a < 2 ^ n → b < 2 ^ n → ((k : ℕ) �
 bits-determine n a b ha hb e =
     sym (mod-eq-of-lt ha) ∙ sym (from-bits a n) ∙ from-ext (bit a) (bit b) n e ∙ from-bits b n ∙ mod-eq-of-lt hb
 
--- ---- a bit more in a word of 64 bits
+-- ---- one more bit in a word of 64 bits
 pub next-bit : (f : ℕ → ℕ) → Bits f → (k : ℕ) → k < 64 → fromBits f k + f k * 2 ^ k % 2 ^ 64 ≡ fromBits f (k + 1)
 unfolding fromBits
 next-bit f b k h = ap (λ (m : ℕ). fromBits f k + m) (shl-exact 1 k 64 (b k) (omega arith)) ∙ ap (fromBits f) (sym (add-one k))

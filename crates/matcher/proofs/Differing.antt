@@ -1,4 +1,4 @@
--- The bits in which two codes differ are the set bits of their exclusive or. Assumes nothing.
+-- The Hamming distance is the number of set bits of the exclusive or. Assumes nothing.
 use mathlib.Core.Path.{_≡_, refl, sym, ap, ap₂, _∙_}
 use Prim.Native.Nat.{ℕ, zero, suc, _+_, _/_, _%_, _^_, _<_}
 use native.Mathlib.Nat.{mod-lt, mod-eq-of-lt, mod-one, mul-add-mod-self-right, add-comm}

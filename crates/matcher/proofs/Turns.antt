@@ -1,4 +1,4 @@
--- The laws of turned codes, for every side and any number of turns. Assumes nothing.
+-- The laws of turned codes, for every side and every number of turns. Assumes nothing.
 use mathlib.Core.Path.{_≡_, refl, sym, ap, _∙_}
 use Prim.Native.Nat.{ℕ, zero, suc, _+_, _*_, _%_, _^_, _≤_, _<_}
 use native.Mathlib.Nat.{mod-lt, mod-mod, suc-mod, suc-add, zero-add, mod-eq-of-lt, div-lt-iff-lt-mul, div-add-mod', mul-le-mul, lt-of-lt-of-le}
@@ -31,7 +31,7 @@ index-below n p h = digits-lt (h .row) (h .column)
 pub place-index : (n : ℕ) (p : Place) → p .x < n → bitPlace n (indexOf n p) ≡ p
 place-index n p h = same (digits-mod (p .y) h) (digits-div (p .y) h)
 
--- what holds of each of the four
+-- what holds of each of the four holds of the one selected
 pub by-turn : {A : Type 0} (P : A → Type 0) (r : ℕ) {a b c d : A} → P a → P b → P c → P d → P (byTurn r a b c d)
 by-turn P r {a} {b} {c} {d} pa pb pc pd = go (r % 4)
   where
@@ -41,7 +41,7 @@ by-turn P r {a} {b} {c} {d} pa pb pc pd = go (r % 4)
     go (suc (suc zero)) = pc
     go (suc (suc (suc m))) = pd
 
--- what holds for the turns 0 to 3 holds for what is left of any number of turns
+-- what holds for the turns 0 to 3 holds for r % 4
 pub each-turn : (P : ℕ → Type 0) → P 0 → P 1 → P 2 → P 3 → (r : ℕ) → P (r % 4)
 each-turn P a b c d r = go (r % 4) (mod-lt r (lit< tt))
   where
@@ -92,11 +92,11 @@ turned-bits n r c k = bit-small c (sourceBit n r k)
 pub bit-turned : (n r c k : ℕ) → k < n * n → bit (turned n r c) k ≡ turnedBit n r c k
 bit-turned n r c k h = bit-from (turnedBit n r c) (turned-bits n r c) (n * n) k h
 
--- turning keeps the range
+-- a turned code is in range
 pub turned-below : (n r c : ℕ) → turned n r c < 2 ^ (n * n)
 turned-below n r c = from-below (turnedBit n r c) (turned-bits n r c) (n * n)
 
--- turning by r and then by s is turning by r + s, where four turns are none
+-- turning by r and then by s is turning by r + s
 pub turned-turned : (n r s c : ℕ) → turned n s (turned n r c) ≡ turned n (r + s) c
 turned-turned n r s c =
     from-ext (turnedBit n s (turned n r c)) (turnedBit n (r + s) c) (n * n)
@@ -105,13 +105,13 @@ turned-turned n r s c =
 pub turns-mod : (n r c : ℕ) → turned n (r % 4) c ≡ turned n r c
 turns-mod n r c = ap (λ (f : Place → Place). fromBits (λ k. bit c (indexOf n (f (bitPlace n k)))) (n * n)) (λ i p. source-mod n r p i)
 
--- no turn leaves a code of the side as it is
+-- turn 0 is the identity on codes of the side
 pub turned-none : (n c : ℕ) → c < 2 ^ (n * n) → turned n 0 c ≡ c
 unfolding source
 turned-none n c h =
     from-ext (turnedBit n 0 c) (bit c) (n * n) (λ k l. ap (bit c) (div-add-mod' k n)) ∙ from-bits c (n * n) ∙ mod-eq-of-lt h
 
--- and so do four
+-- and so are four quarter turns
 pub four-turns : (n c : ℕ) → c < 2 ^ (n * n) → turned n 1 (turned n 1 (turned n 1 (turned n 1 c))) ≡ c
 four-turns n c h =
     turned-turned n 1 1 (turned n 1 (turned n 1 c)) ∙ turned-turned n 1 2 (turned n 1 c) ∙ turned-turned n 1 3 c
@@ -125,7 +125,7 @@ module _ (code n turns x y : ℕ) (small : n ≤ 8) (row : y < n) (column : x < 
   pub rank-small : y * n + x < 64
   rank-small = lt-of-lt-of-le (digits-lt row column) (mul-le-mul small small)
 
-  -- the place that its bit is read from
+  -- the place its bit is read from
   pub source-here : indexOf n (source n turns here) ≡ sourceBit n turns (y * n + x)
   source-here = ap (λ (p : Place). indexOf n (source n turns p)) (sym (place-index n here column))
 
@@ -133,7 +133,7 @@ module _ (code n turns x y : ℕ) (small : n ≤ 8) (row : y < n) (column : x < 
   source-small =
       lt-of-lt-of-le (index-below n (source n turns here) (source-inside n turns here (record { column = column; row = row }))) (mul-le-mul small small)
 
-  -- the sum that adds its bit
+  -- the sum with its bit added
   pub next-turned-bit : fromBits (turnedBit n turns code) (y * n + x) + bit code (indexOf n (source n turns here)) * 2 ^ (y * n + x) % 2 ^ 64
       ≡ fromBits (turnedBit n turns code) (y * n + (x + 1))
   next-turned-bit =

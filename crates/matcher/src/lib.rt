@@ -1,16 +1,15 @@
-// Marker codes (matcher.rs): a code after quarter turns, and in how many bits two codes differ.
-// Uses no other crate.
+// Rotates marker codes by multiples of 90° and computes their Hamming distance (matcher.rs).
 ghost use mathlib.Core.Path.{_≡_};
 ghost use Prim.Native.Nat.{_+_, _*_, _<_, _≤_};
 ghost use Rattle.matcher.specs.Codes.{fromBits, source, turnedBit, turnedWord, differing};
 
-// A place in a code: a column and a row, counted from 0.
+// Column and row of a bit in a code, from 0.
 pub struct Place {
     pub x: u64,
     pub y: u64,
 }
 
-// The place that the bit at `p` of a turned code is read from.
+// The place of the code that bit `p` of the turned code is read from.
 pub fn source_place(n: u64, turn: u8, p: Place) -> Place
     requires { ⌜ (p .x < n) × (p .y < n) ⌝ }
     ensures { λ r. ⌜ r ≡ source n turn p ⌝ }
@@ -34,7 +33,7 @@ pub fn source_place(n: u64, turn: u8, p: Place) -> Place
     }
 }
 
-// Adds the bits of row `y` of the turned code to those of the rows above it.
+// Adds the bits of row `y` of the turned code to `out`.
 fn with_row(out: u64, code: u64, n: u64, turn: u8, y: u64) -> u64
     requires { ⌜ (n ≤ 8) × (y < n) × (out ≡ fromBits (turnedBit n turn code) (y * n)) ⌝ }
     ensures { λ r. ⌜ r ≡ fromBits (turnedBit n turn code) (y * n + n) ⌝ }
@@ -49,8 +48,8 @@ fn with_row(out: u64, code: u64, n: u64, turn: u8, y: u64) -> u64
     sum
 }
 
-// The code of side `n` after `turn` quarter turns, turn 4 being turn 0 again.
-// A word has no room for sides above 8: their turned code is 0.
+// The code of side `n` rotated by `turn` × 90°, with `turn` taken modulo 4.
+// Codes of sides above 8 do not fit a word: the result is 0.
 pub fn rotate_code_u64(code: u64, n: u8, turn: u8) -> u64
     ensures { λ r. ⌜ r ≡ turnedWord n turn code ⌝ }
 {
@@ -67,7 +66,7 @@ pub fn rotate_code_u64(code: u64, n: u8, turn: u8) -> u64
     out
 }
 
-// In how many bits two codes differ.
+// The Hamming distance of two codes (upstream's `hamming`).
 pub fn differing_bits(a: u64, b: u64) -> u32
     ensures { λ r. ⌜ r ≡ differing 64 a b ⌝ }
 {

@@ -1,4 +1,4 @@
--- What the test of a grid says. Assumes nothing.
+-- What the check of a grid ensures. Assumes nothing.
 use mathlib.Core.Path.{_≡_, sym, subst}
 use mathlib.Core.Bool.{true}
 use Prim.Native.Nat.{ℕ, _*_, _≤_}

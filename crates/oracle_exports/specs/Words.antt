@@ -1,4 +1,4 @@
--- The one number by which each answer of the library is told.
+-- The number that each function returns for a result of the library.
 use Prim.Native.Nat.{ℕ, zero, suc, _+_, _*_, _<_}
 use mathlib.Core.Path.{_≡_}
 use mathlib.Core.List.{List, []}
@@ -33,7 +33,7 @@ abbrev pub axisOf : Coord → ℕ → ℤ
 axisOf p zero = p .u
 axisOf p (suc k) = p .v
 
--- the translation of the corners' alignment, from that of the cells'
+-- the translation of the corners, from that of the cells
 abbrev pub cornerTranslation : ℕ → ℤ → ℤ → Coord
 cornerTranslation turn tx ty =
     let a = cornerAlignment (record { turn = turn; tx = tx; ty = ty }) in
@@ -42,7 +42,7 @@ cornerTranslation turn tx ty =
 abbrev pub rectCorner : ℤ → ℤ → Float → ℕ → ℕ → Float
 rectCorner u v px k axis = getD (getD (rectCorners u v px) k []) axis nan
 
--- a board of which only the layout is asked
+-- a board of which only the layout is used
 abbrev pub unitSize : Float
 unitSize = ofBits binary32 0x3F800000
 
@@ -80,18 +80,18 @@ fourWord (surrounding.Corners a b c d) (suc (suc zero)) = c
 fourWord (surrounding.Corners a b c d) (suc (suc (suc k))) = d
 fourWord surrounding.Absent k = absent
 
--- a grid of this length has a row for each bit and border of a code that a word holds
+-- the length of the grid is side × side, and the code fits in a word
 abbrev pub wholeGrid : ℕ → ℕ → ℕ → Bool
 wholeGrid n bits border = leb bits 8 && eqb n (side bits border * side bits border)
 
--- the border of a cell, and settings of which the border threshold alone is given
+-- the border of a cell, and settings with only a border threshold
 abbrev pub borderSample : Bool → Float → BorderSample
 borderSample sampled fraction = cond sampled (border.BlackFraction fraction) border.Unsampled
 
 abbrev pub thresholdAlone : Float → BoardMatchConfig
 thresholdAlone threshold = record { «px_per_square» = nought; «alignment_min_margin» = nought; «cell_weight_border_threshold» = threshold }
 
--- a list after f of each code was written to the code's place in it
+-- an array after f of each code was written to the code's index
 pub record ScoresWritten (f : ℕ → Float) (codes : List ℕ) (before after : List Float) : Type 0 where
   pub long : length after ≡ length before
   pub holds : (i : ℕ) → i < length codes → i < length before → getD after i nan ≡ f (getD codes i 0)

@@ -1,6 +1,5 @@
-// The C functions by which the Rust oracle and `stored_rows` ask for what no entry tells by itself: one number each, or all scores of a cell. The entries
-// are asked through `charuco`. For tests only. Every function accepts every number and list. Uses `matcher`, `grid_alignment`, `board` and
-// `score_matrix`, and for proofs `integers` and `floats`.
+// Exports to C, for tests only, what no entry point returns by itself: one number each, or all scores of a cell.
+// The oracle and `stored_rows` call these functions; they call the entry points through `charuco`. Every function accepts every number and array.
 ghost use mathlib.Core.Path.{_≡_};
 ghost use Prim.Native.Nat.{_%_};
 ghost use Rattle.matcher.specs.Codes.{turnedWord, differing};
@@ -26,7 +25,7 @@ pub use scores::oracle_read_code;
 pub use scores::oracle_score;
 pub use scores::oracle_table_entry;
 
-// Says that there is no id and no place.
+// No id or no position.
 const ABSENT: u64 = 18446744073709551615;
 
 #[no_mangle]
@@ -97,7 +96,7 @@ pub extern "C" fn oracle_cell_rect_corner(u: i16, v: i16, px: f32, corner: u8, a
     corners[k][a]
 }
 
-// A board by its size and mark, 0 for none. The layout depends on nothing else but the cells' size.
+// A board from its size and legacy flag, 0 for a current board. Its layout depends on nothing else but the cells' size.
 fn board_of(rows: u8, cols: u8, legacy: u32, cell_size: f32) -> Board
     ensures { λ r. ⌜ r ≡ boardWith rows cols legacy «cell_size» ⌝ }
 {
@@ -121,7 +120,7 @@ fn id_word(n: Numbered) -> u64
     }
 }
 
-// j × 65536 + i. Both are below 256, so neither hides the other.
+// j × 65536 + i. Both are below 256, so the word determines them.
 fn place_word(place: Located) -> u64
     ensures { λ r. ⌜ r ≡ placeWord place ⌝ }
 {

@@ -1,5 +1,5 @@
-// The likelihood table and the score of one cell. For a grid that has not side × side bytes, or a side above 8, the answer is 0,
-// and a list of scores stays as it is.
+// The likelihood table and the score of one cell. If the grid does not have side × side bytes, or the side is above 8, the result is 0, and an array
+// of scores does not change.
 ghost use mathlib.Core.Path.{_≡_};
 ghost use mathlib.Core.Bool.{cond};
 ghost use Prim.Native.Nat.{_*_, _≤_};
@@ -18,7 +18,7 @@ use score_matrix::BorderSample;
 use score_matrix::cell;
 use score_matrix::table;
 
-// NaN beyond the table.
+// NaN past the table.
 #[no_mangle]
 pub extern "C" fn oracle_table_entry(i: usize) -> f32
     ensures { λ r. ⌜ r ≡ getD builtIn i nan ⌝ }
@@ -110,7 +110,7 @@ pub extern "C" fn oracle_read_code(grid: &[u8], threshold: u8, bits: u8, border:
     0
 }
 
-// A score for each code, of as many as both lists have places for.
+// A score for each code, up to the length of the shorter array.
 fn fill_scores(likelihoods: &[f32; 128], bits: u8, codes: &[u64], out: &mut [f32])
     requires { ⌜ bits ≤ 8 ⌝ }
     ensures { λ _. ⌜ ScoresWritten (λ code. sumTo (picked (now (likelihoods .entry)) code) (bits * bits)) (now (codes .entry)) (now (out .entry))

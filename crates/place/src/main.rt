@@ -1,11 +1,10 @@
-// Reads a shot record on the standard input and prints where its board lies, or the question that refuses it (document 01).
-// Uses `standard_input` and `place_text`, and `io` and `libc` to write.
+// Reads a shot record from the standard input and prints the placement of its board, or `refused` and the error number (document 01).
 use libc::STDERR_FILENO;
 use libc::STDOUT_FILENO;
 use standard_input::Input;
 
-// A record has at most 65,535 bytes. One byte more is read, so that question 21 refuses a longer input. A program has no exit status:
-// what failed is told on the standard error, and no answer is an empty text.
+// A record has at most 65,535 bytes. One more byte is read, so that a longer input fails question 21. A program has no exit status: a failure is
+// printed on the standard error. The text of a result is never empty.
 fn main() {
     let mut bytes: [u8; 65536] = [0; 65536];
     let input = standard_input::read_all(&mut bytes);

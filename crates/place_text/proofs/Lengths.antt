@@ -1,4 +1,4 @@
--- How many bytes numbers and lines have, and that the text of an answer has room in 32 KiB. Assumes nothing.
+-- The lengths of numbers and lines in bytes, and that the text of a result fits in 32 KiB. Assumes nothing.
 use mathlib.Core.Path.{_≡_, refl}
 use mathlib.Core.Bool.{Bool, true, false, cond}
 use mathlib.Core.List.{List, [], _∷_, _++_}
@@ -82,7 +82,7 @@ corners-room : (a : GridAlignment) → SmallAlignment 4128 a → length (corners
 corners-room a s =
     simp length-append (omega (arith, turn-room (a .turn) (s .turn), signed-room (a .tx) (s .tx), signed-room (a .ty) (s .ty)))
 
--- the lines of a match, one after the other
+-- the lines of a match, concatenated
 seven : (a b c d e f g : List ℕ) → length a ≤ 7 → length b ≤ 32 → length c ≤ 32 → length d ≤ 16 → length e ≤ 32 → length f ≤ 36
     → length g ≤ 101 * 256 → length (a ++ (b ++ (c ++ (d ++ (e ++ (f ++ g)))))) ≤ 32768
 seven a b c d e f g ha hb hc hd he hf hg = simp length-append (omega arith)
@@ -126,15 +126,16 @@ module _ (words : List ℕ) (sizes : (k : ℕ) → getD words k 0 < 2 ^ 32) wher
       (corners-room (m .corners) (s .corners))
       (omega (arith, markers-room (m .markers), s .markers, s .few-cells))
 
--- a refusal's number has two digits
+-- an error number has at most two digits
 number-small : (r : Refusal) → numberOf r < 10 ^ 2
+-- BEGIN generated number-small
 number-small refusal.InvalidSize = lit< tt
 number-small refusal.InvalidCellSize = lit< tt
 number-small refusal.InvalidMarkerSizeRel = lit< tt
 number-small refusal.InvalidBorderBits = lit< tt
 number-small refusal.EmptyDictionary = lit< tt
 number-small refusal.BoardOutOfRange = lit< tt
-number-small (refusal.NotEnoughDictionaryCodes n a) = lit< tt
+number-small (refusal.NotEnoughDictionaryCodes needed available) = lit< tt
 number-small refusal.CodeOutOfRange = lit< tt
 number-small refusal.SettingsNotFinite = lit< tt
 number-small refusal.InvalidTable = lit< tt
@@ -143,7 +144,7 @@ number-small refusal.CellsOutOfRange = lit< tt
 number-small refusal.InvalidSample = lit< tt
 number-small refusal.ListTooShort = lit< tt
 number-small refusal.TranslationWindow = lit< tt
-number-small (refusal.Margin m) = lit< tt
+number-small (refusal.Margin margin) = lit< tt
 number-small refusal.NoMarkers = lit< tt
 number-small refusal.CornersOutOfRange = lit< tt
 number-small refusal.TooManyLinks = lit< tt
@@ -151,6 +152,8 @@ number-small refusal.TooManyCells = lit< tt
 number-small refusal.InvalidRecord = lit< tt
 number-small refusal.CodesAlike = lit< tt
 number-small refusal.RepeatedPoint = lit< tt
+
+-- END generated number-small
 
 refusal-room : (r : Refusal) → length (refusalLine r) ≤ 32768
 unfolding refusalLine

@@ -1,4 +1,4 @@
--- Decimal digits: a bound on the steps that is large enough does not show, so a longer number has those of its tenth, and then its last.
+-- Decimal digits: every sufficient bound on the steps gives the same digits, so a number of more digits has those of its tenth, then its last.
 -- Assumes nothing.
 use mathlib.Core.Path.{_≡_, refl, sym, ap}
 use mathlib.Core.Bool.{Bool, true, false, cond}

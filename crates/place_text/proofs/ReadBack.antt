@@ -1,5 +1,4 @@
--- Numbers are read back from their digits, decimal and hexadecimal, and a word that holds a whole number has that number's text.
--- Assumes nothing.
+-- Numbers are read back from their digits, decimal and hexadecimal, and a two's complement word has the text of its integer. Assumes nothing.
 use mathlib.Core.Path.{_≡_, refl, sym, ap, _∙_}
 use mathlib.Core.Bool.{Bool, true, false, cond}
 use mathlib.Core.List.{List, [], _∷_, _++_, append-assoc, append-nil}
@@ -21,7 +20,7 @@ digit-value d h = go (ltb d 10) (ltb-true d 10) (ltb-false d 10)
     go true s _ = let l = s refl in rw (lt-ltb (48 + d) 58 (omega (arith, l))) (omega arith)
     go false _ s = let l = s refl in rw (le-ltb (55 + d) 58 (omega (arith, l))) (omega arith)
 
--- one digit more
+-- one more digit
 one-more : (b n : ℕ) (cs : List ℕ) (c : ℕ) → numberAfter b n (cs ++ (c ∷ [])) ≡ b * numberAfter b n cs + digitsValue c
 unfolding numberAfter
 one-more b n [] c = refl
@@ -46,7 +45,7 @@ back-within (suc k) n h = go (ltb n 10) (ltb-true n 10) (ltb-false n 10) (back-w
 pub decimal-back : (n : ℕ) → readNumber 10 (decimal n) ≡ n
 decimal-back n = back-within n n (omega arith)
 
--- hexadecimal digits after those that stand for m, and before others
+-- hexadecimal digits after those of m, and before others
 hex2-after : (m n : ℕ) (cs : List ℕ) → n < 2 ^ 8 → numberAfter 16 m (hex2 n ++ cs) ≡ numberAfter 16 (256 * m + n) cs
 unfolding numberAfter hex2
 hex2-after m n cs h =
@@ -81,7 +80,7 @@ hex16-back high low h l =
     ∙ hex8-after (4294967296 * 0 + high) low [] l
     ∙ omega arith
 
--- the word that holds a whole number has its text
+-- the two's complement word of an integer has its text
 pub word-text : (z : ℤ) → SFits w32 z → signedWord (ofZ w32 z) ≡ signedDecimal z
 word-text (pos n) f = rw (lt-ltb n 2147483648 (f .sfits))
 word-text (negsuc k) f =

@@ -19,7 +19,7 @@ hex4 n = hex2 (n / 256) ++ hex2 (n % 256)
 unfoldable pub hex8 : ℕ → List ℕ
 hex8 n = hex4 (n / 65536) ++ hex4 (n % 65536)
 
--- the digits of n, with no zero in front, if n is at most k, which bounds the steps
+-- the digits of n without leading zeros, if n is at most k, which bounds the steps
 unfoldable pub decimalIn : ℕ → ℕ → List ℕ
 decimalIn zero n = digit n ∷ []
 decimalIn (suc k) n = let longer = decimalIn k (n / 10) ++ (digit (n % 10) ∷ []) in cond (ltb n 10) (digit n ∷ []) longer
@@ -27,11 +27,11 @@ decimalIn (suc k) n = let longer = decimalIn k (n / 10) ++ (digit (n % 10) ∷ [
 abbrev pub decimal : ℕ → List ℕ
 decimal n = decimalIn n n
 
--- a whole number, with a minus sign if it is negative
+-- an integer, with a minus sign if it is negative
 abbrev pub signedDecimal : ℤ → List ℕ
 signedDecimal (pos n) = decimal n
 signedDecimal (negsuc n) = 45 ∷ decimal (suc n)
 
--- a word of 32 bits that holds a whole number: from 2³¹ on it stands for the word less 2³²
+-- a 32-bit word as a two's complement integer: from 2³¹ on it is the word minus 2³²
 abbrev pub signedWord : ℕ → List ℕ
 signedWord n = cond (ltb n 2147483648) (decimal n) (45 ∷ decimal (4294967296 - n))

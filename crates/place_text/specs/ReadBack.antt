@@ -1,5 +1,4 @@
--- What the digits of a text stand for. The laws (proofs/ReadBack.antt): a number is read back from its digits, a whole number from
--- its text.
+-- The values of digits. The laws (proofs/ReadBack.antt): a number can be read back from its digits, an integer from its text.
 use Prim.Native.Nat.{ℕ, _+_, _*_, _-_}
 use mathlib.Core.Bool.{cond}
 use mathlib.Core.List.{List, [], _∷_}
@@ -9,7 +8,7 @@ use lib.Dec.{ltb}
 abbrev pub digitsValue : ℕ → ℕ
 digitsValue c = cond (ltb c 58) (c - 48) (c - 55)
 
--- digits in base b after those that stand for n
+-- digits in base b after those of n
 unfoldable pub numberAfter : ℕ → ℕ → List ℕ → ℕ
 numberAfter b n [] = n
 numberAfter b n (c ∷ cs) = numberAfter b (b * n + digitsValue c) cs

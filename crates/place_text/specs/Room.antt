@@ -1,4 +1,4 @@
--- The text of every answer has room in the 32 KiB that the program lends.
+-- The text of every result fits in the program's 32 KiB buffer.
 use Prim.Native.Nat.{ℕ, _^_, _≤_, _<_}
 use mathlib.Core.List.{List}
 use lib.ListN.{length, getD}

@@ -1,4 +1,4 @@
--- Document 01, "The program `place`": the text of an answer, as its bytes. A line is words with one space between and a line feed.
+-- Document 01, "The program `place`": the text of a result, as bytes. A line is words separated by one space, and a line feed.
 use Prim.Native.Nat.{ℕ, _+_, _*_}
 use mathlib.Core.Bool.{cond}
 use mathlib.Core.List.{List, [], _∷_, _++_}
@@ -59,7 +59,7 @@ the-absent = 97 ∷ 98 ∷ 115 ∷ 101 ∷ 110 ∷ 116 ∷ []
 abbrev pub the-refused : List ℕ
 the-refused = 114 ∷ 101 ∷ 102 ∷ 117 ∷ 115 ∷ 101 ∷ 100 ∷ []
 
--- a word and those after it, each with a space in front; the line feed ends them
+-- a word and those after it, each preceded by a space; a line feed ends them
 abbrev pub andWords : List (List ℕ) → List ℕ
 andWords [] = 10 ∷ []
 andWords (w ∷ ws) = 32 ∷ (w ++ andWords ws)
@@ -70,12 +70,12 @@ line first others = first ++ andWords others
 abbrev pub floatWord : Float → List ℕ
 floatWord x = hex8 (toBits binary32 x)
 
--- the evidence's bits or `none`
+-- the evidence's bit pattern or `none`
 abbrev pub evidenceWord : Evidence → List ℕ
 evidenceWord (evidence.Number x) = floatWord x
 evidenceWord evidence.Absent = the-none
 
--- best and next: turn, tx, ty, evidence, and the count of contributing cells (document 02, 2.5)
+-- best and next: turn, tx, ty, evidence, and the number of contributing cells (document 02, 2.5)
 abbrev pub hypothesisLine : List ℕ → Hypothesis → List ℕ
 hypothesisLine first h =
     line first
@@ -95,16 +95,16 @@ nextLine choice.Absent = line the-next (the-absent ∷ [])
 abbrev pub cornersLine : GridAlignment → List ℕ
 cornersLine a = line the-corners (decimal (a .turn) ∷ signedDecimal (a .tx) ∷ signedDecimal (a .ty) ∷ [])
 
--- A marker has 18 words of the list, of which the first nine are printed; a word past the list counts as 0.
+-- A marker has 18 words of the array, of which the first nine are printed; a word past the array counts as 0.
 abbrev pub wordOf : List ℕ → ℕ → ℕ → ℕ
 wordOf words k w = getD words (18 * k + w) 0
 
--- what was read in a marker's cell: differing bits, code (its high word first), quotient
+-- the reading of a marker's cell: Hamming distance, code (its high word first), quotient
 unfoldable pub reading : List ℕ → ℕ → List (List ℕ)
 reading words k =
     decimal (wordOf words k 5) ∷ (hex8 (wordOf words k 7) ++ hex8 (wordOf words k 6)) ∷ hex8 (wordOf words k 8) ∷ []
 
--- marker: cell, id, u, v, turn, differing bits, code, quotient
+-- marker: cell, id, u, v, turn, Hamming distance, code, quotient
 unfoldable pub markerLine : List ℕ → ℕ → List ℕ
 markerLine words k =
     line the-marker
@@ -129,12 +129,12 @@ matchLines m words =
     ++ (cornersLine (m .corners)
     ++ markerLines words (m .markers))))))
 
--- A refusal prints `refused` and the number, after 16 also the margin's bits.
+-- `refused` and the error number, after 16 also the margin's bit pattern
 unfoldable pub refusalLine : Refusal → List ℕ
 refusalLine r =
     line the-refused (decimal (numberOf r) ∷ cond (eqb (numberOf r) 16) (hex8 (getD (valuesOf r) 0 0) ∷ []) [])
 
--- the text of an answer and the markers' words
+-- the text of a result and the markers' words
 abbrev pub textOf : Matched → List ℕ → List ℕ
 textOf (matched.Placed m) words = matchLines m words
 textOf (matched.Refused r) words = refusalLine r

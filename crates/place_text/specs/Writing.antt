@@ -1,4 +1,4 @@
--- What is printed into a list that is lent: bytes from a place on, as many as there is room for; the rest of the list is untouched.
+-- Printing to an output array: bytes from an index on, truncated to the array's length; the other elements do not change.
 use Prim.Native.Nat.{ℕ, _+_, min}
 use mathlib.Core.Path.{_≡_}
 use mathlib.Core.List.{List, _++_}
@@ -8,7 +8,7 @@ use Rattle.lent_list.specs.Front.{inFront}
 abbrev pub printedAt : ℕ → List ℕ → List ℕ → List ℕ
 printedAt at bytes lent = take at lent ++ inFront bytes (drop at lent)
 
--- `next` is the place after them
+-- `next` is the index after them
 pub record Printed (bytes : List ℕ) (at next : ℕ) (before after : List ℕ) : Type 0 where
   pub stored : after ≡ printedAt at bytes before
   pub place : next ≡ min (at + length bytes) (length before)

@@ -1,5 +1,4 @@
-// What the program `place` prints (document 01): the text of the answer of Match to a record. Uses `refusal`, `floats`, `grid_alignment`,
-// `ranking` and `board_match`.
+// Formats the result of Match for a shot record as the text that the program `place` prints (document 01).
 ghost use mathlib.Core.Path.{_≡_};
 ghost use Prim.Native.Nat.{_≤_, min};
 ghost use lib.ListN.{length, take};
@@ -32,8 +31,9 @@ fn put_match(text: &mut [u8], at: usize, found: Match, markers: &[u32]) -> usize
     markers::put_markers(text, next, markers, found.markers)
 }
 
-// The text of `answer` and of the words that a match filled `markers` with, in front of the list that is lent; where that is too
-// short, as much of the text as it holds. The answer is how many bytes that is.
+// Writes the text of `answer`, with the markers' words that Match wrote to `markers`, to the start of the output array, truncated to its length.
+// Returns the number of bytes written.
+// Public for `replay`: no record leads to an absent runner-up, or to a best placement without a number, and the text of both is tested.
 pub fn format(answer: Matched, markers: &[u32], text: &mut [u8]) -> usize
     ensures count { λ r. ⌜ r ≡ min (length (textOf answer (now (markers .entry)))) (length (now (text .entry))) ⌝ }
     ensures list { λ _. ⌜ now (text .exit) ≡ inFront (textOf answer (now (markers .entry))) (now (text .entry)) ⌝ }
@@ -44,7 +44,7 @@ pub fn format(answer: Matched, markers: &[u32], text: &mut [u8]) -> usize
     }
 }
 
-// The text of the answer to a record, for lists of any length. It is never longer than 32 KiB.
+// The text of the result for a record, for arrays of any length. It is never longer than 32 KiB.
 fn answer_text(bytes: &[u8], markers: &mut [u32], text: &mut [u8]) -> usize
     ensures count { λ r. ⌜ r ≡ min (length (placeText (now (bytes .entry)) (now (markers .entry)))) (length (now (text .entry))) ⌝ }
     ensures text { λ _. ⌜ now (text .exit) ≡ inFront (placeText (now (bytes .entry)) (now (markers .entry))) (now (text .entry)) ⌝ }
@@ -55,8 +55,8 @@ fn answer_text(bytes: &[u8], markers: &mut [u32], text: &mut [u8]) -> usize
     format(answer, markers, text)
 }
 
-// The record is the first `read` bytes. Its whole text stands in front of the lent one, whatever the record: the list of markers has 18 words for
-// each of 256 cells, and the text has room for as many lines. The answer is the text's length.
+// The record is the first `read` bytes. The text is never truncated: `markers` has 18 words for each of 256 cells, and `text` room for as many lines.
+// Returns the length of the text.
 pub fn place(
     bytes: &[u8; 65536],
     read: usize,

@@ -1,4 +1,4 @@
-// The lines of an answer but those of its markers.
+// The lines of a result except those of its markers.
 ghost use mathlib.Core.List.{[], _∷_};
 ghost use Rattle.place_text.specs.Numerals.{decimal};
 ghost use Rattle.place_text.specs.Text.{line, floatWord, hypothesisLine, nextLine, cornersLine, refusalLine};
@@ -59,7 +59,7 @@ pub fn put_number(text: &mut [u8], at: usize, first: &[u8], n: u64) -> usize
     writer::put(text, next, b'\n')
 }
 
-// Of all values that refusals give, only the margin of 16 is printed.
+// Of all values of errors, only the margin of 16 is printed.
 pub fn put_refusal(text: &mut [u8], at: usize, refusal: Refusal) -> usize
     ensures { λ r. ⌜ Printed (refusalLine refusal) at r (now (text .entry)) (now (text .exit)) ⌝ }
 {

@@ -1,4 +1,4 @@
-// The markers' lines. A marker has 18 words of the list that a match fills; a word past the list counts as 0.
+// The lines of the markers. A marker has 18 words of the array that Match writes; a word past the array counts as 0.
 ghost use mathlib.Core.Path.{_≡_};
 ghost use mathlib.Core.List.{_∷_, _++_};
 ghost use Rattle.place_text.specs.Numerals.{hex8, decimal, signedWord};
@@ -34,7 +34,7 @@ fn and_signed(text: &mut [u8], at: usize, markers: &[u32], k: usize, w: usize) -
     words::and_signed_word(text, at, word(markers, k, w))
 }
 
-// The code's high word stands after its low one.
+// The code's high word follows its low word in the array.
 fn and_code(text: &mut [u8], at: usize, markers: &[u32], k: usize) -> usize
     ensures { λ r. ⌜ Printed (32 ∷ (hex8 (wordOf (now (markers .entry)) k 7) ++ hex8 (wordOf (now (markers .entry)) k 6))) at r
         (now (text .entry)) (now (text .exit)) ⌝ }
@@ -50,7 +50,7 @@ fn and_float(text: &mut [u8], at: usize, markers: &[u32], k: usize, w: usize) ->
     words::and_hex8(text, at, word(markers, k, w))
 }
 
-// The last words of the line: differing bits, code, quotient.
+// The last words of the line: Hamming distance, code, quotient.
 fn and_reading(text: &mut [u8], at: usize, markers: &[u32], k: usize) -> usize
     ensures { λ r. ⌜ Printed (andWords (reading (now (markers .entry)) k)) at r (now (text .entry)) (now (text .exit)) ⌝ }
 {
@@ -60,7 +60,7 @@ fn and_reading(text: &mut [u8], at: usize, markers: &[u32], k: usize) -> usize
     writer::put(text, next, b'\n')
 }
 
-// Marker `k`: cell, id, u, v, turn, then its reading.
+// Marker `k`: cell, id, u, v, turn, then the last words.
 fn put_marker(text: &mut [u8], at: usize, markers: &[u32], k: usize) -> usize
     ensures { λ r. ⌜ Printed (markerLine (now (markers .entry)) k) at r (now (text .entry)) (now (text .exit)) ⌝ }
 {

@@ -1,4 +1,4 @@
-// The words of a line after its first, each put with the space before it.
+// The words of a line after its first, each written with a space before it.
 ghost use mathlib.Core.List.{_∷_, _++_};
 ghost use Rattle.place_text.specs.Numerals.{hex8, decimal, signedDecimal, signedWord};
 ghost use Rattle.place_text.specs.Text.{evidenceWord};

@@ -1,5 +1,5 @@
-// Bytes and numbers put into a list that is lent, one after the other. A byte with no place left is dropped, so nothing is asked
-// of the list's length. Each function answers the place after what it put.
+// Writes bytes and numbers to an output array, one after the other. Bytes past its end are dropped, so it may have any length. Each function returns
+// the index after what it wrote.
 ghost use mathlib.Core.Path.{_≡_};
 ghost use mathlib.Core.List.{[], _∷_};
 ghost use Prim.Native.Nat.{_<_, min};
@@ -78,7 +78,7 @@ pub fn put_decimal(text: &mut [u8], at: usize, n: u64) -> usize
     put(text, next, digit((n % 10) as u8))
 }
 
-// The complement of z is −1 − z.
+// `!z` is −1 − z.
 pub fn put_signed(text: &mut [u8], at: usize, z: i32) -> usize
     ensures { λ r. ⌜ Printed (signedDecimal z) at r (now (text .entry)) (now (text .exit)) ⌝ }
 {

@@ -1,4 +1,4 @@
--- What the definition says: of small lists, and that points are all apart exactly if no two places have the same one. Assumes nothing.
+-- The definition at small lists, and that it holds exactly if no two places have the same point. Assumes nothing.
 use mathlib.Core.Path.{_≡_, refl, sym, ap, ap₂, _∙_}
 use mathlib.Core.Bool.{Bool, true, false, not, false≢true}
 use mathlib.Core.List.{List, [], _∷_}
@@ -15,7 +15,7 @@ use Rattle.grid_alignment.specs.declared.Coord.{Coord}
 use Rattle.grid_alignment.specs.Alignment.{point}
 use Rattle.points.specs.Points.{samePoint, allApart}
 
--- ---- small lists: first and last the same; equal u alone; equal v alone
+-- ---- small lists: first and last equal; equal u alone; equal v alone
 abbrev listed : List Coord → ℕ → Coord
 listed points k = getD points k (point (pos 0) (pos 0))
 
@@ -60,7 +60,7 @@ module _ (at : ℕ → Coord) (n : ℕ) where
       sym (one-out (λ (k : ℕ). every (apart k) k) n j false h
       (sym (one-out (apart j) j i false l (ap not (same-point (at i) (at j) e)) refl)) refl)
 
--- the same points
+-- equal points
 pub same-apart : (f g : ℕ → Coord) (n : ℕ) → ((k : ℕ) → k < n → f k ≡ g k) → allApart f n ≡ allApart g n
 same-apart f g n e =
     same-answers (λ (j : ℕ). every (λ (i : ℕ). not (samePoint (f i) (f j))) j) (λ (j : ℕ). every (λ (i : ℕ). not (samePoint (g i) (g j))) j) n

@@ -1,4 +1,4 @@
--- Points of an index are the same exactly if their words are equal. Assumes nothing.
+-- Points of an index are equal exactly if their words are. Assumes nothing.
 use mathlib.Core.Path.{_≡_, refl, sym, ap}
 use mathlib.Core.Bool.{Bool, true, false}
 use mathlib.Core.List.{List}

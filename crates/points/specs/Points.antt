@@ -1,4 +1,4 @@
--- Document 02, 2.3: "two cells at one point". And how the points of an index tell it.
+-- Document 02, 2.3: "two cells at one point" (duplicate position); and the points of an index.
 use Prim.Native.Nat.{ℕ, _+_, _*_, _/_, _%_, _^_, _<_}
 use mathlib.Core.Path.{_≡_}
 use mathlib.Core.Bool.{Bool, not, _&&_}
@@ -10,11 +10,10 @@ use Rattle.grid_alignment.specs.declared.Coord.{Coord}
 use Rattle.grid_alignment.specs.Alignment.{point}
 use Rattle.shot_record.specs.Index.{pointIn, uIn, vIn}
 
--- equal u and equal v
 abbrev pub samePoint : Coord → Coord → Bool
 samePoint p q = same (p .u) (q .u) && same (p .v) (q .v)
 
--- of no two places i < j below n the points are the same
+-- the points of the first n places are pairwise distinct
 abbrev pub allApart : (ℕ → Coord) → ℕ → Bool
 allApart at n = every (λ (j : ℕ). every (λ (i : ℕ). not (samePoint (at i) (at j))) j) n
 

@@ -1,5 +1,5 @@
-// Whether two cells lie at one point (document 02, 2.3). Uses `sorting` and `shot_record`, whose index has the point of each cell as a word, u in its low
-// half and v in its high half; for its definitions and laws `integers` and `grid_alignment`.
+// Checks that no two cells of a shot have the same grid point (document 02, 2.3).
+// The index of `shot_record` has the point of each cell as a word, u in its low half and v in its high half.
 ghost use mathlib.Core.Path.{_≡_};
 ghost use Prim.Native.Nat.{_≤_};
 ghost use lib.ListN.{length};
@@ -14,7 +14,7 @@ fn residue(point: u32) -> usize
     (point / 0x1_0000 % 32 * 32 + point % 32) as usize
 }
 
-// Are the residues of the first points all different? Two squares of a board never share theirs, so this is enough for every shot that fits.
+// Are the residues of the first points pairwise distinct? Those of a board's squares are, so this suffices for every shot that fits.
 fn apart(index: &[u32; 768], n: usize) -> bool
     requires { ⌜ n ≤ 256 ⌝ }
     ensures { λ r. ⌜ Told n (residueIn (now (index .entry))) r ⌝ }
@@ -44,7 +44,7 @@ fn put_points(words: &mut [u64; 256], index: &[u32; 768], n: usize)
     }
 }
 
-// Are the points of the first `n` cells all different? They are sorted only if two share their residues.
+// Are the points of the first `n` cells pairwise distinct? They are sorted only if two share their residues.
 pub fn all_different(index: &[u32; 768], n: usize) -> bool
     requires { ⌜ (n ≤ 256) × SmallWords (now index) n ⌝ }
     ensures { λ r. ⌜ r ≡ allApart (pointOf (now (index .entry))) n ⌝ }

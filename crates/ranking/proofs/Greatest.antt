@@ -1,4 +1,4 @@
--- The first greatest of a list is what its name says, and the rest is the list without it, where all evidence is finite. Assumes nothing.
+-- `firstGreatest` is the first of maximum evidence, and the rest is the list without it, if all evidence is finite. Assumes nothing.
 use mathlib.Core.Path.{_≡_, refl, sym, ap, _∙_}
 use Prim.Native.Nat.{ℕ, zero, suc, _<_}
 use native.Mathlib.Nat.{le-of-suc-le-suc}
@@ -39,7 +39,7 @@ no-element : {b : Hypothesis} → none ≡ some b → ⊥
 no-element e = let z : _≡_ {A = ℕ} 0 1 = cc in omega arith
 
 module _ (h : Hypothesis) (hs : List Hypothesis) (f : AllFinite (h ∷ hs)) where
-  -- of the places of a list: the head's and those after it
+  -- for each index: the head and those after it
   at-each : (x : Hypothesis) → liesBelow (x .evidence) (h .evidence) ≡ false
       → ((k : ℕ) (g : Hypothesis) → getElem? hs k ≡ some g → liesBelow (x .evidence) (g .evidence) ≡ false) → (k : ℕ) (g : Hypothesis)
       → getElem? (h ∷ hs) k ≡ some g → liesBelow (x .evidence) (g .evidence) ≡ false

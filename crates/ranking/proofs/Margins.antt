@@ -1,4 +1,4 @@
--- The margin is at least 0, and so not NaN, where evidence is small, the runner-up does not lie above the best and the capacity is finite: the
+-- The margin is at least 0, and so not NaN, if evidence is small, the runner-up is not above the best and the capacity is finite: the
 -- divisor is at least 2⁻²³. Assumes nothing.
 use Prim.Native.Nat.{_^_}
 use native.Mathlib.Nat.{le-trans, add-le-add}
@@ -36,13 +36,13 @@ divisor x fx x₀ = go (lt x epsilon) (not-lt→le x epsilon (finite-not-nan x x
         let m = le→Le binary32 epsilon x tt fx tt x₀ (f tt) in
         record { is-finite = x₀; above = Lt→lt binary32 nought x tt fx tt x₀ (omega (arith, l, m)) }
 
--- ---- the lead
--- none, or of size at most 256 × 512
+-- ---- the gap
+-- absent, or of size at most 256 × 512
 abbrev pub Small : Evidence → Type 0
 Small evidence.Absent = Unit {0}
 Small (evidence.Number x) = Item binary32 (2 ^ 166) x
 
--- a runner-up that is small and does not lie above the best
+-- a runner-up that is small and not above the best
 abbrev pub SmallNext : Evidence → Choice → Type 0
 SmallNext b choice.Absent = Unit {0}
 SmallNext b (choice.Placement g) = Small (g .evidence) × (liesBelow b (g .evidence) ≡ false)

@@ -52,7 +52,7 @@ module _ (P : Hypothesis → Type 0) where
       without others choice.Absent = a .1
       without others (choice.Placement g) = either others (liesBelow (h .evidence) (g .evidence))
 
--- the runner-up does not lie above the best
+-- the runner-up is not above the best
 pub runner-up-not-above : (hs : List Hypothesis) (b : Hypothesis) → AllFinite hs → firstGreatest hs ≡ choice.Placement b
     → Of (λ h. liesBelow (b .evidence) (h .evidence) ≡ false) (firstGreatest (rest hs))
 runner-up-not-above hs b f e =

@@ -1,4 +1,4 @@
--- Best and runner-up of a list in one pass from its start: what one placement more changes, where all evidence is finite. Assumes nothing.
+-- Best and runner-up of a list in one pass: the effect of one more placement, if all evidence is finite. Assumes nothing.
 use mathlib.Core.Path.{_≡_, refl, ap, _∙_}
 use Prim.Native.Nat.{suc}
 use mathlib.Core.Bool.{Bool, true, false, cond}
@@ -12,14 +12,14 @@ use Rattle.ranking.specs.Ranking.{rankingOf, better, second, ranked}
 use Rattle.ranking.specs.Rules.{FiniteEvidence, AllFinite}
 use Rattle.ranking.proofs.Order.{below-trans, not-below-trans}
 
--- ---- a list's head and the others
+-- ---- head and tail
 pub head-finite : (h : Hypothesis) (hs : List Hypothesis) → AllFinite (h ∷ hs) → FiniteEvidence (h .evidence)
 head-finite h hs f = f 0 h refl
 
 pub tail-finite : (h : Hypothesis) (hs : List Hypothesis) → AllFinite (h ∷ hs) → AllFinite hs
 tail-finite h hs f k g e = f (suc k) g e
 
--- ---- what is chosen has finite evidence
+-- ---- a choice has finite evidence
 abbrev Chosen : Choice → Type 0
 Chosen choice.Absent = Unit {0}
 Chosen (choice.Placement b) = FiniteEvidence (b .evidence)
@@ -38,7 +38,7 @@ unfolding firstGreatest
 best-finite [] f = tt
 best-finite (h ∷ hs) f = over-finite h (firstGreatest hs) (head-finite h hs f) (best-finite hs (tail-finite h hs f))
 
--- the runner-up, from the left: of a head and the others
+-- the runner-up of a head and a tail, from the left
 abbrev nextOver : Hypothesis → Choice → Choice → Choice
 nextOver h choice.Absent next = choice.Absent
 nextOver h (choice.Placement g) next = cond (liesBelow (h .evidence) (g .evidence)) (over h next) (choice.Placement g)
@@ -71,7 +71,7 @@ next-finite (h ∷ hs) f =
     let f' = tail-finite h hs f in
     rw next-is (next-over-finite h (firstGreatest hs) (firstGreatest (rest hs)) (head-finite h hs f) (best-finite hs f') (next-finite hs f'))
 
--- ---- a head and a last one
+-- ---- a head and a last element
 module _ (h x : Hypothesis) (h₀ : FiniteEvidence (h .evidence)) (x₀ : FiniteEvidence (x .evidence)) where
   over-better : (c : Choice) → Chosen c → over h (better c x) ≡ better (over h c) x
   over-better choice.Absent c₀ = refl

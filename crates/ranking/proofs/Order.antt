@@ -1,4 +1,4 @@
--- The order of finite evidence: nothing lies below itself, and both "lies below" and "does not lie below" are transitive. Assumes nothing.
+-- The order of finite evidence: "below" is irreflexive, and "below" and "not below" are transitive. Assumes nothing.
 use mathlib.Core.Path.{_≡_, refl}
 use Prim.Native.Nat.{ℕ}
 use native.Mathlib.Omega.{arith}
@@ -31,7 +31,7 @@ not-below-trans x evidence.Absent (evidence.Number z) x₀ y₀ z₀ p q = absur
 not-below-trans evidence.Absent (evidence.Number y) (evidence.Number z) x₀ y₀ z₀ p q = absurd (clash true p refl)
 not-below-trans (evidence.Number x) (evidence.Number y) (evidence.Number z) x₀ y₀ z₀ p q = not-lt-trans x y z x₀ y₀ z₀ p q
 
--- of two that differ in order only one lies below the other
+-- asymmetry
 pub below-one-way : (x y : Evidence) → FiniteEvidence x → FiniteEvidence y → liesBelow x y ≡ true → liesBelow y x ≡ false
 below-one-way x y x₀ y₀ p = go (liesBelow y x) refl
   where

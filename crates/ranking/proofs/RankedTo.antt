@@ -1,4 +1,4 @@
--- A ranking after n hypotheses, one after the other: how many it has passed, after the same ones, after more, and by columns. Assumes nothing.
+-- A ranking after n placements: its count, after equal ones, after more, and by columns. Assumes nothing.
 use mathlib.Core.Path.{_≡_, refl, sym, ap, ap₂, _∙_}
 use Prim.Native.Nat.{ℕ, zero, suc, _+_, _*_, _/_, _%_, _<_}
 use native.Mathlib.Omega.{arith}
@@ -20,7 +20,7 @@ pub ranked-none : (k : Ranking) (f : ℕ → Hypothesis) → k ≡ rankedTo k f 
 unfolding rankedTo
 ranked-none k f = refl
 
--- the same hypotheses
+-- equal placements
 pub ranked-same : (k : Ranking) (f g : ℕ → Hypothesis) (n : ℕ) → ((j : ℕ) → j < n → f j ≡ g j) → rankedTo k f n ≡ rankedTo k g n
 unfolding rankedTo
 ranked-same k f g zero e = refl

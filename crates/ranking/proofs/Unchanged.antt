@@ -1,5 +1,5 @@
--- A placement that takes the place of neither best nor runner-up changes nothing of a ranking but the count; so a loop may hold best and
--- runner-up without it. Assumes nothing.
+-- A placement that replaces neither best nor runner-up changes only the count, so a loop may skip it for best and
+-- runner-up. Assumes nothing.
 use mathlib.Core.Path.{_≡_, refl, sym, ap, _∙_}
 use Prim.Native.Nat.{ℕ, _+_}
 use native.Mathlib.Omega.{arith}
@@ -35,11 +35,11 @@ module _ (k : Ranking) (f : ℕ → Hypothesis) where
   held-none = ap (ranking (k .best) (k .«runner_up»)) (omega arith)
 
   module _ (n : ℕ) (h : Ranking) (g : Held k f n h) where
-    -- with one more that is ranked
+    -- one more that is ranked
     pub held-ranked : (x : Hypothesis) (h' : Ranking) → x ≡ f n → h' ≡ ranked h x → Held k f (n + 1) h'
     held-ranked x h' a e = rw (e, a) (ap (ranking _ _) (omega arith) ∙ ap (λ (y : Ranking). ranked y (f n)) g ∙ ranked-next k f n)
 
-    -- with one more that changes nothing
+    -- one more that changes nothing
     pub held-unchanged : (e : Evidence) → e ≡ f n .evidence → changesNothing (h .best) (h .«runner_up») e ≡ true → Held k f (n + 1) h
     held-unchanged e a t =
         let p = h .best in

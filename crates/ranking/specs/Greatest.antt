@@ -1,4 +1,4 @@
--- Document 01, Search: the order of evidence, the first greatest of a list of placements with their evidence, and the list without it.
+-- Document 01, Search: the order of evidence, the first greatest of a list of placements, and the list without it.
 use mathlib.Core.Bool.{Bool, true, false, cond}
 use mathlib.Core.List.{List, [], _∷_}
 use lib.Ieee.{lt}
@@ -8,13 +8,13 @@ use Rattle.ranking.specs.declared.Hypothesis.{Hypothesis}
 use Rattle.ranking.specs.declared.Choice.{Choice}
 use Rattle.ranking.specs.declared.Choice.the-variants as choice
 
--- None lies below every number.
+-- `Absent` is below every number.
 abbrev pub liesBelow : Evidence → Evidence → Bool
 liesBelow x evidence.Absent = false
 liesBelow evidence.Absent (evidence.Number y) = true
 liesBelow (evidence.Number x) (evidence.Number y) = lt x y
 
--- The first greatest of a list: its head, unless the first greatest of the others lies above it.
+-- `firstGreatest`: the first placement of maximum evidence (argmax). The head, unless that of the others is above it.
 abbrev pub over : Hypothesis → Choice → Choice
 over h choice.Absent = choice.Placement h
 over h (choice.Placement g) = cond (liesBelow (h .evidence) (g .evidence)) (choice.Placement g) (choice.Placement h)

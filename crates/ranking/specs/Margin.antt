@@ -14,7 +14,7 @@ epsilon = ofBits binary32 0x34000000
 abbrev pub atLeast : Float → Float → Float
 atLeast low x = cond (lt x low) low x
 
--- The lead over the runner-up as a share of the best's capacity: 1 if the runner-up is absent or none.
+-- The gap to the runner-up, normalised by the best's capacity: 1 if the runner-up or its evidence is absent.
 abbrev pub share : Float → Float → Evidence → Float
 share x cap evidence.Absent = unity
 share x cap (evidence.Number y) = div binary32 (sub binary32 x y) (atLeast epsilon cap)
@@ -23,7 +23,7 @@ abbrev pub lead : Float → Float → Choice → Float
 lead x cap choice.Absent = unity
 lead x cap (choice.Placement g) = share x cap (g .evidence)
 
--- Margin: 0 if best is none or at most 0.
+-- Margin: normalised gap to the second best; 0 if best is none or at most 0.
 abbrev pub margin : Evidence → Float → Choice → Float
 margin evidence.Absent cap next = nought
 margin (evidence.Number x) cap next = cond (le x nought) nought (lead x cap next)

@@ -1,4 +1,4 @@
--- What `proofs/` shows of the first greatest and of the rest.
+-- The laws of the first greatest and of the rest, proved in `proofs/`.
 use Prim.Native.Nat.{ℕ, suc, _<_}
 use mathlib.Core.Path.{_≡_}
 use mathlib.Core.Bool.{true, false}
@@ -20,7 +20,7 @@ FiniteEvidence (evidence.Number x) = Finite x
 abbrev pub AllFinite : List Hypothesis → Type 0
 AllFinite hs = (k : ℕ) (h : Hypothesis) → getElem? hs k ≡ some h → FiniteEvidence (h .evidence)
 
--- none of the list lies above it, and all before it lie below it; the rest is the list without it
+-- none of the list is above it, and all before it are below it; the rest is the list without it
 pub record IsFirstGreatest (hs : List Hypothesis) (b : Hypothesis) : Type 0 where
   pub place : ℕ
   pub there : getElem? hs place ≡ some b

@@ -1,5 +1,4 @@
-// The best placement and its runner-up, in one pass over the placements, and the margin between the two (hypothesis.rs). Uses `floats` and
-// `grid_alignment`; its laws use `integers`.
+// Ranks placements in one pass: the best, the runner-up, and the margin between the two (hypothesis.rs).
 ghost use mathlib.Core.Path.{_≡_};
 ghost use mathlib.Core.List.{[]};
 ghost use Prim.Native.Nat.{_^_, _<_};
@@ -8,13 +7,13 @@ ghost use Rattle.ranking.specs.Margin.{margin as marginOf};
 ghost use Rattle.ranking.specs.Ranking.{rankingOf, better as betterOf, ranked as rankedOf, keepsPlace, changesNothing};
 use grid_alignment::GridAlignment;
 
-// The evidence of a placement. None lies below every number.
+// The evidence of a placement. `Absent` (upstream's −∞) is below every number.
 pub enum Evidence {
     Number(f32),
     Absent,
 }
 
-// A placement, as an alignment of cells, with its evidence and the count of its contributing cells, by which no placement is ranked.
+// A placement (candidate grid alignment) with its evidence and its number of contributing cells, which does not affect the ranking.
 pub struct Hypothesis {
     pub alignment: GridAlignment,
     pub evidence: Evidence,
@@ -26,14 +25,13 @@ pub enum Choice {
     Absent,
 }
 
-// The best of the placements passed, the best of the others, and how many have been passed.
+// The best of the placements seen, the best of the others, and the number seen.
 pub struct Ranking {
     pub best: Choice,
     pub runner_up: Choice,
     pub total: usize,
 }
 
-// The ranking of no placement.
 pub fn no_ranking() -> Ranking
     ensures { λ r. ⌜ r ≡ rankingOf [] ⌝ }
 {
@@ -44,7 +42,7 @@ pub fn no_ranking() -> Ranking
     }
 }
 
-// None lies below every number.
+// `Absent` is below every number.
 pub fn below(a: Evidence, b: Evidence) -> bool
     ensures { λ r. ⌜ r ≡ lies-below a b ⌝ }
 {
@@ -57,7 +55,7 @@ pub fn below(a: Evidence, b: Evidence) -> bool
     }
 }
 
-// The better of the placement held and h: on a tie the one held, which came first.
+// The better of `held` and h; on a tie `held`, the earlier one.
 fn better(held: Choice, h: Hypothesis) -> Choice
     ensures { λ r. ⌜ r ≡ betterOf held h ⌝ }
 {
@@ -75,7 +73,7 @@ fn better(held: Choice, h: Hypothesis) -> Choice
     }
 }
 
-// One placement more: a new best makes the old one the runner-up.
+// Adds a placement: a new best makes the old one the runner-up.
 pub fn ranked(ranking: Ranking, h: Hypothesis) -> Ranking
     requires { ⌜ ranking .total < 2 ^ 32 ⌝ }
     ensures { λ r. ⌜ r ≡ rankedOf ranking h ⌝ }
@@ -109,7 +107,7 @@ pub fn ranked(ranking: Ranking, h: Hypothesis) -> Ranking
     }
 }
 
-// Is a placement held that does not lie below this evidence? Then one with this evidence does not take its place.
+// Is `held` a placement not below this evidence? Then one with this evidence does not replace it.
 fn keeps_place(held: Choice, evidence: Evidence) -> bool
     ensures { λ r. ⌜ r ≡ keepsPlace held evidence ⌝ }
 {
@@ -122,7 +120,8 @@ fn keeps_place(held: Choice, evidence: Evidence) -> bool
     }
 }
 
-// Whether ranking a placement with this evidence leaves best and runner-up as they are.
+// Does a placement with this evidence leave best and runner-up unchanged?
+// To check the runner-up alone would do for finite evidence, which each caller would have to require.
 pub fn changes_nothing(best: Choice, runner_up: Choice, evidence: Evidence) -> bool
     ensures { λ r. ⌜ r ≡ changesNothing best «runner_up» evidence ⌝ }
 {
@@ -132,7 +131,7 @@ pub fn changes_nothing(best: Choice, runner_up: Choice, evidence: Evidence) -> b
 // f32::EPSILON, 2⁻²³
 const EPSILON: f32 = 1.1920929e-7;
 
-// The lead over the runner-up as a share of the best's capacity.
+// The gap to the runner-up, normalised by the best's capacity.
 pub fn margin(best: Evidence, best_capacity: f32, runner_up: Choice) -> f32
     ensures { λ r. ⌜ r ≡ marginOf best «best_capacity» «runner_up» ⌝ }
 {

@@ -1,16 +1,16 @@
--- Laws of questions: one that is answered with yes or no, and a list of them that goes on with a rest. Assumes nothing.
+-- Laws of checks: one that passes or fails, and a sequence that goes on with a rest. Assumes nothing.
 use mathlib.Core.Path.{_≡_, refl, sym, ap, _∙_}
 use mathlib.Core.Bool.{Bool, true, false}
 use mathlib.Core.Option.{Option, none, some, orElse, Option·none-ne-some}
 use Rattle.refusal.specs.declared.Refusal.{Refusal}
 use Rattle.refusal.specs.Questions.{ask}
 
--- where nothing is refused, this question was answered with yes and nothing is refused after it
+-- if nothing is refused, this check passed and nothing is refused after it
 pub answered : (a : Bool) (r : Refusal) (next : Option Refusal) → ask a r next ≡ none → (a ≡ true) × (next ≡ none)
 answered true r next e = (refl, e)
 answered false r next e = absurd (Option·none-ne-some r (sym e))
 
--- questions that go on with a rest: they refuse as they do alone, else the rest decides
+-- checks that go on with a rest: they refuse as they do alone, else the rest decides
 abbrev pub GoesOn : (Option Refusal → Option Refusal) → Type 0
 GoesOn f = (rest : Option Refusal) → f rest ≡ orElse (f none) rest
 

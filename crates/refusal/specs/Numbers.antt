@@ -1,4 +1,4 @@
--- Document 01, "The questions asked", and document 02: the number of each refusal, and the values it gives.
+-- Document 01, "The questions asked", and document 02: the error number of each refusal, and its values.
 use Prim.Native.Nat.{ℕ}
 use mathlib.Core.List.{List, [], _∷_}
 use lib.Ieee.{binary32, toBits}
@@ -9,7 +9,7 @@ use Rattle.refusal.specs.declared.Refusal.the-variants.{SettingsNotFinit
 use Rattle.refusal.specs.declared.Refusal.the-variants.{TranslationWindow, Margin, NoMarkers}
 use Rattle.refusal.specs.declared.Refusal.the-variants.{CornersOutOfRange, TooManyLinks, TooManyCells, InvalidRecord, CodesAlike, RepeatedPoint}
 
--- the question that was answered with no
+-- error number: the number of the question that failed
 abbrev pub numberOf : Refusal → ℕ
 -- Are rows and cols at least 2?
 numberOf InvalidSize = 1
@@ -37,7 +37,7 @@ numberOf NoCells = 11
 numberOf CellsOutOfRange = 12
 -- Has every sampled cell a whole grid and a fraction from 0 to 1?
 numberOf InvalidSample = 13
--- Has the result list as many places as the entry asks for?
+-- Has the output array as many places as the entry point needs?
 numberOf ListTooShort = 14
 -- Does some turn and translation put every cell on the board?
 numberOf TranslationWindow = 15
@@ -53,12 +53,12 @@ numberOf TooManyLinks = 19
 numberOf TooManyCells = 20
 -- Is the record whole?
 numberOf InvalidRecord = 21
--- Are no two used codes alike?
+-- Are no two used codes equal up to rotation?
 numberOf CodesAlike = 22
--- Is no point filed twice?
+-- Are the grid points of the cells distinct?
 numberOf RepeatedPoint = 23
 
--- the values that a refusal gives: 7 needed and available, 16 the margin, as its bits
+-- the values of an error: 7 needed and available, 16 the margin as its bit pattern
 abbrev pub valuesOf : Refusal → List ℕ
 valuesOf InvalidSize = []
 valuesOf InvalidCellSize = []

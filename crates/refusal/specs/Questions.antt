@@ -1,9 +1,9 @@
--- Document 01, "The questions asked": the first no ends them with its refusal.
+-- Document 01, "The questions asked": validity checks in order; the first failure is the result.
 use mathlib.Core.Bool.{Bool, true, false}
 use mathlib.Core.Option.{Option, some}
 use Rattle.refusal.specs.declared.Refusal.{Refusal}
 
--- a yes goes on to the next question
+-- validity check: a pass goes on to the next
 abbrev pub ask : Bool → Refusal → Option Refusal → Option Refusal
 ask true refused next = next
 ask false refused next = some refused

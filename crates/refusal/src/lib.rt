@@ -1,6 +1,5 @@
-// Every entry's refusals in one enum: the questions of documents 01 and 02 that can be answered with no.
-// A variant has the Rust's error name where the Rust has one (board.rs, board_match/mod.rs).
-// `specs/Numbers.antt` gives each its number and values. Uses `floats`.
+// Defines the errors of all entry points: the checks (questions) of documents 01 and 02 that can fail.
+// A variant has upstream's error name if there is one. `specs/Numbers.antt` has the error numbers and values.
 ghost use mathlib.Core.Path.{_≡_};
 ghost use lib.ListN.{getD};
 ghost use Rattle.refusal.specs.Numbers.{numberOf, valuesOf};
@@ -25,7 +24,7 @@ pub enum Refusal {
     TranslationWindow,
     Margin { margin: f32 },
     NoMarkers,
-    // The corner entry, the link entry, the cells entry, the record.
+    // Corner, link and cells entry points, the record.
     CornersOutOfRange,
     TooManyLinks,
     TooManyCells,
@@ -36,7 +35,7 @@ pub enum Refusal {
 }
 
 impl Refusal {
-    // The papers' number of the question that was answered with no.
+    // The error number: the number of the question that failed.
     pub fn number(self) -> u32
         ensures { λ r. ⌜ r ≡ numberOf self ⌝ }
     {
@@ -70,7 +69,7 @@ impl Refusal {
         }
     }
 
-    // The value at place `k` of those that the refusal gives, 0 past the last.
+    // Value `k` of the error, 0 past the last.
     pub fn value(self, k: usize) -> u32
         ensures { λ r. ⌜ r ≡ getD (valuesOf self) k 0 ⌝ }
     {

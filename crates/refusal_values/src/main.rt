@@ -1,10 +1,9 @@
-// Reads a shot record on the standard input and prints the values that its refusal's sentence (bin/refusals.tsv) tells, for `bin/place`. One line:
-//
+// Reads a shot record from the standard input and prints the values of its error message (tables/refusals.tsv) for `bin/place`.
+// It prints one line of decimal numbers:
 //     NUMBER VALUE VALUE MINIMUM
-//
-// NUMBER is the refusal's, 0 if the record is placed. The values are the refusal's, as words (include/charuco.h): 7 has needed and available,
-// 16 the margin, as its bits; a value that it has not is 0. MINIMUM is the record's minimum margin, as its bits; 0 if the record is not whole. All are
-// decimal. Uses `standard_input`, `board_match`, `shot_record`, `refusal`, `floats`, `score_matrix` and `place_text`, and `io` and `libc` to write.
+// NUMBER is the error number, 0 if the record is placed. The values are those of the error, as words (include/charuco.h): 7 has needed and available,
+// 16 the bit pattern of the margin; a missing value is 0. MINIMUM is the bit pattern of the record's minimum margin, 0 if the record is not
+// well-formed.
 ghost use mathlib.Core.Path.{_≡_};
 ghost use Prim.Native.Nat.{_≤_};
 ghost use lib.ListN.{length};
@@ -59,7 +58,7 @@ fn put_words(text: &mut [u8], number: u32, first: u32, second: u32, minimum: u32
     writer::put(text, next, b'\n')
 }
 
-// The line for a record, whole if the text has 44 bytes. The list of markers is what a match fills.
+// The line for a record, complete if the text has 44 bytes. Match writes to `markers`.
 fn put_values(bytes: &[u8], markers: &mut [u32], text: &mut [u8]) -> usize
     ensures line { λ r. ⌜ Printed (valuesLine (now (bytes .entry)) (now (markers .entry))) 0 r (now (text .entry)) (now (text .exit)) ⌝ }
     ensures room { λ _. ⌜ length (valuesLine (now (bytes .entry)) (now (markers .entry))) ≤ 44 ⌝ }
@@ -72,7 +71,7 @@ fn put_values(bytes: &[u8], markers: &mut [u32], text: &mut [u8]) -> usize
     put_words(text, number, first, second, minimum_in(header))
 }
 
-// As `place` does: one byte more than a record may have is read, and what failed is told on the standard error.
+// As in `place`: one byte more than a record may have is read, and a failure is printed on the standard error.
 fn main() {
     let mut bytes: [u8; 65536] = [0; 65536];
     let input = standard_input::read_all(&mut bytes);

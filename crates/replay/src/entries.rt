@@ -1,11 +1,11 @@
-// Kinds 5 to E, 10D and 10E: the entries, asked through their C functions, and the text of `place` for a record.
+// Kinds 5 to E, 10D and 10E: calls of the entry points through their C functions, and the text of `place` for a record.
 use stored_rows::answers;
 use stored_rows::answers::Answer;
 use stored_rows::answers::BEFORE;
 use stored_rows::lists;
 use stored_rows::numbers;
 
-// The number that the reader of a kind answers.
+// The number that the reader of a kind returns.
 fn number_of(bytes: &[u8], kind: u64, k: usize, words: &mut [u32]) -> u32 {
     match kind {
         5 => charuco::charuco_read_header(bytes, words),
@@ -16,7 +16,7 @@ fn number_of(bytes: &[u8], kind: u64, k: usize, words: &mut [u32]) -> u32 {
     }
 }
 
-// The digest of so many bytes from a place on; one past the end counts as 0.
+// The digest of so many bytes from an offset on; one past the end counts as 0.
 fn of_part(bytes: &[u8], first: u32, n: u32) -> u32 {
     let mut h: u32 = 0;
     let mut k = first as usize;
@@ -28,7 +28,7 @@ fn of_part(bytes: &[u8], first: u32, n: u32) -> u32 {
     h
 }
 
-// Kinds 5 to 9. A grid is told by where it is, so its bytes are digested there.
+// Kinds 5 to 9. A grid is returned as its byte range, so the digest is that of the bytes there.
 pub fn read(bytes: &[u8], kind: u64, k: usize) -> Answer {
     let mut words = BEFORE;
     let number = number_of(bytes, kind, k, &mut words);
@@ -61,7 +61,7 @@ pub fn text(bytes: &[u8; 65536], read: usize) -> Answer {
     }
 }
 
-// Kind C: corners, words of their grid points, places. The words behind those of the corners are inliers.
+// Kind C: corners, words of their grid points, length of the output array. The words after those of the corners are inliers.
 fn whole_cells(words: &[u64], cells: &mut [i32], row: [u64; 32]) -> Answer {
     let mut told = BEFORE;
     let scores = lists::scores(words);
@@ -90,7 +90,7 @@ pub fn marker_cells(words: &[u64], row: [u64; 32]) -> Answer {
     whole_cells(words, &mut cells[..places], row)
 }
 
-// Kinds D and 10D: what a board is made of, the alignment of the corners, words of the grid points.
+// Kinds D and 10D: the board, the alignment of the corners, words of the grid points.
 fn corners(words: &[u64], row: [u64; 32], list: &mut [u32], told: &mut [u32]) -> u32 {
     let bits = numbers::lows(row);
     let code_count = numbers::least(row[7], 1025);
@@ -118,7 +118,7 @@ fn corners(words: &[u64], row: [u64; 32], list: &mut [u32], told: &mut [u32]) ->
     )
 }
 
-// Kinds E and 10E: what a board is made of, the mode.
+// Kinds E and 10E: the board, the mode.
 fn links(words: &[u64], row: [u64; 32], list: &mut [u32], told: &mut [u32]) -> u32 {
     let bits = numbers::lows(row);
     let code_count = numbers::least(row[7], 1025);
@@ -155,7 +155,7 @@ fn number_with_list(
     }
 }
 
-// Kinds A, D and E, 10D and 10E, which are lent a list of words.
+// Kinds A, D and E, 10D and 10E, which have an output array of words.
 pub fn with_list(bytes: &[u8], words: &[u64], row: [u64; 32], list: &mut [u32]) -> Answer {
     let mut told = BEFORE;
     lists::fill(list);

@@ -1,6 +1,6 @@
-// Asks our library again what the rows of the file `stdin` ask, and prints how many answers agree. The comment at the top of that file says what a row
-// is. Entries are asked through the C functions of `charuco`, the text through `place_text`, the rest in `stored_rows`. Uses `floats`,
-// `grid_alignment`, `ranking` and `board_match` besides.
+// Computes the stored answers in the file `stdin` again with this library and prints how many agree.
+// The comment at the top of that file defines the rows. Entry points are called through the C functions of `charuco`, the text comes from
+// `place_text`, the rest from `stored_rows`.
 mod entries;
 mod rows;
 mod texts;
@@ -10,7 +10,7 @@ use stored_rows::tally;
 use stored_rows::tally::Tally;
 use stored_rows::tally::Used;
 
-// The lists are lent by `main`, which owns them.
+// `main` owns the arrays.
 fn after_input(bytes: &mut [u8; 65536], words: &mut [u64]) -> Tally {
     let mut tally = Tally::new();
     let mut used = Used { bytes: 0, words: 0 };

@@ -1,4 +1,4 @@
-// What a row does, by its kind: it adds to the lists or asks about them.
+// The effect of a row, by its kind: it adds to the lists, or compares a result computed from them.
 use crate::entries;
 use crate::texts;
 use stored_rows::answers;
@@ -10,7 +10,7 @@ use stored_rows::parts;
 use stored_rows::tally::Effect;
 use stored_rows::tally::Used;
 
-// Kind 0. Where there is no word there is no row.
+// Kind 0. Without a word there is no row.
 fn emptied(count: usize) -> Effect {
     match count {
         0 => Effect::Nothing,
@@ -23,7 +23,7 @@ fn shape(arguments: u8, words: u8) -> Shape {
     Shape { arguments, words }
 }
 
-// No row has 32 arguments: they stand for an unknown kind.
+// No row has 32 arguments: that number means an unknown kind.
 fn shape_of(kind: u64) -> Shape {
     match kind {
         0x5 => shape(0, 13),
@@ -53,7 +53,7 @@ fn shape_of(kind: u64) -> Shape {
     }
 }
 
-// How many places of the list for results a row of kind A, D or E lends, or 10D or 10E.
+// The length of the output array that a row of kind A, D or E, 10D or 10E requests.
 fn places_of(row: [u64; 32]) -> u64 {
     match numbers::kind(row[0]) {
         0xA => row[1],
@@ -69,7 +69,7 @@ fn answer_with_list(bytes: &[u8], words: &[u64], row: [u64; 32]) -> Answer {
     entries::with_list(bytes, words, row, &mut list[..places])
 }
 
-// The answer to a row that asks, about the bytes and words that are in use.
+// The result for a row, from the used bytes and words.
 fn answer(bytes: &[u8], words: &[u64], row: [u64; 32]) -> Answer {
     let kind = numbers::kind(row[0]);
     match kind {
@@ -94,7 +94,7 @@ fn lent(bytes: &[u8], words: &[u64], used: Used, row: [u64; 32]) -> Answer {
     answer(&bytes[..byte_count], &words[..word_count], row)
 }
 
-// Kind B takes the bytes as an array, as `place` has them.
+// Kind B takes the bytes as an array, as `place` does.
 fn told(bytes: &[u8; 65536], words: &[u64], used: Used, row: [u64; 32]) -> Answer {
     if row[0] == 0xB {
         return entries::text(bytes, used.bytes);

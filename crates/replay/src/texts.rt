@@ -1,4 +1,4 @@
-// Kind F: the text of an answer that a record need not have. The words are the 19 of a match, then those of its markers.
+// Kind F: the text of a result that no record need have. The words are the 19 of a match, then those of its markers.
 use board_match::Match;
 use board_match::Matched;
 use grid_alignment::GridAlignment;
@@ -26,7 +26,7 @@ fn evidence(is_number: u64, bits: u64) -> Evidence {
     Evidence::Number(floats::from_bits(numbers::low(bits)))
 }
 
-// The five words of a placement from place `at` on, and its count of contributing cells at `count_at`.
+// The five words of a placement from index `at` on, and its number of contributing cells at `count_at`.
 fn hypothesis(words: &[u64], at: u8, count_at: u8) -> Hypothesis {
     let first = at as usize;
     Hypothesis {

@@ -23,7 +23,7 @@ use Rattle.score_matrix.specs.Accuracy.{PassedTable, ByteSamples, Weight
 use Rattle.score_matrix.proofs.Places.{area}
 use Rattle.score_matrix.proofs.Ranges.{entry-range, null-range}
 
--- ---- what a score adds
+-- ---- the terms of a score
 entry-small : (table : List Float) (a b : ℕ) → PassedTable table → a < 256 → b < 256 → Nonpositive binary32 (2 ^ 152) (entry table a b)
 entry-small table a b p h k =
     let i = a + 255 - b in
@@ -57,7 +57,7 @@ module _ (table : List Float) (s : Samples) (code : ℕ) (p : PassedTable table)
       sub-at-most binary32 (score table s code) (nullScore (s .bits)) 158 (score-small .holds) (null-small .holds) (score-small .is-finite)
       (null-small .is-finite) (nonpositive-apart score-small null-small) (lit≤ tt) (score-small .sign) (null-small .sign)
 
-  -- of size at most 512
+  -- absolute value at most 512
   evidence-small : natAbs (unitsOf (evidence table s code)) ≤ 2 ^ 158
   evidence-small = difference .under 1 158 (lit< tt) (nonpositive-apart score-small null-small)
 

@@ -1,4 +1,4 @@
--- What the bits of a code add, as a list holds it. Assumes nothing.
+-- The log-likelihoods of the bits of a cell as a list. Assumes nothing.
 use mathlib.Core.Path.{_≡_, ap, sym, _∙_}
 use mathlib.Core.List.{List}
 use Prim.Native.Nat.{ℕ, zero, suc, _+_, _*_, _<_}
@@ -17,7 +17,7 @@ use Rattle.matcher.proofs.Turns.{bit-turned}
 use Rattle.score_matrix.specs.Scores.{Samples, bitCount, likelihood, term, score}
 use Rattle.score_matrix.specs.Likelihoods.{HoldsLikelihoods, picked, Sources, pickedFrom}
 
--- what is written of bit k leaves the other places
+-- writing those of bit k leaves other elements unchanged
 module _ (k : ℕ) (l : List Float) (zeros ones : Float) where
   abbrev written : List Float
   written = set (set l (2 * k) zeros) (2 * k + 1) ones
@@ -28,7 +28,7 @@ module _ (k : ℕ) (l : List Float) (zeros ones : Float) where
   pub kept-next : (first : List Float) → KeptFrom nan (2 * k) first l → KeptFrom nan (2 * (k + 1)) first written
   kept-next first kept i h = elsewhere i (λ e. absurd (omega (arith, e, h))) (λ e. absurd (omega (arith, e, h))) ∙ kept i (omega (arith, h))
 
--- one bit more is written
+-- those of one more bit are written
 module _ (table : List Float) (s : Samples) (k : ℕ) (l : List Float) (zeros ones : Float) (holds : HoldsLikelihoods table s k l) (room : 2 * k + 1 < length l)
     (z : zeros ≡ likelihood table s k 0) (o : ones ≡ likelihood table s k 1) where
   abbrev after : List Float
@@ -48,7 +48,7 @@ module _ (table : List Float) (s : Samples) (k : ℕ) (l : List Float) (zeros on
       below-more (λ j. (getD after (2 * j) nan ≡ likelihood table s j 0) × (getD after (2 * j + 1) nan ≡ likelihood table s j 1)) k
       (λ j h. (earlier (2 * j) (omega arith) ∙ holds j h .0, earlier (2 * j + 1) (omega arith) ∙ holds j h .1)) here
 
--- what is picked is what the score adds
+-- the value for a bit is the term of the score
 picked-term : (table : List Float) (s : Samples) (n : ℕ) (l : List Float) (code k : ℕ) → HoldsLikelihoods table s n l → k < n
     → picked l code k ≡ term table s code k
 picked-term table s n l code k holds h = go (bit code k) (bit-small code k)
@@ -62,7 +62,7 @@ pub picked-score : (table : List Float) (s : Samples) (n : ℕ) (l : List Float)
     → sumTo (picked l code) n ≡ sumTo (term table s code) n
 picked-score table s n l code holds = sum-ext (picked l code) (term table s code) n (λ k h. picked-term table s n l code k holds h)
 
--- picked in the turned order it is what the score of the turned code adds
+-- in the turned order it is the term of the turned code's score
 from-term : (table : List Float) (s : Samples) (turn : ℕ) (l : List Float) (sources : List ℕ) (code k : ℕ) → HoldsLikelihoods table s (bitCount s) l
     → Sources (s .bits) turn (bitCount s) sources → k < bitCount s
     → pickedFrom l sources code k ≡ term table s (turned (s .bits) turn code) k

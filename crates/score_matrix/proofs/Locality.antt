@@ -1,4 +1,4 @@
--- A score and a code read depend on the bytes of the grid, not on where in a record it stands. Assumes nothing.
+-- A score and a read code depend on the bytes of the grid, not on its offset in a record. Assumes nothing.
 use mathlib.Core.Path.{_≡_, refl, sym, ap, ap₂, _∙_}
 use mathlib.Core.List.{List}
 use mathlib.Core.Bool.{cond}

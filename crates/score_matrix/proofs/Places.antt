@@ -1,4 +1,4 @@
--- Where the bits of a code stand in a cell's grid. Assumes nothing.
+-- The indices of a code's bits in a cell's grid. Assumes nothing.
 use mathlib.Core.Path.{_≡_, ap, ap₂, sym, subst, _∙_}
 use Prim.Native.Nat.{ℕ, _+_, _*_, _≤_, _<_}
 use native.Mathlib.Nat.{mul-le-mul, mul-le-mul-right, div-add-mod', zero-mod, zero-div}
@@ -9,7 +9,7 @@ use Rattle.matcher.specs.Codes.{bitPlace, indexOf}
 use Rattle.matcher.proofs.Turns.{Inside, place-inside, place-index}
 use Rattle.score_matrix.specs.Scores.{Samples, side, gridIndex, grey}
 
--- a code has 64 bits at most
+-- a code has at most 64 bits
 pub area : (bits : ℕ) → bits ≤ 8 → bits * bits ≤ 64
 area bits h = mul-le-mul {n₂ = 8} {m₂ = 8} h h
 
@@ -27,7 +27,7 @@ index-inside bits border p h =
     let l : border + p .y + 1 ≤ side bits border = omega (arith, h .row) in
     omega (arith, mul-le-mul-right (side bits border) l, h .column)
 
--- what is read there is the grey of that bit
+-- the byte there is the grey of that bit
 pub read-grey : (s : Samples) (k i : ℕ) (p : Place) → i ≡ gridIndex (s .bits) (s .border) p → p ≡ bitPlace (s .bits) k → getD (s .grid) i 0 ≡ grey s k
 read-grey s k i p a b = ap (λ (j : ℕ). getD (s .grid) j 0) (a ∙ ap (gridIndex (s .bits) (s .border)) b)
 
@@ -35,7 +35,7 @@ read-grey s k i p a b = ap (λ (j : ℕ). getD (s .grid) j 0) (a ∙ ap (gridInd
 pub first-place : (bits : ℕ) → record { x = 0; y = 0 } ≡ bitPlace bits 0
 first-place bits = ap₂ (λ (a b : ℕ). record { x = a; y = b }) (sym (zero-mod bits)) (sym (zero-div bits))
 
--- the bit after the one at p, row by row
+-- the bit after the one at p (row-major)
 module _ (bits k : ℕ) (p : Place) (h : p .x < bits) (e : p ≡ bitPlace bits k) where
   after : k + 1 ≡ p .y * bits + (p .x + 1)
   after =

@@ -22,7 +22,7 @@ use Rattle.score_matrix.specs.declared.BorderSample.{BorderSample}
 use Rattle.score_matrix.specs.declared.BorderSample.the-variants as border
 use Rattle.score_matrix.specs.Weights.{weight, FractionInRange, WeightRule}
 
--- ---- table entries: one test of the whole table, carried to each entry
+-- ---- table entries: from the check of the whole table to each entry
 at : (xs : List Float) → T (entriesInRange xs) → (i : ℕ) → i < length xs → Between leastEntry nought (getD xs i nan)
 at [] t i h = absurd (not-suc-le-zero h)
 at (x ∷ xs) t zero h = let r = and-l (entryInRange x) (entriesInRange xs) t in
@@ -65,7 +65,7 @@ pub is-weight : (config : BoardMatchConfig) (b : BorderSample) → Finite (confi
     → WeightInRange (weight config b)
 is-weight config b t₀ h = record { float = weight-fits config b; range = weight-range config b t₀ h }
 
--- ---- the null score: one test of the sides from 0 to 8
+-- ---- the null score: one check of the sides from 0 to 8
 unfoldable all : (ℕ → Bool) → ℕ → Bool
 all f zero = true
 all f (suc n) = f n && all f n

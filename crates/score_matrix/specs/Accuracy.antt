@@ -1,5 +1,5 @@
--- Document 01, Search: the accuracy rule, for one cell. Exact values are whole numbers: of 2⁻¹⁴⁹ for a score and for evidence, of 2⁻²⁹⁸ with a
--- weight. Table entries, weights and null score count as their f32 numbers. 2⁻¹⁶ is 2 ^ 133 of the former and 2 ^ 282 of the latter.
+-- Document 01, Search: the accuracy rule, for one cell. Exact values are integer multiples of 2⁻¹⁴⁹ for a score and for evidence, of 2⁻²⁹⁸ with
+-- a weight. Table entries, weights and null score count as their f32 numbers. 2⁻¹⁶ is 2 ^ 133 of the former and 2 ^ 282 of the latter.
 use Prim.Native.Nat.{ℕ, _*_, _^_, _≤_, _<_}
 use mathlib.Core.Bool.{true}
 use mathlib.Core.List.{List}
@@ -12,7 +12,7 @@ use Rattle.floats.specs.Units.{unitsOf, Finite, nought, unity, exactTo, Between
 use Rattle.score_matrix.specs.Table.{isTable}
 use Rattle.score_matrix.specs.Scores.{Samples, bitCount, term, score, nullScore, evidence}
 
--- the sum of the bits² table entries that the score adds
+-- `exact`: computed without rounding. The sum of the bits² table entries that the score adds
 abbrev pub exactScore : List Float → Samples → ℕ → ℤ
 exactScore table s code = exactTo (term table s code) (bitCount s)
 
@@ -20,14 +20,14 @@ exactScore table s code = exactTo (term table s code) (bitCount s)
 abbrev pub exactEvidence : List Float → Samples → ℕ → ℤ
 exactEvidence table s code = exactScore table s code -ℤ unitsOf (nullScore (s .bits))
 
--- times the weight: what a contributing cell adds to a placement, as f32 multiplies and exactly
+-- times the weight: what a contributing cell adds to a placement, in f32 and exact
 abbrev pub weighted : Float → List Float → Samples → ℕ → Float
 weighted w table s code = mul binary32 w (evidence table s code)
 
 abbrev pub exactWeighted : Float → List Float → Samples → ℕ → ℤ
 exactWeighted w table s code = unitsOf w *ℤ exactEvidence table s code
 
--- what is known of a table that question 10 lets pass, of a cell, and of a weight
+-- what is known of a table that passes question 10, of a cell, and of a weight
 pub record PassedTable (table : List Float) : Type 0 where
   pub is-table : T (isTable table)
   pub floats : (i : ℕ) → T (fits binary32 (getD table i nan))

@@ -1,4 +1,4 @@
--- What a score and a code read depend on: the bytes of that grid, not where in a record it stands; and of these bytes the greys at the code's bits.
+-- A score and a read code depend only on the bytes of the grid, not on its offset in a record; and of these bytes on the greys at the code's bits.
 use mathlib.Core.Path.{_≡_}
 use mathlib.Core.List.{List}
 use Prim.Native.Nat.{ℕ, _+_, _*_, _<_}
@@ -7,15 +7,15 @@ use lib.Ieee.{Float}
 use Rattle.lent_list.specs.Parts.{part}
 use Rattle.score_matrix.specs.Scores.{Samples, samples, bitCount, side, grey, score, readCode}
 
--- two records have the same n bytes, each from a place of its own on
+-- two records have the same n bytes, each from its own offset on
 abbrev pub SameBytes : ℕ → ℕ → List ℕ → ℕ → List ℕ → Type 0
 SameBytes n at a to b = (i : ℕ) → i < n → getD a (at + i) 0 ≡ getD b (to + i) 0
 
--- a cell whose grid is the part of a record from a place on
+-- a cell whose grid is in a record, from an offset on
 abbrev pub inRecord : ℕ → ℕ → ℕ → ℕ → List ℕ → Samples
 inRecord bits border threshold at bytes = samples bits border threshold (part at (side bits border * side bits border) bytes)
 
--- the same score for each table and code, and the same code read
+-- the same score for each table and code, and the same read code
 pub record EqualScores (s t : Samples) : Type 0 where
   pub scores : (table : List Float) (code : ℕ) → score table s code ≡ score table t code
   pub codes : readCode s ≡ readCode t

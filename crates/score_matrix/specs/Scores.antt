@@ -11,7 +11,7 @@ use Rattle.matcher.specs.declared.Place.{Place}
 use Rattle.matcher.specs.Codes.{bit, fromBits, bitPlace}
 use Rattle.score_matrix.specs.Table.{entry}
 
--- What is sampled of a cell: the side of its code, the border around it, the threshold and the grey bytes row by row.
+-- The samples of a cell: the side of its code, the border around it, the threshold and the grey bytes (row-major).
 pub record Samples : Type 0 where
   pub bits : ℕ
   pub border : ℕ
@@ -21,14 +21,14 @@ pub record Samples : Type 0 where
 abbrev pub samples : ℕ → ℕ → ℕ → List ℕ → Samples
 samples bits border threshold grid = record { bits = bits; border = border; threshold = threshold; grid = grid }
 
--- how many bits a code has, and how many bytes are in a row of the grid
+-- the number of bits of a code, and of bytes in a row of the grid
 abbrev pub bitCount : Samples → ℕ
 bitCount s = s .bits * s .bits
 
 abbrev pub side : ℕ → ℕ → ℕ
 side bits border = bits + 2 * border
 
--- where the bit at a place of a code stands in the grid
+-- the index in the grid of the bit at a place
 abbrev pub gridIndex : ℕ → ℕ → Place → ℕ
 gridIndex bits border p = (border + p .y) * side bits border + (border + p .x)
 
@@ -36,7 +36,7 @@ gridIndex bits border p = (border + p .y) * side bits border + (border + p .x)
 abbrev pub grey : Samples → ℕ → ℕ
 grey s k = getD (s .grid) (gridIndex (s .bits) (s .border) (bitPlace (s .bits) k)) 0
 
--- What bit k of a code adds to the score, with d = threshold − grey: entry −d where it is 0, entry d where it is 1.
+-- Log-likelihood of bit k, with d = threshold − grey: entry −d if the bit is 0, entry d if it is 1.
 abbrev pub likelihood : List Float → Samples → ℕ → ℕ → Float
 likelihood table s k zero = entry table (grey s k) (s .threshold)
 likelihood table s k (suc b) = entry table (s .threshold) (grey s k)
@@ -44,7 +44,7 @@ likelihood table s k (suc b) = entry table (s .threshold) (grey s k)
 abbrev pub term : List Float → Samples → ℕ → ℕ → Float
 term table s code k = likelihood table s k (bit code k)
 
--- it starts at 0 and adds, for k from 0 to bits² − 1
+-- Log-likelihood of the samples given the code: starts at 0 and adds, for k from 0 to bits² − 1.
 abbrev pub score : List Float → Samples → ℕ → Float
 score table s code = sumTo (term table s code) (bitCount s)
 
@@ -52,15 +52,15 @@ score table s code = sumTo (term table s code) (bitCount s)
 abbrev pub ln2 : Float
 ln2 = ofBits binary32 0x3F317218
 
--- bits² × −LN_2
+-- Log-likelihood given random bits: bits² × −LN_2.
 abbrev pub nullScore : ℕ → Float
 nullScore bits = mul binary32 (ofInt binary32 (pos (bits * bits))) (neg ln2)
 
--- score − null
+-- Log-likelihood ratio of the code against random bits: score − null.
 abbrev pub evidence : List Float → Samples → ℕ → Float
 evidence table s code = sub binary32 (score table s code) (nullScore (s .bits))
 
--- the code read from a cell: a bit is set where grey < threshold
+-- the code read from a cell: a bit is set if grey < threshold
 abbrev pub readBit : Samples → ℕ → ℕ
 readBit s k = cond (ltb (grey s k) (s .threshold)) 1 0
 

@@ -1,4 +1,4 @@
--- The likelihood table (document 01, "What takes another shape"): 511 floats, entry d standing at place d + 255.
+-- The likelihood table (document 01, "What takes another shape"): 511 log-likelihoods as floats, entry d at index d + 255.
 use Prim.Native.Nat.{ℕ, _+_, _-_, _<_}
 use mathlib.Core.Bool.{Bool, true, _&&_}
 use mathlib.Core.List.{List, [], _∷_, _++_, map}
@@ -27,7 +27,7 @@ entriesInRange (x ∷ xs) = entryInRange x && entriesInRange xs
 abbrev pub isTable : List Float → Bool
 isTable table = eqb (length table) 511 && entriesInRange table
 
--- The table for slope 36 and floor −6, by its bits: −6 up to d = −43, −0.0 from d = 118 on.
+-- The table for slope 36 and floor −6, as bit patterns: −6 up to d = −43, −0.0 from d = 118 on.
 unfoldable pub patterns : List ℕ
 patterns =
     replicate 213 0xC0C00000
@@ -56,7 +56,7 @@ patterns =
 unfoldable pub builtIn : List Float
 builtIn = map (ofBits binary32) patterns
 
--- each entry of a table that passes question 10 lies from −8 to 0, and the built-in table passes
+-- each entry of a table that passes question 10 is from −8 to 0, and the built-in table passes
 abbrev pub EntryRule : Type 0
 EntryRule = (table : List Float) → T (isTable table) → (i : ℕ) → i < 511 → Between leastEntry nought (getD table i nan)
 

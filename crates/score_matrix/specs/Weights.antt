@@ -18,7 +18,7 @@ abbrev pub FractionInRange : BorderSample → Type 0
 FractionInRange (border.BlackFraction fraction) = Between nought unity fraction
 FractionInRange border.Unsampled = Unit {0}
 
--- it lies from 0 to 1, for every finite border threshold and every fraction from 0 to 1
+-- a weight is from 0 to 1, for every finite border threshold and every fraction from 0 to 1
 abbrev pub WeightRule : Type 0
 WeightRule =
     (config : BoardMatchConfig) (b : BorderSample) → Finite (config .«cell_weight_border_threshold») → FractionInRange b

@@ -1,4 +1,4 @@
-// The built-in likelihood table: log_sigmoid(36 / 255 d).max(-6) for d from -255 to 255, an entry a line, as the Rust works it out.
+// The built-in likelihood table: log_sigmoid(36 / 255 d).max(-6) for d from -255 to 255, an entry a line, as upstream computes it.
 // `oracle/` prints these lines.
 pub const LIKELIHOODS: [f32; 511] = [
     -6.0,

@@ -1,4 +1,4 @@
-// The score of one cell, and the code read from it. A grid is the cell's part of the caller's record.
+// The score of one cell, and the code read from it. A grid is a slice of the caller's record.
 ghost use mathlib.Core.Path.{_≡_};
 ghost use mathlib.Core.Bool.{cond};
 ghost use Prim.Native.Nat.{ℕ, _+_, _*_, _<_, _≤_};
@@ -13,7 +13,7 @@ ghost use Rattle.score_matrix.specs.Likelihoods.{HoldsLikelihoods, picke
 use super::table;
 use matcher::Place;
 
-// Where the bit at `p` of a code stands in a grid.
+// The index in the grid of the bit at `p`.
 fn grid_index(bits: u64, border: u64, p: Place) -> usize
     requires { ⌜ (bits ≤ 8) × (border ≤ 255) × (p .x < bits) × (p .y < bits) ⌝ }
     ensures { λ r. ⌜ r ≡ gridIndex bits border p ⌝ }
@@ -21,7 +21,7 @@ fn grid_index(bits: u64, border: u64, p: Place) -> usize
     ((border + p.y) * (bits + 2 * border) + (border + p.x)) as usize
 }
 
-// The place of the bit after the one at `p`, row by row.
+// The place of the next bit (row-major).
 pub fn next_place(bits: u64, p: Place) -> Place
     requires { ⌜ (bits ≤ 8) × (p .x < bits) × (p .y < bits) ⌝ }
     ensures { λ r. ⌜ ((k : ℕ) → p ≡ bitPlace bits k → r ≡ bitPlace bits (k + 1)) ⌝ }
@@ -32,7 +32,7 @@ pub fn next_place(bits: u64, p: Place) -> Place
     Place { x: 0, y: p.y + 1 }
 }
 
-// What the bits of row y add, after those of the rows above it. Places past them keep what they hold.
+// Writes the log-likelihoods of the bits of row y. Elements past them are unchanged.
 fn row_likelihoods(
     likelihoods: &mut [f32; 128],
     table: &[f32; 511],
@@ -62,8 +62,8 @@ fn row_likelihoods(
     }
 }
 
-// What each bit of a code adds to the score of a cell, into a list that is lent so that none is copied: bit k adds entry 2k where it is 0, and
-// entry 2k + 1 where it is 1. Places past the last bit's keep what they hold.
+// The log-likelihoods of the bits of a cell, into an output array to avoid a copy: bit k adds entry 2k to the score if it is 0,
+// entry 2k + 1 if it is 1. Elements past the last bit's are unchanged.
 pub fn bit_likelihoods(
     likelihoods: &mut [f32; 128],
     table: &[f32; 511],
@@ -87,7 +87,7 @@ pub fn bit_likelihoods(
     }
 }
 
-// The score of a turned code, from what its bits add.
+// The score of a turned code, from the log-likelihoods of the bits.
 pub fn sum(likelihoods: &[f32; 128], bits: u8, code: u64) -> f32
     requires { ⌜ bits ≤ 8 ⌝ }
     ensures { λ r. ⌜ r ≡ sumTo (picked (now (likelihoods .entry)) code) (bits * bits) ⌝ }
@@ -104,7 +104,6 @@ pub fn sum(likelihoods: &[f32; 128], bits: u8, code: u64) -> f32
     total
 }
 
-// The score of one cell and one turned code.
 pub fn score(table: &[f32; 511], grid: &[u8], threshold: u8, bits: u8, border: u8, code: u64) -> f32
     requires { ⌜ bits ≤ 8 ⌝ }
     requires { do ⌜ (← ⟦grid.len()⟧) ≡ side bits border * side bits border ⌝ }
@@ -124,7 +123,7 @@ fn below(grey: u8, threshold: u8) -> u64
     0
 }
 
-// The code read from a cell: a bit is 1 where grey is below the threshold.
+// The code read from a cell: a bit is 1 if grey is below the threshold.
 pub fn read_code(grid: &[u8], threshold: u8, bits: u8, border: u8) -> u64
     requires { ⌜ bits ≤ 8 ⌝ }
     requires { do ⌜ (← ⟦grid.len()⟧) ≡ side bits border * side bits border ⌝ }

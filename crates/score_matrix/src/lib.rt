@@ -1,5 +1,4 @@
-// The score of one cell (score_matrix.rs, bit_likelihood.rs; `read_code` of emit.rs). Uses `floats` and `matcher`;
-// its laws use `integers` and `lent_list`.
+// Computes the score (log-likelihood) and the evidence of a cell for a code (score_matrix.rs, bit_likelihood.rs; `read_code` of emit.rs).
 ghost use mathlib.Core.Path.{_≡_};
 ghost use lib.Ieee.{binary32, sub};
 ghost use Rattle.score_matrix.specs.Scores.{nullScore};
@@ -10,20 +9,20 @@ pub mod cell;
 pub mod table;
 pub mod turned;
 
-// The settings of a match, as the Rust's, less the slope and the floor, which the likelihood table has in it.
+// The settings of a match, as upstream's, without slope and floor, which the likelihood table contains.
 pub struct BoardMatchConfig {
     pub px_per_square: f32,
     pub alignment_min_margin: f32,
     pub cell_weight_border_threshold: f32,
 }
 
-// The border of a cell: the fraction of it that is black, which a sampled cell alone has.
+// The black fraction of a cell's border; only sampled cells have one.
 pub enum BorderSample {
     BlackFraction(f32),
     Unsampled,
 }
 
-// How much a cell counts. An unsampled cell does not count.
+// The weight of a cell.
 pub fn cell_weight(config: BoardMatchConfig, border: BorderSample) -> f32
     ensures { λ r. ⌜ r ≡ weight config border ⌝ }
 {
@@ -42,7 +41,7 @@ pub fn cell_weight(config: BoardMatchConfig, border: BorderSample) -> f32
 
 const LN_2: f32 = 0.6931472;
 
-// The score of every cell if each bit were a fair coin.
+// The log-likelihood of the samples given random bits.
 pub fn null_score(bits: u8) -> f32
     ensures { λ r. ⌜ r ≡ nullScore bits ⌝ }
 {
@@ -50,7 +49,7 @@ pub fn null_score(bits: u8) -> f32
     (n * n) as f32 * -LN_2
 }
 
-// How much a score favours a marker: above 0 where it is above the chance score.
+// The log-likelihood ratio of a code against random bits.
 pub fn evidence(score: f32, bits: u8) -> f32
     ensures { λ r. ⌜ r ≡ sub binary32 score (nullScore bits) ⌝ }
 {

@@ -1,4 +1,4 @@
-// The likelihood table (bit_likelihood.rs): the one that is built in, and the test of a lent one.
+// The likelihood table (bit_likelihood.rs): the built-in one, and the check of a caller's.
 ghost use mathlib.Core.Path.{_≡_};
 ghost use Rattle.score_matrix.specs.Table.{entry as entryOf, entryInRange as rangedOf, isTable, builtIn};
 use super::built_in::LIKELIHOODS;

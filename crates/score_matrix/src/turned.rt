@@ -1,4 +1,4 @@
-// The scores of turned codes, from what the bits of a cell add. No code is turned: its bits are picked in the order of the turned one.
+// The scores of turned codes. No code is turned: its bits are read in the order of the turned one.
 ghost use mathlib.Core.Path.{_≡_};
 ghost use Prim.Native.Nat.{ℕ, _*_, _^_, _<_, _≤_};
 ghost use lib.ListN.{length, getD};
@@ -17,7 +17,7 @@ fn source_bit(n: u64, turn: u8, p: Place) -> u8
     (q.y * n + q.x) as u8
 }
 
-// Which bit of a code each bit of the turned code is.
+// For each bit of the turned code, the bit of the code that it is.
 pub fn source_bits(bits: u8, turn: u8) -> [u8; 64]
     requires { ⌜ bits ≤ 8 ⌝ }
     ensures { λ r. ⌜ Sources bits turn (bits * bits) r ⌝ }
@@ -35,15 +35,15 @@ pub fn source_bits(bits: u8, turn: u8) -> [u8; 64]
     sources
 }
 
-// What a bit adds: `half` is the half of a code that has it, and `one` has it set alone.
+// The log-likelihood of a bit: `half` is the half of the code that has it, `one` its mask.
 fn chosen(half: u32, one: u32, clear: f32, set: f32) -> f32
     ensures { λ r. ⌜ ((s : ℕ) → one ≡ 2 ^ s → r ≡ byBit (bit half s) clear set) ⌝ }
 {
     if half & one == 0 { clear } else { set }
 }
 
-// Adds one bit to all eight scores: bit s, which is in the half of each code that starts at lane `from`. Each score chooses by itself, so that the
-// compiler adds four of them by one instruction. `lanes` is a slice, because the range of elements is known of slices alone.
+// Adds bit s to all eight scores; `from` is the first lane of the halves that have it. Each score selects by itself, so that the
+// compiler adds four by one instruction. `lanes` is a slice because only for slices is the range of elements known.
 fn add_bit(sums: &mut [f32; 8], lanes: &[u32], s: u8, clear: f32, set: f32)
     requires { ⌜ (s < 64) × (length (now sums) ≡ 8) × (length (now lanes) ≡ 16) ⌝ }
     ensures size { λ _. ⌜ length (now (sums .exit)) ≡ 8 ⌝ }
@@ -59,8 +59,8 @@ fn add_bit(sums: &mut [f32; 8], lanes: &[u32], s: u8, clear: f32, set: f32)
     }
 }
 
-// The scores of eight codes after the turn that `sources` is for. Lane x has the low half of code x, and lane x + 8 its high half. Within a score the
-// order of additions is that of `sumTo`.
+// The scores of eight codes after the turn of `sources`. Lane x has the low half of code x, lane x + 8 its high half. Each score adds
+// in the order of `sumTo`.
 pub fn sum_eight(
     likelihoods: &[f32; 128],
     sources: &[u8; 64],

@@ -1,4 +1,4 @@
--- The cells of a record: what is read is what was written, and what is written is what was read. Assumes nothing.
+-- The cells of a record: parsing returns what was encoded, and encoding returns what was parsed. Assumes nothing.
 use mathlib.Core.Path.{_≡_, refl, ap, _∙_}
 use Prim.Native.Nat.{ℕ, zero, suc, _+_, _≤_, _<_}
 use mathlib.Core.List.{List, [], _∷_, _++_, append-assoc}
@@ -63,7 +63,7 @@ sample-fits bytes b (suc n) grid at h =
       greys = all-take (λ (x : ℕ). x < 256) grid (drop (at + 5) bytes) (all-drop (λ (x : ℕ). x < 256) (at + 5) bytes b);
     }
 
--- ---- a cell: its point, and its sample behind it
+-- ---- a cell: its grid point, then its sample
 abbrev pointAt : List ℕ → ℕ → Point
 pointAt bytes at = record { u = number 2 at bytes; v = number 2 (at + 2) bytes }
 

@@ -27,14 +27,14 @@ marks-bits [] k = lit< tt
 marks-bits (c ∷ cs) zero = is-bit (c .sample)
 marks-bits (c ∷ cs) (suc k) = marks-bits cs k
 
--- spare bits are 0
+-- unused bits are 0
 pub map-small : (cells : List Cell) → fromBits (marks cells) (length cells) < 2 ^ length cells
 map-small cells = from-below (marks cells) (marks-bits cells) (length cells)
 
 pub map-below : (cells : List Cell) → fromBits (marks cells) (length cells) < 2 ^ (8 * mapSize (length cells))
 map-below cells = lt-of-lt-of-le (map-small cells) (pow-mono {j = 8 * mapSize (length cells)} (omega arith))
 
--- ---- the map of cells, read
+-- ---- the map of encoded cells, parsed
 each-marked : (P : Cell → Type 0) (cells : List Cell) (b : ℕ → ℕ) → ((k : ℕ) → k < length cells → b k ≡ marks cells k) → All P cells
     → Each (λ (k : ℕ) (c : Cell). P c × (b k ≡ isSampled (c .sample))) cells
 each-marked P [] b e a = tt
@@ -46,7 +46,7 @@ pub map-marks : (P : Cell → Type 0) (cells : List Cell) → All P cells
 map-marks P cells =
     each-marked P cells (bit (fromBits (marks cells) (length cells))) (bit-from (marks cells) (marks-bits cells) (length cells))
 
--- ---- the map of cells that were read
+-- ---- the map of parsed cells
 marks-of-list : (f : ℕ → Cell) (n k : ℕ) → k < n → marks (list f n) k ≡ isSampled ((f k) .sample)
 marks-of-list f n k h =
     let default : Cell = record { u = pos 0; v = pos 0; sample = none } in

@@ -1,4 +1,5 @@
--- The cells of a record that question 21 lets pass: where they start, that their grids lie in the record, and what their fields fit. Assumes nothing.
+-- The cells of a record that passes question 21: where they start, that their grids lie in the record, and the ranges of their fields. Assumes
+-- nothing.
 use mathlib.Core.Path.{_≡_, refl}
 use Prim.Native.Nat.{ℕ, zero, suc, _+_, _≤_, _<_}
 use native.Mathlib.Nat.{le-of-eq}
@@ -43,7 +44,7 @@ cell-count bytes = length-list (cellOf bytes) (cellCount bytes)
 pub cell-is : (bytes : List ℕ) (k : ℕ) (d : Cell) → k < cellCount bytes → getD (shot bytes .cells) k d ≡ cellOf bytes k
 cell-is bytes k d h = getD-list (cellOf bytes) (cellCount bytes) k d h
 
--- ---- in a whole record
+-- ---- in a well-formed record
 module _ (bytes : List ℕ) (w : Whole bytes) (k : ℕ) (inside : k < cellCount bytes) where
   abbrev size : ℕ
   size = gridSize (bitsOf bytes) (borderOf bytes)

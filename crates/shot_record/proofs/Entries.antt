@@ -1,4 +1,4 @@
--- The words of a cell say what the cell holds. Assumes nothing.
+-- The words of a cell encode its values. Assumes nothing.
 use mathlib.Core.Path.{_≡_, refl, sym, ap, ap₂, _∙_}
 use Prim.Native.Nat.{ℕ, zero, suc, _+_, _*_, _/_, _%_, _<_}
 use native.Mathlib.Omega.{arith}

@@ -1,4 +1,4 @@
--- An array that is filled place by place. Assumes nothing.
+-- An array that is filled element by element. Assumes nothing.
 use mathlib.Core.Path.{_≡_, refl, sym, ap₂, _∙_}
 use mathlib.Core.Bool.{Bool, true, false, not}
 use mathlib.Core.Logic.{_⊎_, inl, inr}
@@ -12,7 +12,7 @@ use lib.Seq.{getD-set-same, getD-set-other, ext-getD}
 use Rattle.shot_record.specs.Shots.{list}
 use Rattle.shot_record.proofs.Lists.{length-list, getD-list}
 
--- the first k of n places have f 0 to f (k − 1)
+-- the first k of n elements are f 0, …, f (k − 1)
 pub record Filled {A : Type 0} (f : ℕ → A) (d : A) (xs : List A) (n k : ℕ) : Type 0 where
   pub size : length xs ≡ n
   pub before : (i : ℕ) → i < k → getD xs i d ≡ f i
@@ -30,7 +30,7 @@ module _ {A : Type 0} (f : ℕ → A) (d : A) where
       ext-getD d xs (list f n) (l .size ∙ sym (length-list f n)) (λ i h. l .before i (omega (arith, h, l .size))
       ∙ sym (getD-list f n i d (omega (arith, h, l .size))))
 
-  -- what the places from k on hold already
+  -- the elements from k on are correct already
   pub rest-filled : (xs : List A) (n k : ℕ) → Filled f d xs n k → ((i : ℕ) → k ≤ i → i < n → getD xs i d ≡ f i) → Filled f d xs n n
   rest-filled xs n k l rest = record { size = l .size; before = λ i b. go i b (ltb i k) (ltb→lt i k) (nltb→le i k) }
     where

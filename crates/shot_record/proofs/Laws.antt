@@ -1,4 +1,4 @@
--- Parsing and writing a record undo each other. Assumes nothing.
+-- Parsing and encoding a record are inverse to each other. Assumes nothing.
 use mathlib.Core.Path.{sym, ap, _∙_, subst}
 use Prim.Native.Nat.{ℕ}
 use Rattle.shot_record.specs.Writing.{bytesOf, WrittenShot, ReadBack, WrittenBack, OneToOne}

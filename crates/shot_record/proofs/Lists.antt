@@ -1,4 +1,4 @@
--- Lists of f 0 to f (n − 1), and the element at a place. Assumes nothing.
+-- Lists f 0, …, f (n − 1), and their elements. Assumes nothing.
 use mathlib.Core.Path.{_≡_, refl, ap}
 use Prim.Native.Nat.{ℕ, zero, suc, _≤_, _<_}
 use native.Mathlib.Nat.{le-of-suc-le-suc}
@@ -30,7 +30,6 @@ module _ {A : Type 0} where
   getElem?-past (x ∷ xs) zero h = absurd (omega arith)
   getElem?-past (x ∷ xs) (suc k) h = getElem?-past xs k (le-of-suc-le-suc h)
 
-  -- the same for a list of f 0 to f (n − 1)
   pub getElem?-list : (f : ℕ → A) (n k : ℕ) → k < n → getElem? (list f n) k ≡ some (f k)
   unfolding list
   getElem?-list f zero k h = absurd (omega arith)

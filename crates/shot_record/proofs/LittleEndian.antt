@@ -1,4 +1,4 @@
--- A number and its bytes: `littleEndian` and `number` undo each other. Assumes nothing.
+-- A number and its bytes: `littleEndian` and `number` are inverse to each other. Assumes nothing.
 use mathlib.Core.Path.{_≡_, refl, sym, ap, ap₂, _∙_}
 use Prim.Native.Nat.{ℕ, zero, suc, _+_, _*_, _/_, _%_, _^_, _≤_, _<_}
 use mathlib.Core.List.{List, [], _∷_, _++_}
@@ -26,7 +26,7 @@ unfolding littleEndian
 le-length zero x = refl
 le-length (suc n) x = ap suc (le-length n (x / 256))
 
--- ---- a number that was written is read
+-- ---- parsing an encoded number
 number-drop : (n at k : ℕ) (bytes : List ℕ) → number n (at + k) bytes ≡ number n k (drop at bytes)
 unfolding number
 number-drop zero at k bytes = refl
@@ -44,7 +44,7 @@ pub number-of-le : (n at x : ℕ) (bytes rest : List ℕ) → x < 2 ^ (8 * n) �
 number-of-le n at x bytes rest h e =
     ap (λ (k : ℕ). number n k bytes) (omega arith) ∙ number-drop n at 0 bytes ∙ ap (number n 0) e ∙ read-le n x rest h
 
--- ---- bytes that are read are written
+-- ---- encoding a parsed number
 pub le-of-number : (bytes : List ℕ) → Small bytes → (n at : ℕ) → at + n ≤ length bytes → take n (drop at bytes) ≡ littleEndian n (number n at bytes)
 unfolding number littleEndian
 le-of-number bytes s zero at h = refl

@@ -1,4 +1,4 @@
--- What is left of the bytes of a shot from each field on. Assumes nothing.
+-- The bytes of a shot from each field on. Assumes nothing.
 use mathlib.Core.Path.{_≡_, refl}
 use Prim.Native.Nat.{ℕ}
 use mathlib.Core.List.{List, [], _∷_, _++_}

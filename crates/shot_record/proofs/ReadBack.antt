@@ -1,4 +1,4 @@
--- A record that has the bytes of a shot holds that shot. Assumes nothing.
+-- A record that is the encoding of a shot parses to that shot. Assumes nothing.
 use mathlib.Core.Path.{_≡_, refl, sym, ap, _∙_, subst}
 use Prim.Native.Nat.{ℕ, _+_, _*_, _^_, _≤_, _<_}
 use mathlib.Core.List.{List, [], _∷_, _++_}

@@ -1,4 +1,4 @@
--- What the bytes of a record say of its numbers, and how far its places can reach. Assumes nothing.
+-- The numbers of a record from its bytes, and upper bounds of its offsets. Assumes nothing.
 use mathlib.Core.Path.{_≡_, refl, sym, ap, ap₂, _∙_}
 use mathlib.Core.Bool.{Bool, true, false, not}
 use Prim.Native.Nat.{ℕ, zero, suc, _+_, _-_, _*_, _/_, _%_, _^_, _≤_, _<_}
@@ -20,7 +20,7 @@ use Rattle.shot_record.proofs.Lists.{length-list, getD-list}
 use Rattle.shot_record.specs.Fields.{fieldsOf, byte, number, mapByte, isSet, thresholdAt, pxAt, tableAt, rowsAt, bitsOf, borderOf, codeCount, codesAt}
 use Rattle.shot_record.specs.Fields.{cellCountAt, cellCount, cellMapAt, sampled, mapSize, mapOf, gridSize, pointSize, sampleLength, cellLength, cellsAt, cellAt}
 
--- the fields that were found, one by one
+-- the located fields, one by one
 pub record Found (f : Fields) (bytes : List ℕ) : Type 0 where
   pub map : f .map ≡ mapByte bytes
   pub threshold-at : f .«threshold_at» ≡ thresholdAt bytes
@@ -67,7 +67,7 @@ pub table-size : (bytes : List ℕ) → length (shot bytes .table) ≡ 511
 table-size bytes =
     setting-either (λ (l : List ℕ). length l ≡ 511) (bit (mapByte bytes) 3) (length-list (λ (k : ℕ). number 4 (tableAt bytes + 4 * k) bytes) 511) pattern-count
 
--- the table of a record, by whether it sets one
+-- the table of a record, depending on its presence flag
 module _ (f : Fields) (bytes : List ℕ) (e : f ≡ fieldsOf bytes) (sets : Bool) (h : sets ≡ isSet (f .map) 3) where
   flag : bit (f .map) 3 ≡ bit (mapByte bytes) 3
   flag = ap (λ (m : ℕ). bit m 3) (found f bytes e .map)
@@ -90,14 +90,14 @@ code-count bytes = length-list (λ (k : ℕ). number 8 (codesAt bytes + 8 * k) b
 pub code-is : (bytes : List ℕ) (k : ℕ) → k < codeCount bytes → number 8 (codesAt bytes + 8 * k) bytes ≡ getD (shot bytes .codes) k 0
 code-is bytes k h = sym (getD-list (λ (k : ℕ). number 8 (codesAt bytes + 8 * k) bytes) (codeCount bytes) k 0 h)
 
--- the places before the codes rise, and how far they reach
+-- the offsets before the codes are nondecreasing, and their bounds
 pub head-reach : (bytes : List ℕ) → (thresholdAt bytes ≤ pxAt bytes) × (pxAt bytes ≤ tableAt bytes) × (tableAt bytes ≤ rowsAt bytes) × (rowsAt bytes ≤ 2057)
 unfolding rowsAt tableAt pxAt thresholdAt
 head-reach bytes =
     let small = bit-small (mapByte bytes) in
     (omega arith, omega arith, omega arith, omega (arith, small 0, small 1, small 2, small 3))
 
--- a number by its first m bytes and the n after them
+-- a number from its first m bytes and the n after them
 pub number-split : (bytes : List ℕ) (m n at : ℕ) → number (m + n) at bytes ≡ number n (at + m) bytes * 2 ^ (8 * m) + number m at bytes
 unfolding number
 number-split bytes zero n at =
@@ -125,7 +125,7 @@ module _ (bytes : List ℕ) (s : Small bytes) where
       let more : 8 * suc n ≡ 8 * n + 8 = omega arith in
       rw (more, pow-add 2 (8 * n) 8) (omega (arith, s at, number-below n (suc at)))
 
-  -- bit k stands in byte k / 8
+  -- bit k is in byte k / 8
   pub number-bit : (n at k : ℕ) → k < 8 * n → bit (number n at bytes) k ≡ bit (byte (at + k / 8) bytes) (k % 8)
   unfolding number
   number-bit zero at k h = absurd (omega arith)
@@ -160,7 +160,7 @@ module _ (bytes : List ℕ) (s : Small bytes) where
       go true less more ih = low (less tt)
       go false less more ih = up (more tt) ih
 
-  -- ---- how far the places behind the codes reach
+  -- ---- bounds of the offsets after the codes
   pub map-reach : cellMapAt bytes ≤ 526361
   unfolding cellCountAt
   map-reach = omega (arith, head-reach bytes, number-below 2 (rowsAt bytes + 12))
@@ -183,7 +183,7 @@ module _ (bytes : List ℕ) (s : Small bytes) where
       size-reach zero = lit≤ tt
       size-reach (suc b) = omega (arith, grid-reach)
 
-  -- the spare bits of a map of n bits: none, or those of the last byte from n % 8 up
+  -- the unused bits of a bitmap of n bits: none, or those of the last byte from n % 8 up
   pub no-spare : (n at : ℕ) → n % 8 ≡ 0 → mapOf n at bytes < 2 ^ n
   no-spare n at e =
       let all : 8 * mapSize n ≡ n = omega arith in
@@ -225,7 +225,7 @@ module _ (bytes : List ℕ) (s : Small bytes) where
             let one : 1 ≤ last / 2 ^ (n % 8) = le-div-iff-mul-le (pow-pos (n % 8)) .1 (omega (arith, more tt)) in
             ne-eqb (last / 2 ^ (n % 8)) 0 (λ e. absurd (omega (arith, one, e))) ∙ sym (le-ltb (mapOf n at bytes) (2 ^ n) (unclear (more tt)))
 
--- a later cell does not start before an earlier one
+-- the offsets of the cells are nondecreasing
 pub starts-rise : (bytes : List ℕ) (k n : ℕ) → k ≤ n → cellAt bytes k ≤ cellAt bytes n
 unfolding cellAt
 starts-rise bytes k zero h =

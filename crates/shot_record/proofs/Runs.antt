@@ -1,4 +1,4 @@
--- From a place on the bytes are those of a field and the rest: the step to the next field, and the step back. Assumes nothing.
+-- From an offset on the bytes are those of a field and the rest: the step to the next field, and the step back. Assumes nothing.
 use mathlib.Core.Path.{_≡_, refl, sym, ap, ap₂, _∙_}
 use Prim.Native.Nat.{ℕ, zero, suc, _+_, _*_, _^_, _≤_, _<_}
 use mathlib.Core.List.{List, [], _∷_, _++_}
@@ -11,7 +11,7 @@ use Rattle.shot_record.specs.Writing.{littleEndian, ifSet, Default}
 use Rattle.shot_record.proofs.Reading.{Small}
 use Rattle.shot_record.proofs.LittleEndian.{le-length, number-of-le, le-of-number}
 
--- the bytes from a place inside on
+-- the bytes from an offset inside the record on
 pub record Runs (bytes : List ℕ) (at : ℕ) (rest : List ℕ) : Type 0 where
   pub inside : at ≤ length bytes
   pub holds : drop at bytes ≡ rest
@@ -48,7 +48,7 @@ byte-is {bytes} {rest} {at} to k e r = ap (λ (j : ℕ). byte j bytes) e ∙ sym
 pub byte-written : {bytes rest : List ℕ} {to : ℕ} (at : ℕ) → to ≡ at + 1 → Runs bytes to rest → Runs bytes at (byte at bytes ∷ rest)
 byte-written {bytes} at e r = back {field = byte at bytes ∷ []} at 1 r e (λ h. ap (take 1) (drop-cons bytes at 0 (omega arith)))
 
--- a value that was read, and what is left
+-- a parsed value, and the bytes after it
 pub record Read {A : Type 0} (found x : A) (bytes : List ℕ) (to : ℕ) (rest : List ℕ) : Type 0 where
   pub value : found ≡ x
   pub next : Runs bytes to rest
@@ -63,7 +63,7 @@ pub number-written : {bytes rest : List ℕ} {to : ℕ} → Small bytes → (n a
     → Runs bytes at (littleEndian n (number n at bytes) ++ rest)
 number-written {bytes} s n at e r = back at n r e (le-of-number bytes s n at)
 
--- ---- a setting of w bytes, there if its bit is 1
+-- ---- a setting of w bytes, present if its flag is 1
 pub setting-read : {A : Type 0} {bytes rest : List ℕ} {at : ℕ} (b w : ℕ) (field : List ℕ) (value default x : A) → b < 2 → length field ≡ w
     → Default b x default → (Runs bytes at (field ++ rest) → value ≡ x) → Runs bytes at (ifSet b field ++ rest)
     → Read (setting b value default) x bytes (at + w * b) rest

@@ -1,4 +1,4 @@
--- The sections of a record that is read: head, codes, cells. Assumes nothing.
+-- The sections of a well-formed record: head, codes, cells. Assumes nothing.
 use mathlib.Core.Path.{_≡_, refl, sym, ap, _∙_, subst}
 use Prim.Native.Nat.{ℕ, _+_, _*_}
 use native.Mathlib.Omega.{arith}
@@ -18,7 +18,7 @@ joined-append : (xs ys : List (List ℕ)) → joined (xs ++ ys) ≡ joined xs ++
 joined-append [] ys = refl
 joined-append (x ∷ xs) ys = ap (λ (l : List ℕ). x ++ l) (joined-append xs ys) ∙ sym (append-assoc x (joined xs) (joined ys))
 
--- what stands before a place, from which on the rest is known
+-- the bytes before an offset, where the rest is known
 before : (bytes first rest : List ℕ) (at : ℕ) → bytes ≡ first ++ rest → Runs bytes at rest → take at bytes ≡ first
 before bytes first rest at e r =
     let size : length first ≡ at = omega (arith, r .inside, ap length (r .holds), length-drop at bytes, ap length e, length-append first rest) in

@@ -1,4 +1,4 @@
--- A list whose elements stand one after the other in a record. Assumes nothing.
+-- A list whose elements are contiguous in a record. Assumes nothing.
 use mathlib.Core.Path.{_≡_, refl, ap₂, _∙_}
 use Prim.Native.Nat.{ℕ, zero, suc, _+_, _*_, _^_, _<_}
 use mathlib.Core.List.{List, [], _∷_, _++_, append-assoc}
@@ -27,7 +27,7 @@ module _ {A : Type 0} where
   all-drop P (suc n) [] a = tt
   all-drop P (suc n) (x ∷ xs) a = all-drop P n xs (a .1)
 
-  -- Q of each place and its element
+  -- Q of each index and its element
   abbrev pub Each : (ℕ → A → Type 0) → List A → Type 0
   Each Q [] = Unit
   Each Q (x ∷ xs) = Q 0 x × Each (λ (k : ℕ). Q (suc k)) xs
@@ -36,7 +36,7 @@ module _ {A : Type 0} where
   each-of-all P [] a = tt
   each-of-all P (x ∷ xs) a = (a .0, each-of-all P xs (a .1))
 
--- element k is f k, written from `place k` up to `place (suc k)`
+-- element k is f k, encoded from `place k` up to `place (suc k)`
 module _ {A : Type 0} (bytes : List ℕ) (write : A → List ℕ) where
   pub list-read : (Q : ℕ → A → Type 0) (f : ℕ → A) (place : ℕ → ℕ) (xs : List A) {rest : List ℕ}
       → ((k : ℕ) (x : A) (rest : List ℕ) → Q k x → Runs bytes (place k) (write x ++ rest) → Read (f k) x bytes (place (suc k)) rest)

@@ -1,4 +1,4 @@
--- The part of a cell is unchanged by a change of other bytes that leaves header, counts and cell map as they are. Assumes nothing.
+-- The grid of a cell does not change under a change of other bytes that keeps header, counts and cell map. Assumes nothing.
 use mathlib.Core.Path.{_≡_, refl, sym, ap, ap₂, _∙_}
 use Prim.Native.Nat.{ℕ, zero, suc, _+_, _-_, _*_, _≤_, _<_, min, zero-le}
 use native.Mathlib.Nat.{lt-of-lt-of-le, min-le-left}
@@ -18,7 +18,7 @@ use Rattle.shot_record.specs.Answers.{gridWith, gridAnswer, partWith}
 use Rattle.shot_record.specs.Unchanged.{SameBetween, SameOutline, SamePart, partOf, UnchangedRule}
 use Rattle.shot_record.proofs.Lists.{getElem?-list, getElem?-list-past}
 
--- a number whose bytes are the same
+-- a number whose bytes are equal
 number-same : (a b : List ℕ) (n at : ℕ) → SameBetween at (at + n) a b → number n at a ≡ number n at b
 unfolding number
 number-same a b zero at same = refl
@@ -67,12 +67,12 @@ module _ (a b : List ℕ) (o : SameOutline a b) where
   unfolding wholeRecord
   whole-same = rw (o .size, map-same, cell-map-same, count-same, start-same (cellCount b)) refl
 
--- ---- the part of cell k, by whether it is sampled (not 0) and where its sample starts
+-- ---- the grid of cell k, from whether it is sampled (not 0) and the offset of its sample
 record PartBy (x : List ℕ) (k isSampled size at : ℕ) : Type 0 where
   part : partOf x k ≡ partWith at size (sampleAt isSampled size at x)
   grid : gridAnswer (parse x) k ≡ gridWith (sampleAt isSampled size at x)
 
--- no cell is like one that is not sampled
+-- a refused record is treated as one with an unsampled cell
 of-refused : (x : List ℕ) (k size at : ℕ) → wholeRecord x ≡ false → PartBy x k 0 size at
 unfolding parse
 of-refused x k size at w = record { part = rw w refl; grid = rw w refl }

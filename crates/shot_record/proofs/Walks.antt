@@ -1,4 +1,4 @@
--- A walk that is at a cell of a record: which cell that is, and how far its places reach. Assumes nothing.
+-- An iteration at a cell of a record: which cell it is, and bounds of its offsets. Assumes nothing.
 use mathlib.Core.Path.{_≡_, ap, sym, _∙_}
 use Prim.Native.Nat.{ℕ, _^_, _≤_, _<_}
 use native.Mathlib.Omega.{arith}
@@ -8,7 +8,7 @@ use Rattle.shot_record.specs.declared.cells.Cursor.{Cursor}
 use Rattle.shot_record.specs.Fields.{fieldsOf, cellCount, cellAt, cursorAt, AtCell}
 use Rattle.shot_record.proofs.Reading.{Small, found, count-reach, start-reach}
 
--- a walk that came to a cell
+-- an iteration that reached a cell
 pub arrived : (bytes : List ℕ) (c : Cursor) (k : ℕ) → c ≡ cursorAt bytes k → c ≡ cursorAt bytes (c .cell)
 arrived bytes c k e = e ∙ ap (cursorAt bytes) (sym (ap (λ (d : Cursor). d .cell) e))
 

@@ -1,4 +1,4 @@
--- What question 21 tests, and the parse of a record that passes. Assumes nothing.
+-- What question 21 checks, and the parse of a record that passes. Assumes nothing.
 use mathlib.Core.Path.{_≡_, refl, sym, _∙_, subst}
 use Prim.Native.Nat.{ℕ, _^_, _≤_, _<_}
 use mathlib.Core.Bool.{Bool, true, false, not, cond}
@@ -56,7 +56,7 @@ pub parsed : (bytes : List ℕ) (s : Shot) → parse bytes ≡ some s → Whole 
 unfolding parse
 parsed bytes s e = let p = if-shot (wholeRecord bytes) (shot bytes) s e in (passes-whole bytes (p .0), p .1)
 
--- ---- by the answer to question 21, as a program tests it
+-- ---- from the result of question 21, as a program tests it
 pub refused-if : (bytes : List ℕ) (answer : Bool) → answer ≡ wholeRecord bytes → not answer ≡ true → parse bytes ≡ none
 unfolding parse
 refused-if bytes answer e n = rw (sym e ∙ not-true answer n) refl

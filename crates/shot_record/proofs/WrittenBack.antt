@@ -1,4 +1,4 @@
--- A record that is read has the bytes of its shot, which fits. Assumes nothing.
+-- A well-formed record is the encoding of its shot, which fits. Assumes nothing.
 use mathlib.Core.Path.{_≡_, refl, sym, _∙_, subst}
 use Prim.Native.Nat.{ℕ, _+_, _*_, _^_, _≤_, _<_}
 use mathlib.Core.Bool.{Bool, true, _&&_}
@@ -26,7 +26,7 @@ use Rattle.shot_record.proofs.Parts.{fromCells, fromCellMap, fromCellCo
 use Rattle.shot_record.proofs.Parts.{fromPx, fromThreshold, fromMargin, bytes-parts}
 use Rattle.shot_record.proofs.Whole.{Whole}
 
--- ---- the patterns of the built-in table have 32 bits
+-- ---- the entries of the built-in table are 32-bit patterns
 abbrev allBelow : ℕ → List ℕ → Bool
 allBelow n [] = true
 allBelow n (x ∷ xs) = ltb x n && allBelow n xs

@@ -1,4 +1,4 @@
--- What the reader answers, from the shot that the record holds: each field, absent past the last, refused without a shot.
+-- The results of the reader: each field of the shot, `Absent` after the last, refused if the record is not well-formed.
 use Prim.Native.Nat.{ℕ, _+_}
 use mathlib.Core.List.{List, []}
 use mathlib.Core.Option.{Option, none, some}
@@ -22,7 +22,7 @@ use Rattle.shot_record.specs.declared.cells.Part.{Part}
 use Rattle.shot_record.specs.Fields.{mapByte, gridSize, samplePlace, gridFrom}
 use Rattle.shot_record.specs.Shots.{Sample, Cell, Shot, parse}
 
--- the f32 of a pattern
+-- the f32 of a bit pattern
 abbrev pub ofPattern : ℕ → Float
 ofPattern pattern = ofBits binary32 pattern
 
@@ -98,7 +98,7 @@ abbrev pub gridAnswer : Option Shot → ℕ → List ℕ
 gridAnswer none k = []
 gridAnswer (some s) k = gridRead (getElem? (s .cells) k)
 
--- Where in the record that grid is, for a cell whose sample starts at a place: no bytes from the first on where there is no grid.
+-- The byte range of that grid in the record, for a cell whose sample starts at `place`: empty where there is no grid.
 abbrev pub partWith : ℕ → ℕ → Option Sample → Part
 partWith place size none = record { first = 0; end = 0 }
 partWith place size (some s) = record { first = gridFrom place; end = gridFrom place + size }
@@ -111,7 +111,7 @@ abbrev pub partAnswer : List ℕ → Option Shot → ℕ → Part
 partAnswer bytes none k = record { first = 0; end = 0 }
 partAnswer bytes (some s) k = partRead (samplePlace bytes k) (gridSize (s .bits) (s .border)) (getElem? (s .cells) k)
 
--- Of a cell, sampled or not: its border, and its threshold, 0 for an unsampled cell.
+-- The border of a cell, sampled or not, and its threshold, 0 if unsampled.
 abbrev pub borderWith : Option Sample → BorderSample
 borderWith none = border.Unsampled
 borderWith (some x) = border.BlackFraction (ofPattern (x .fraction))

@@ -1,5 +1,5 @@
--- Document 01, "The shot record": where each field of a record starts. A byte past the end of the record counts as 0; such a record is
--- refused (`wholeRecord` in Shots.antt).
+-- Document 01, "The shot record": the offset of each field. A byte past the end of the record counts as 0; such a record fails question 21
+-- (`wholeRecord` in Shots.antt).
 use mathlib.Core.Path.{_≡_}
 use Prim.Native.Nat.{ℕ, zero, suc, _+_, _*_, _/_, _<_}
 use mathlib.Core.Bool.{Bool, not}
@@ -14,13 +14,13 @@ use Rattle.shot_record.specs.declared.cells.Cursor.{Cursor}
 abbrev pub byte : ℕ → List ℕ → ℕ
 byte at bytes = getD bytes at 0
 
--- a number of n bytes from a place on, little-endian
+-- the n bytes from an offset on as a little-endian number
 unfoldable pub number : ℕ → ℕ → List ℕ → ℕ
 number zero at bytes = 0
 number (suc n) at bytes = byte at bytes + 256 * number n (suc at) bytes
 
--- One map byte, bit 0 lowest, then only the fields whose bit is set: 0 minimum margin, 1 border threshold, 2 px_per_square,
--- 3 table, 2,044 bytes. Document 02: "Bit 4 … marks a legacy board; it adds no field."
+-- One map byte, the presence flags of the fields that follow, bit 0 lowest: 0 minimum margin, 1 border threshold, 2 px_per_square, 3 table, 2,044
+-- bytes. A field whose flag is 0 takes no bytes. Document 02: "Bit 4 … marks a legacy board; it adds no field."
 abbrev pub mapByte : List ℕ → ℕ
 mapByte bytes = byte 0 bytes
 
@@ -63,14 +63,14 @@ cellCountAt bytes = codesAt bytes + 8 * codeCount bytes
 abbrev pub cellCount : List ℕ → ℕ
 cellCount bytes = number 2 (cellCountAt bytes) bytes
 
--- a map of n bits from a place on, lowest bit first: read as one number, whose bit k is the map's;
+-- a bitmap of n bits from an offset on, lowest bit first, read as one number: bit k of it is bit k of the number;
 abbrev pub mapSize : ℕ → ℕ
 mapSize n = (n + 7) / 8
 
 abbrev pub mapOf : ℕ → ℕ → List ℕ → ℕ
 mapOf n at bytes = number (mapSize n) at bytes
 
--- a cell map, set where sampled;
+-- a cell map: presence flags of the samples;
 abbrev pub cellMapAt : List ℕ → ℕ
 cellMapAt bytes = cellCountAt bytes + 2
 
@@ -80,7 +80,7 @@ cellMap bytes = mapOf (cellCount bytes) (cellMapAt bytes) bytes
 abbrev pub sampled : List ℕ → ℕ → ℕ
 sampled bytes k = bit (cellMap bytes) k
 
--- per cell u and v as i16 and, if sampled, fraction, threshold byte, grid row by row: how many bytes these are.
+-- per cell u and v as i16 and, if sampled, fraction, threshold byte, grid in row-major order: their lengths in bytes.
 abbrev pub gridSize : ℕ → ℕ → ℕ
 gridSize bits border = side bits border * side bits border
 
@@ -101,7 +101,7 @@ unfoldable pub cellAt : List ℕ → ℕ → ℕ
 cellAt bytes zero = cellsAt bytes
 cellAt bytes (suc k) = cellAt bytes k + cellLength pointSize (sampled bytes k) (gridSize (bitsOf bytes) (borderOf bytes))
 
--- The point of cell k: u and v, each by its 16 bits.
+-- The grid point of cell k: u and v, each as its 16-bit pattern.
 pub record Point : Type 0 where
   pub u : ℕ
   pub v : ℕ
@@ -109,7 +109,7 @@ pub record Point : Type 0 where
 abbrev pub pointOf : List ℕ → ℕ → Point
 pointOf bytes k = record { u = number 2 (cellAt bytes k) bytes; v = number 2 (cellAt bytes k + 2) bytes }
 
--- Where the sample of cell k starts, if it has one: its fraction. Threshold and grid follow 4 and 5 bytes behind that place.
+-- The offset of the sample of cell k, if it has one: its fraction. Threshold and grid follow after 4 and 5 bytes.
 abbrev pub samplePlace : List ℕ → ℕ → ℕ
 samplePlace bytes k = cellAt bytes k + pointSize
 
@@ -119,7 +119,7 @@ thresholdFrom place = place + 4
 abbrev pub gridFrom : ℕ → ℕ
 gridFrom place = place + 5
 
--- all these places and counts
+-- all these offsets and counts
 unfoldable pub fieldsOf : List ℕ → Fields
 fieldsOf bytes =
     record {
@@ -135,10 +135,10 @@ fieldsOf bytes =
       «grid_size» = gridSize (bitsOf bytes) (borderOf bytes);
     }
 
--- a walk over the cells at cell k
+-- an iteration over the cells, at cell k
 abbrev pub cursorAt : List ℕ → ℕ → Cursor
 cursorAt bytes k = record { cell = k; start = cellAt bytes k }
 
--- what is known at a cell of a walk: the fields of this record, and that the walk is at one of its cells
+-- the fields are this record's, and the iteration is at one of its cells
 abbrev pub AtCell : List ℕ → Fields → Cursor → Type 0
 AtCell bytes f c = (f ≡ fieldsOf bytes) × (c ≡ cursorAt bytes (c .cell)) × (c .cell < f .«cell_count»)

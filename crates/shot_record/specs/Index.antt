@@ -1,6 +1,6 @@
--- The index of a record's cells: three words of 32 bits for each of the first 256. The first has the cell's point, u in its low half and v in its high
--- half, each in two's complement; the second the pattern of the fraction; the third 256 times the place of the grid, plus the threshold. An unsampled
--- cell has 0 in the second and the third.
+-- The index of a record's cells: three 32-bit words for each of the first 256. The first is the cell's grid point, u in the low half and v in the
+-- high half, each in two's complement; the second the bit pattern of the fraction; the third 256 times the offset of the grid, plus the threshold. An
+-- unsampled cell has 0 in the second and the third.
 use mathlib.Core.Path.{_≡_}
 use mathlib.Core.Bool.{true}
 use mathlib.Core.List.{List, [], _∷_}
@@ -16,7 +16,7 @@ use Rattle.shot_record.specs.Fields.{byte, number, fieldsOf, cellCount, 
 use Rattle.shot_record.specs.Shots.{setting, cellOf, wholeRecord}
 use Rattle.shot_record.specs.Answers.{ofPattern, borderWith, thresholdWith}
 
--- the words of a cell, by its point, whether it is sampled (not 0), and where its sample starts
+-- the words of a cell, from its grid point, whether it is sampled (not 0), and the offset of its sample
 abbrev pub pointWord : Point → ℕ
 pointWord p = p .u + 65536 * p .v
 
@@ -31,7 +31,7 @@ wordsOf bytes k = wordsFrom (pointOf bytes k) (sampled bytes k) (samplePlace byt
 abbrev pub withWords : List ℕ → ℕ → List ℕ → List ℕ
 withWords index k words = set (set (set index (3 * k) (getD words 0 0)) (3 * k + 1) (getD words 1 0)) (3 * k + 2) (getD words 2 0)
 
--- what an index has for cell k
+-- the fields of cell k in an index
 abbrev pub pointIn : List ℕ → ℕ → ℕ
 pointIn index k = getD index (3 * k) 0
 
@@ -56,7 +56,7 @@ thresholdIn index k = gridIn index k % 256
 abbrev pub placeIn : List ℕ → ℕ → ℕ
 placeIn index k = gridIn index k / 256
 
--- it has what cell k holds, the point in a word of 32 bits, and where the cell's grid is
+-- The entry of cell k is correct: the values of the cell, the grid point in 32 bits, and the offset of the grid.
 pub record Entry (bytes index : List ℕ) (k : ℕ) : Type 0 where
   pub word : pointIn index k < 2 ^ 32
   pub u : uIn index k ≡ cellOf bytes k .u
@@ -66,10 +66,9 @@ pub record Entry (bytes index : List ℕ) (k : ℕ) : Type 0 where
   pub unsampled : sampled bytes k ≡ 0 → gridIn index k ≡ 0
   pub place : (sampled bytes k ≡ 0 → ⊥) → placeIn index k ≡ gridFrom (samplePlace bytes k)
 
--- the index of a record
 abbrev pub Index : List ℕ → List ℕ → Type 0
 Index bytes index = (k : ℕ) → k < cellCount bytes → k < 256 → Entry bytes index k
 
--- what a match finds once, in a record that question 21 lets pass: its fields, and the index of its cells
+-- what a match computes once from a record that passes question 21: its fields, and the index of its cells
 abbrev pub Indexed : List ℕ → Fields → List ℕ → Type 0
 Indexed bytes f index = (f ≡ fieldsOf bytes) × Index bytes index × (wholeRecord bytes ≡ true)

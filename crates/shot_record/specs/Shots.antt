@@ -1,4 +1,4 @@
--- Document 01, "The shot record": the shot that a record holds, and question 21.
+-- Document 01, "The shot record": the shot that a record encodes, and question 21.
 use Prim.Native.Nat.{ℕ, zero, suc, _+_, _*_, _^_}
 use mathlib.Core.Bool.{Bool, _&&_, cond}
 use mathlib.Core.List.{List, [], _∷_}
@@ -14,7 +14,7 @@ use Rattle.score_matrix.specs.Table.{patterns}
 use Rattle.shot_record.specs.Fields.{byte, number, mapByte, isSet, marginAt, thresholdAt, pxAt, tableAt, rowsAt, bitsOf, borderOf, codeCount, codesAt, cellCount}
 use Rattle.shot_record.specs.Fields.{cellMap, sampled, gridSize, cellAt, Point, pointOf, samplePlace, thresholdFrom, gridFrom}
 
--- What is sampled of a cell. A float is its pattern of 32 bits, here and below, so that a shot has every bit of its record.
+-- The sample of a cell. Here and below a float is its 32-bit pattern, so that a shot keeps every bit of its record.
 pub record Sample : Type 0 where
   pub fraction : ℕ
   pub threshold : ℕ
@@ -40,7 +40,7 @@ pub record Shot : Type 0 where
   pub codes : List ℕ
   pub cells : List Cell
 
--- f 0 to f (n − 1)
+-- tabulate: f 0, …, f (n − 1)
 unfoldable pub list : {A : Type 0} → (ℕ → A) → ℕ → List A
 list f zero = []
 list f (suc n) = f 0 ∷ list (λ (k : ℕ). f (suc k)) n
@@ -64,7 +64,7 @@ defaultThreshold = 0x3F000000
 abbrev pub defaultPx : ℕ
 defaultPx = 0x42700000
 
--- a cell by its point, and by whether it is sampled (not 0) and where its sample starts
+-- a cell from its grid point, whether it is sampled (not 0), and the offset of its sample
 abbrev pub sampleAt : ℕ → ℕ → ℕ → List ℕ → Option Sample
 sampleAt zero grid place bytes = none
 sampleAt (suc b) grid place bytes =
@@ -97,17 +97,17 @@ shot bytes =
       cells = list (cellOf bytes) (cellCount bytes);
     }
 
--- the first 512 codes, those of all markers that a board can have; 0 past the last
+-- the first 512 codes, enough for every marker that a board can have; 0 after the last
 abbrev pub firstCodes : Shot → List ℕ
 firstCodes s = list (λ (k : ℕ). getD (s .codes) k 0) 512
 
--- Question 21: at most 65,535 bytes, spare bits 0 in both maps, no field cut short and the last one ending the record (it ends where a cell
--- after the last one would start)?
+-- Question 21, the record is well-formed: at most 65,535 bytes, unused bits 0 in both maps, no field cut short and the last one ending the record (it
+-- ends where a cell after the last one would start)?
 unfoldable pub wholeRecord : List ℕ → Bool
 wholeRecord bytes =
     leb (length bytes) 65535
     && (ltb (mapByte bytes) 32 && (ltb (cellMap bytes) (2 ^ cellCount bytes) && eqb (cellAt bytes (cellCount bytes)) (length bytes)))
 
--- The one meaning of a record: a shot, or refused.
+-- The shot that a record encodes, or none if it is refused.
 unfoldable pub parse : List ℕ → Option Shot
 parse bytes = cond (wholeRecord bytes) (some (shot bytes)) none

@@ -1,4 +1,4 @@
--- The bytes of a shot, field after field (document 01, "The shot record"), and what parsing has to do with them.
+-- The encoding of a shot, field after field (document 01, "The shot record"), and the laws that relate it to parsing.
 use mathlib.Core.Path.{_≡_}
 use Prim.Native.Nat.{ℕ, zero, suc, _*_, _/_, _%_, _^_, _≤_, _<_}
 use mathlib.Core.List.{List, [], _∷_, _++_, map}
@@ -11,17 +11,16 @@ use Rattle.score_matrix.specs.Table.{patterns}
 use Rattle.shot_record.specs.Fields.{mapByte, isSet, codeCount, codesAt, cellCountAt, mapSize, gridSize}
 use Rattle.shot_record.specs.Shots.{Sample, Cell, Shot, defaultMargin, defaultThreshold, defaultPx, parse}
 
--- a number in n bytes, little-endian
+-- a number as n bytes, little-endian
 unfoldable pub littleEndian : ℕ → ℕ → List ℕ
 littleEndian zero x = []
 littleEndian (suc n) x = x % 256 ∷ littleEndian n (x / 256)
 
--- a field whose bit may be clear
+-- a field with a presence flag
 abbrev pub ifSet : ℕ → List ℕ → List ℕ
 ifSet zero field = []
 ifSet (suc b) field = field
 
--- one after the other
 abbrev pub joined : List (List ℕ) → List ℕ
 joined [] = []
 joined (field ∷ fields) = field ++ joined fields
@@ -29,7 +28,7 @@ joined (field ∷ fields) = field ++ joined fields
 abbrev pub each : {A : Type 0} → (A → List ℕ) → List A → List ℕ
 each f xs = joined (map f xs)
 
--- a cell map, lowest bit first, set where sampled
+-- the cell map, lowest bit first, 1 where sampled
 abbrev pub isSampled : Option Sample → ℕ
 isSampled none = 0
 isSampled (some s) = 1
@@ -48,7 +47,7 @@ sampleBytes (some s) = littleEndian 4 (s .fraction) ++ (s .threshold ∷ s .grid
 abbrev pub cellBytes : Cell → List ℕ
 cellBytes c = littleEndian 2 (ofZ w16 (c .u)) ++ (littleEndian 2 (ofZ w16 (c .v)) ++ sampleBytes (c .sample))
 
--- The record of a shot with a map byte, in three sections: what stands before the codes, the codes, the cells.
+-- The record of a shot with a map byte, in three sections: the bytes before the codes, the codes, the cells.
 abbrev pub headFields : ℕ → Shot → List (List ℕ)
 headFields m s =
     (m ∷ [])
@@ -71,7 +70,7 @@ cellFields cells = littleEndian 2 (length cells) ∷ mapBytes cells ∷ each cel
 unfoldable pub bytesOf : ℕ → Shot → List ℕ
 bytesOf m s = joined (headFields m s ++ (codeBytes s ∷ cellFields (s .cells)))
 
--- ---- which shots a record can hold
+-- ---- which shots a record can encode
 
 abbrev pub All : {A : Type 0} → (A → Type 0) → List A → Type 0
 All P [] = Unit
@@ -80,7 +79,7 @@ All P (x ∷ xs) = P x × All P xs
 abbrev pub Bytes : List ℕ → Type 0
 Bytes = All (λ (x : ℕ). x < 256)
 
--- a setting whose bit is clear has its default
+-- a setting whose flag is 0 has its default
 abbrev pub Default : {A : Type 0} → ℕ → A → A → Type 0
 Default zero x default = x ≡ default
 Default (suc b) x default = Unit
@@ -115,6 +114,7 @@ pub record Fit (m : ℕ) (s : Shot) : Type 0 where
   pub cols : s .cols < 256
   pub bits : s .bits < 256
   pub border : s .border < 256
+  -- the flag is bit 4 of the map byte, which `bytesOf` is given, so that it is not written twice
   pub legacy : s .legacyPattern ≡ isSet m 4
   pub cell-size : s .cellSize < 2 ^ 32
   pub marker-size : s .markerSizeRel < 2 ^ 32
@@ -124,11 +124,11 @@ pub record Fit (m : ℕ) (s : Shot) : Type 0 where
   pub cells : All (FitCell (gridSize (s .bits) (s .border))) (s .cells)
   pub size : length (bytesOf m s) ≤ 65535
 
--- parsing the bytes of a shot gives the shot back
+-- parsing the encoding of a shot returns the shot
 abbrev pub ReadBack : Type 0
 ReadBack = (m : ℕ) (s : Shot) → Fit m s → parse (bytesOf m s) ≡ some s
 
--- a record that is read has the bytes of its shot, which fits
+-- a well-formed record is the encoding of its shot, which fits
 pub record WrittenShot (bytes : List ℕ) (s : Shot) : Type 0 where
   pub fits : Fit (mapByte bytes) s
   pub same : bytes ≡ bytesOf (mapByte bytes) s
@@ -136,7 +136,7 @@ pub record WrittenShot (bytes : List ℕ) (s : Shot) : Type 0 where
 abbrev pub WrittenBack : Type 0
 WrittenBack = (bytes : List ℕ) → Bytes bytes → (s : Shot) → parse bytes ≡ some s → WrittenShot bytes s
 
--- The sections of a record that is read: the bytes before its codes are those of the head, and those from the end of its codes on those of the cells.
+-- The sections of a well-formed record: the bytes before its codes encode the head, and those after its codes the cells.
 pub record Sections (bytes : List ℕ) (s : Shot) : Type 0 where
   pub head : take (codesAt bytes) bytes ≡ joined (headFields (mapByte bytes) s)
   pub codes : take (8 * codeCount bytes) (drop (codesAt bytes) bytes) ≡ codeBytes s
@@ -145,6 +145,6 @@ pub record Sections (bytes : List ℕ) (s : Shot) : Type 0 where
 abbrev pub SectionsRule : Type 0
 SectionsRule = (bytes : List ℕ) → Bytes bytes → (s : Shot) → parse bytes ≡ some s → Sections bytes s
 
--- two records with the same shot and the same map byte are the same bytes
+-- parsing is injective: two records with the same shot and the same map byte are equal
 abbrev pub OneToOne : Type 0
 OneToOne = (a b : List ℕ) → Bytes a → Bytes b → (s : Shot) → parse a ≡ some s → parse b ≡ some s → mapByte a ≡ mapByte b → a ≡ b

@@ -1,4 +1,4 @@
-// The lists of a record before its cells, each read at once: the likelihood table and the codes.
+// The lists before the cells, each read at once: the likelihood table and the codes.
 ghost use mathlib.Core.Path.{_≡_};
 ghost use mathlib.Core.List.{map};
 ghost use Prim.Native.Nat.{_^_, _≤_};
@@ -11,7 +11,7 @@ use super::fields::Fields;
 use super::numbers;
 use score_matrix::table::built_in_table;
 
-// The table that starts at a place.
+// The table that starts at an offset.
 fn table_at(bytes: &[u8], at: usize) -> [f32; 511]
     requires { ⌜ at ≤ 2 ^ 20 ⌝ }
     ensures { λ r. ⌜ r ≡ map ofPattern (numbersOf 4 511 at (now (bytes .entry))) ⌝ }
@@ -36,8 +36,8 @@ pub fn table(bytes: &[u8], f: Fields) -> [f32; 511]
     table_at(bytes, f.table_at)
 }
 
-// The first 512 codes, those of all markers that a board can have; 0 past the last. They are written into a list that the caller has cleared, so
-// that no list is copied.
+// The first 512 codes, enough for every marker that a board can have; 0 after the last. Writes to an array that the caller has cleared, so that no
+// array is copied.
 pub fn codes(codes: &mut [u64; 512], bytes: &[u8], f: Fields)
     requires { ⌜ (f ≡ fieldsOf (now bytes)) × (now codes ≡ replicate 512 0) ⌝ }
     ensures { λ _. ⌜ now (codes .exit) ≡ firstCodes (shot (now (bytes .entry))) ⌝ }

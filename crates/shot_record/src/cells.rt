@@ -1,4 +1,4 @@
-// The cells of a record: which are sampled, a walk over them, and question 21, which goes over all of them.
+// The cells of a record: which are sampled, an iteration over them, and question 21, which covers all of them.
 ghost use mathlib.Core.Path.{_≡_};
 ghost use mathlib.Core.Option.{some};
 ghost use Prim.Native.Nat.{_+_, _-_, _^_, _<_, _≤_};
@@ -13,13 +13,13 @@ use super::fields::Fields;
 use super::maps;
 use super::numbers;
 
-// A walk over the cells: at which it is, and where that cell's bytes start. Behind the last cell that is where the record should end.
+// Position of an iteration over the cells: the cell, and the offset where its bytes start. After the last cell that is where the record must end.
 pub struct Cursor {
     pub cell: usize,
     pub start: usize,
 }
 
-// 1 for a sampled cell, 0 for another.
+// 1 for a sampled cell, else 0.
 pub fn sampled(bytes: &[u8], f: Fields, k: usize) -> usize
     requires { ⌜ (f ≡ fieldsOf (now bytes)) × (k < f .«cell_count») ⌝ }
     ensures { λ r. ⌜ r ≡ sampledAt (now (bytes .entry)) k ⌝ }
@@ -27,7 +27,7 @@ pub fn sampled(bytes: &[u8], f: Fields, k: usize) -> usize
     maps::bit(bytes, f.cell_map_at, k)
 }
 
-// How many bytes a cell has.
+// The length of a cell in bytes.
 fn cell_length(is_sampled: usize, grid_size: usize) -> usize
     requires { ⌜ «grid_size» ≤ 2 ^ 20 ⌝ }
     ensures { λ r. ⌜ r ≡ cellLength pointSize «is_sampled» «grid_size» ⌝ }
@@ -58,7 +58,7 @@ pub fn next(bytes: &[u8], f: Fields, c: Cursor) -> Cursor
     }
 }
 
-// The walk at cell k, or behind the last one.
+// The cursor at cell k, or after the last cell.
 pub fn seek(bytes: &[u8], f: Fields, k: usize) -> Cursor
     requires { ⌜ (f ≡ fieldsOf (now bytes)) × (k ≤ f .«cell_count») ⌝ }
     ensures { λ r. ⌜ r ≡ cursorAt (now (bytes .entry)) k ⌝ }
@@ -70,7 +70,7 @@ pub fn seek(bytes: &[u8], f: Fields, k: usize) -> Cursor
     c
 }
 
-// The point of the cell as one word, u in its low half and v in its high half.
+// The cell's grid point as one word: u in the low half, v in the high half.
 pub fn point(bytes: &[u8], f: Fields, c: Cursor) -> u32
     requires { ⌜ AtCell (now bytes) f c ⌝ }
     ensures { λ r. ⌜ r ≡ pointWord (pointOf (now (bytes .entry)) (c .cell)) ⌝ }
@@ -78,7 +78,7 @@ pub fn point(bytes: &[u8], f: Fields, c: Cursor) -> u32
     numbers::four_at(bytes, c.start)
 }
 
-// Where the cell's sample starts, if it has one.
+// The offset of the cell's sample, if it has one.
 pub fn sample_place(bytes: &[u8], f: Fields, c: Cursor) -> usize
     requires { ⌜ AtCell (now bytes) f c × (c .start ≤ 2 ^ 39) ⌝ }
     ensures { λ r. ⌜ r ≡ samplePlace (now (bytes .entry)) (c .cell) ⌝ }
@@ -86,7 +86,7 @@ pub fn sample_place(bytes: &[u8], f: Fields, c: Cursor) -> usize
     c.start + 4
 }
 
-// Question 21. A record that ends before its cells is not walked: its count of cells may be far above its length.
+// Question 21. A record that ends before its cells is not iterated: its cell count may be far above its length.
 pub fn is_whole(bytes: &[u8], f: Fields) -> bool
     requires { ⌜ f ≡ fieldsOf (now bytes) ⌝ }
     ensures { λ r. ⌜ r ≡ wholeRecord (now (bytes .entry)) ⌝ }
@@ -125,13 +125,13 @@ pub fn cell(bytes: &[u8], f: Fields, c: Cursor) -> ReadCell
     }
 }
 
-// From its first byte to the one after its last.
+// A part of a record (document 02): the byte range `first..end`.
 pub struct Part {
     pub first: usize,
     pub end: usize,
 }
 
-// Where in the record the grid of cell k is.
+// The byte range of the grid of cell k.
 pub fn grid_part(bytes: &[u8], k: usize) -> Part
     ensures lies { λ r. do ⌜ (r .first ≤ r .end) × (r .end ≤ (← ⟦bytes.len()⟧ .entry)) ⌝ }
     ensures holds { λ r. ⌜ take (r .end - r .first) (drop (r .first) (now (bytes .entry))) ≡ gridAnswer (parse (now (bytes .entry))) k ⌝ }

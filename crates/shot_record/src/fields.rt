@@ -1,4 +1,4 @@
-// Where the fields of a record start, and those before its cells.
+// The offsets of a record's fields, and the fields before its cells.
 ghost use mathlib.Core.Path.{_≡_};
 ghost use Prim.Native.Nat.{_+_, _*_, _^_, _<_, _≤_};
 ghost use lib.ListN.{getD};
@@ -10,7 +10,7 @@ use board::CharucoBoardSpec;
 use score_matrix::BoardMatchConfig;
 use score_matrix::table;
 
-// A place is counted in bytes from the record's first.
+// Offsets are in bytes from the start of the record.
 pub struct Fields {
     pub map: u8,
     pub threshold_at: usize,
@@ -21,7 +21,7 @@ pub struct Fields {
     pub cell_count: usize,
     pub cell_map_at: usize,
     pub cells_at: usize,
-    // The bytes in the grid of one sampled cell.
+    // Bytes in the grid of one sampled cell.
     pub grid_size: usize,
 }
 
@@ -61,7 +61,7 @@ pub fn locate(bytes: &[u8]) -> Fields
     }
 }
 
-// A setting of the record's own, or its default, by the bits of an f32.
+// A setting of the record, or its default as the bit pattern of an f32.
 fn setting(bytes: &[u8], is_set: usize, at: usize, default: u32) -> f32
     requires { ⌜ at ≤ 2 ^ 40 ⌝ }
     ensures { λ r. ⌜ r ≡ ofPattern (settingOf «is_set» (number 4 at (now (bytes .entry))) default) ⌝ }
@@ -105,14 +105,14 @@ pub fn spec(bytes: &[u8], f: Fields) -> CharucoBoardSpec
     }
 }
 
-// Has the record a table of its own?
+// Does the record have its own table?
 pub fn sets_table(f: Fields) -> bool
     ensures { λ r. ⌜ r ≡ isSet (f .map) 3 ⌝ }
 {
     numbers::bit(f.map, 3) != 0
 }
 
-// An entry of the record's own table, or of the built-in one.
+// An entry of the record's own table or of the built-in one.
 pub fn table_entry(bytes: &[u8], f: Fields, k: usize) -> f32
     requires { ⌜ (f ≡ fieldsOf (now bytes)) × (k < 511) ⌝ }
     ensures { λ r. ⌜ r ≡ ofPattern (getD (shot (now (bytes .entry)) .table) k 0) ⌝ }

@@ -1,4 +1,5 @@
-// The index of the cells: each cell is read once, in one pass over the record, and a match looks it up here. Grids stay in the record.
+// The index of the cells: each cell is parsed once, in one pass over the record, and a match looks it up here. Grids are not copied.
+// One array of words, three for each cell: the prover covers no reference to a list of structs, and a function takes at most eight parameters.
 ghost use mathlib.Core.Path.{_≡_};
 ghost use mathlib.Core.Bool.{true};
 ghost use Prim.Native.Nat.{_+_, _-_, _*_, _≤_, _<_};
@@ -15,7 +16,7 @@ use super::fields::Fields;
 use super::numbers;
 use score_matrix::BorderSample;
 
-// The words of one cell of a whole record.
+// The words of one cell of a well-formed record.
 fn words(bytes: &[u8], f: Fields, c: Cursor) -> [u32; 3]
     requires { ⌜ AtCell (now bytes) f c × (wholeRecord (now bytes) ≡ true) ⌝ }
     ensures { λ r. ⌜ r ≡ wordsOf (now (bytes .entry)) (c .cell) ⌝ }
@@ -33,7 +34,6 @@ fn words(bytes: &[u8], f: Fields, c: Cursor) -> [u32; 3]
     ]
 }
 
-// Puts the words of cell k.
 fn put(index: &mut [u32; 768], k: usize, words: &[u32; 3])
     requires { ⌜ (k < 256) × (length (now index) ≡ 768) ⌝ }
     ensures { λ _. ⌜ now (index .exit) ≡ withWords (now (index .entry)) k (now (words .entry)) ⌝ }
@@ -43,7 +43,7 @@ fn put(index: &mut [u32; 768], k: usize, words: &[u32; 3])
     index[3 * k + 2] = words[2];
 }
 
-// For the first 256 cells of a record that question 21 let pass. Places past their words keep theirs.
+// Covers the first 256 cells of a record that passes question 21. Elements after their words do not change.
 pub fn fill(index: &mut [u32; 768], bytes: &[u8], f: Fields)
     requires { ⌜ (f ≡ fieldsOf (now bytes)) × (wholeRecord (now bytes) ≡ true) × (length (now index) ≡ 768) ⌝ }
     ensures filled { λ _. ⌜ Index (now (bytes .entry)) (now (index .exit)) ⌝ }
@@ -58,7 +58,7 @@ pub fn fill(index: &mut [u32; 768], bytes: &[u8], f: Fields)
     }
 }
 
-// The point of cell k as one word: equal words are equal points.
+// The grid point of cell k as one word: equal words are equal points.
 pub fn point(index: &[u32; 768], k: usize) -> u32
     requires { ⌜ k < 256 ⌝ }
     ensures { λ r. ⌜ r ≡ pointIn (now (index .entry)) k ⌝ }
@@ -98,7 +98,7 @@ pub fn threshold(index: &[u32; 768], k: usize) -> u8
     (index[3 * k + 2] % 256) as u8
 }
 
-// Where in the record the grid of cell k is: no bytes for an unsampled cell.
+// The byte range of the grid of cell k, empty for an unsampled cell.
 fn grid_part(bytes: &[u8], f: Fields, index: &[u32; 768], k: usize) -> Part
     requires { ⌜ Indexed (now bytes) f (now index) × (k < f .«cell_count») × (k < 256) ⌝ }
     ensures lies { λ r. do ⌜ (r .first ≤ r .end) × (r .end ≤ (← ⟦bytes.len()⟧ .entry)) ⌝ }
@@ -114,7 +114,6 @@ fn grid_part(bytes: &[u8], f: Fields, index: &[u32; 768], k: usize) -> Part
     }
 }
 
-// That grid.
 pub fn grid<'a>(bytes: &'a [u8], f: Fields, index: &[u32; 768], k: usize) -> &'a [u8]
     requires { ⌜ Indexed (now bytes) f (now index) × (k < f .«cell_count») × (k < 256) ⌝ }
     ensures { λ r. ⌜ now r ≡ gridWith (cellOf (now (bytes .entry)) k .sample) ⌝ }

@@ -1,6 +1,6 @@
-// The shot record: one lane-end shot as bytes. Every function of this file accepts every record; question 21 refuses one that is not
-// whole. A match reads the fields before the cells with `fields` and `bulk`, and each cell once with `index`. Uses `refusal`, `floats`, `board` and
-// `score_matrix`, and for its definitions and proofs `lent_list`, `matcher` and `alike`.
+// Parses the shot record: board, settings, marker codes and observed cells of one shot, as bytes.
+// Every function of this file accepts every record; one that is not well-formed gets error 21. A match reads the fields before the cells with
+// `fields` and `bulk`, and each cell once with `index`.
 ghost use mathlib.Core.Path.{_≡_};
 ghost use Rattle.shot_record.specs.Shots.{parse};
 ghost use Rattle.shot_record.specs.Answers.{headerAnswer, entryAnswer, codeAnswer, cellAnswer, gridAnswer};
@@ -17,7 +17,7 @@ use board::CharucoBoardSpec;
 use refusal::Refusal;
 use score_matrix::BoardMatchConfig;
 
-// What a record says before its cells. `map` tells which settings the record sets; the others have their defaults.
+// The fields before the cells. `map` has the presence flags of the settings; a setting whose flag is 0 has its default.
 pub struct Header {
     pub map: u8,
     pub config: BoardMatchConfig,
@@ -31,7 +31,7 @@ pub enum ReadHeader {
     Refused(Refusal),
 }
 
-// An entry of the likelihood table, the record's own or the built-in one.
+// An entry of the record's own likelihood table or of the built-in one.
 pub enum ReadEntry {
     Entry(f32),
     Absent,
@@ -59,7 +59,6 @@ pub enum ReadCell {
     Refused(Refusal),
 }
 
-// Which board, which settings and how many codes and cells.
 pub fn read_header(bytes: &[u8]) -> ReadHeader
     ensures { λ r. ⌜ r ≡ headerAnswer (now (bytes .entry)) ⌝ }
 {
@@ -115,7 +114,7 @@ pub fn cell(bytes: &[u8], k: usize) -> ReadCell
     cells::cell(bytes, f, cells::seek(bytes, f, k))
 }
 
-// One cell's grid, as a part of the record: empty for a refused record and for an unsampled or absent cell.
+// One cell's grid, as a slice of the record: empty for a refused record and for an unsampled or absent cell.
 pub fn grid(bytes: &[u8], k: usize) -> &[u8]
     ensures { λ r. ⌜ now r ≡ gridAnswer (parse (now (bytes .entry))) k ⌝ }
 {

@@ -1,4 +1,4 @@
-// A map of bits in a record, from a place on, lowest bit first. A byte past the end counts as 0.
+// A bitmap in a record, lowest bit first. A byte past the end of the record counts as 0.
 ghost use mathlib.Core.Path.{_≡_};
 ghost use Prim.Native.Nat.{ℕ, _^_, _<_, _≤_};
 ghost use lib.Dec.{ltb};
@@ -6,7 +6,7 @@ ghost use Rattle.matcher.specs.Codes.{bit as bitOf};
 ghost use Rattle.shot_record.specs.Fields.{mapOf};
 use super::numbers;
 
-// Bit k of a map with more than k bits: 0 or 1.
+// Bit k of a bitmap with more than k bits.
 pub fn bit(bytes: &[u8], at: usize, k: usize) -> usize
     requires { ⌜ (at ≤ 2 ^ 30) × (k ≤ 2 ^ 30) ⌝ }
     ensures { λ r. ⌜ ((n : ℕ) → k < n → r ≡ bitOf (mapOf n at (now (bytes .entry))) k) ⌝ }
@@ -14,7 +14,7 @@ pub fn bit(bytes: &[u8], at: usize, k: usize) -> usize
     numbers::bit(numbers::byte_at(bytes, at + k / 8), k % 8)
 }
 
-// Are the spare bits of a map of n bits 0? All of them are in its last byte.
+// Are the unused bits of a bitmap of n bits 0? All of them are in its last byte.
 pub fn is_clear(bytes: &[u8], at: usize, n: usize) -> bool
     requires { ⌜ (at ≤ 2 ^ 30) × (n ≤ 2 ^ 30) ⌝ }
     ensures { λ r. ⌜ r ≡ ltb (mapOf n at (now (bytes .entry))) (2 ^ n) ⌝ }

@@ -1,4 +1,4 @@
-// Numbers in the bytes of a record, little-endian. A byte past the end counts as 0.
+// Little-endian numbers in the bytes of a record. A byte past the end of the record counts as 0.
 ghost use mathlib.Core.Path.{_≡_};
 ghost use Prim.Native.Nat.{ℕ, _*_, _^_, _<_, _≤_};
 ghost use mir.Syntax.{w16};
@@ -16,7 +16,7 @@ pub fn byte_at(bytes: &[u8], at: usize) -> u8
     0
 }
 
-// n bytes, from the highest down.
+// n bytes, the highest first.
 fn number_at(bytes: &[u8], at: usize, n: usize) -> u64
     requires { ⌜ (n ≤ 8) × (at ≤ 2 ^ 40) ⌝ }
     ensures value { λ r. ⌜ r ≡ number n at (now (bytes .entry)) ⌝ }
@@ -31,7 +31,7 @@ fn number_at(bytes: &[u8], at: usize, n: usize) -> u64
     x
 }
 
-// 2 and 4 bytes: by one expression where they lie inside the record, which the compiler makes one load. 8 bytes are twice 4.
+// 2 and 4 bytes inside the record are one expression, which the compiler makes one load. 8 bytes are twice 4.
 pub fn two_at(bytes: &[u8], at: usize) -> u32
     requires { ⌜ at ≤ 2 ^ 40 ⌝ }
     ensures value { λ r. ⌜ r ≡ number 2 at (now (bytes .entry)) ⌝ }
@@ -78,7 +78,7 @@ pub fn float_at(bytes: &[u8], at: usize) -> f32
     floats::from_bits(four_at(bytes, at))
 }
 
-// Two's complement: the complement of n is −1 − n.
+// Two's complement: `!n` is −1 − n.
 pub fn coordinate(x: u32) -> i16
     requires { ⌜ x < 65536 ⌝ }
     ensures { λ r. ⌜ r ≡ toZ w16 x ⌝ }
@@ -89,7 +89,7 @@ pub fn coordinate(x: u32) -> i16
     !((0xFFFF - x) as i16)
 }
 
-// The lesser of two numbers.
+// The minimum.
 pub fn at_most(n: usize, most: usize) -> usize
     ensures least { λ r. ⌜ (r ≤ n) × (r ≤ most) ⌝ }
     ensures all { λ r. ⌜ ((k : ℕ) → k < most → k < n → k < r) ⌝ }

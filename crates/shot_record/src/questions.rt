@@ -1,4 +1,4 @@
-// The board's questions of a record that question 21 let pass (documents 01 and 02), for Match and every other entry that asks them.
+// The board's checks (documents 01 and 02) of a record that passes question 21, for Match and every other entry point that makes them.
 ghost use mathlib.Core.Path.{_≡_};
 ghost use Prim.Native.Nat.{_≤_, _<_};
 ghost use lib.ListN.{getD};
@@ -12,7 +12,7 @@ use board::Board;
 use board::NewBoard;
 use board::questions as board_questions;
 
-// A code, from the list of the first 512 or past it from the record.
+// Code k: one of the first 512, which were read before, or a later one from the record.
 fn code_by(bytes: &[u8], f: Fields, first: &[u64; 512], k: usize) -> u64
     requires { ⌜ (f ≡ fieldsOf (now bytes)) × (k < f .«code_count»)
         × (now first ≡ firstCodes (shot (now bytes))) ⌝ }
@@ -24,7 +24,7 @@ fn code_by(bytes: &[u8], f: Fields, first: &[u64; 512], k: usize) -> u64
     fields::code(bytes, f, k)
 }
 
-// Question 8: Is every code below 2^(bits²)? By the first 512 codes, as `codes` reads them.
+// Question 8: Is every code below 2^(bits²)?
 fn codes_below(bytes: &[u8], f: Fields, first: &[u64; 512], bits: u8) -> bool
     requires { ⌜ (f ≡ fieldsOf (now bytes)) × (1 ≤ bits) × (bits ≤ 8)
         × (now first ≡ firstCodes (shot (now bytes))) ⌝ }
@@ -41,7 +41,7 @@ fn codes_below(bytes: &[u8], f: Fields, first: &[u64; 512], bits: u8) -> bool
     true
 }
 
-// The questions 1 to 8 and 22: the board that the record asks for, by its first 512 codes, of which the markers use some.
+// Questions 1 to 8 and 22: the board of the record. Its markers use some of the first 512 codes.
 pub fn board(bytes: &[u8], f: Fields, first: &[u64; 512]) -> NewBoard
     requires { ⌜ (f ≡ fieldsOf (now bytes)) × (now first ≡ firstCodes (shot (now bytes))) ⌝ }
     ensures { λ r. ⌜ r ≡ newBoard (specOf (shot (now (bytes .entry)))) (shot (now (bytes .entry)) .codes) ⌝ }

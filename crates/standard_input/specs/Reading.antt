@@ -1,4 +1,4 @@
--- Reading an input to its end: what follows from one read, and where reading stops.
+-- Reading an input to its end: the step after one read, and where reading stops.
 use Prim.Native.Nat.{ℕ, zero, suc, _+_, _≤_, _<_}
 use mathlib.Core.Path.{_≡_}
 use lib.IntN.{ℤ, pos, negsuc}
@@ -7,19 +7,19 @@ use Rattle.standard_input.specs.declared.Input.the-variants as input
 use Rattle.standard_input.specs.declared.Step.{Step}
 use Rattle.standard_input.specs.declared.Step.the-variants as step
 
--- POSIX's `read` into a list that is not empty answers how many bytes it read, 0 at the end of the input, −1 if it failed; here after `done` bytes
+-- POSIX `read` into a nonempty array returns the number of bytes read, 0 at the end of the input, −1 on failure; here after `done` bytes
 abbrev pub afterRead : ℕ → ℤ → Step
 afterRead done (pos zero) = step.Stop (input.Ended done)
 afterRead done (pos (suc k)) = step.Read (done + suc k)
 afterRead done (negsuc k) = step.Stop input.Failed
 
--- Into a list of n bytes: the end is found with room for a byte more, and a full list has no room for one.
+-- Into an array of n bytes: at the end there is room for at least one more byte, and a full array has no room.
 abbrev pub Stops : ℕ → Input → Type 0
 Stops n (input.Ended k) = k < n
 Stops n (input.Full k) = k ≡ n
 Stops n input.Failed = Unit {0}
 
--- into a list of n bytes, of which `done` are read: at least one byte more is read and no more than there is room for, or reading stops
+-- into an array of n bytes, of which `done` are read: at least one more byte is read, within the array, or reading stops
 abbrev pub Goes : ℕ → ℕ → Step → Type 0
 Goes n done (step.Read k) = (done < k) × (k ≤ n)
 Goes n done (step.Stop i) = Stops n i

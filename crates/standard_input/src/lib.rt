@@ -1,10 +1,8 @@
-// Reads the standard input to its end, into the caller's list. Uses `libc`.
-//
-// Proved: what follows from each answer of `libc::read` (`after_read`); that a read leaves the bytes of the reads before it as they are
-// (`read_part`); that a list which is said to be full is full to its last byte, and that the end of the input is said with room for a byte more
-// (`read_all`). The contract of `libc::read` tells nothing of the bytes, and no contract can name what it answered. Tested in place of that
-// (tests/programs): that the list holds the input's bytes, and that the answer that is judged is the one of `read`, so that the end is said only where
-// a read found it.
+// Reads the standard input to its end into the caller's array.
+// Proved: the step after each result of `libc::read` (`after_read`); a read does not change the bytes of the reads before it (`read_part`); an array
+// that is reported full is full to its last byte, and the end of the input is reported with room for at least one more byte (`read_all`). The
+// contract of `libc::read` states nothing about the bytes, and no contract can name its result. Tested instead (tests/programs): the array has the
+// input's bytes, and the result that is checked is that of `read`, so that the end is reported only if a read found it.
 ghost use mathlib.Core.Path.{_≡_};
 ghost use Prim.Native.Nat.{_+_, _<_, _^_};
 ghost use lib.IntN.{natAbs};
@@ -12,20 +10,20 @@ ghost use lib.ListN.{length, take};
 ghost use Rattle.standard_input.specs.Reading.{afterRead, Goes, Stops};
 use libc::STDIN_FILENO;
 
-// All that was read: so many bytes, and then the end of the input; so many bytes that the list is full, and more may follow; or that a read failed.
+// The number of bytes up to the end of the input; the number of bytes of a full array, after which more may follow; or a failed read.
 pub enum Input {
     Ended(usize),
     Full(usize),
     Failed,
 }
 
-// After one read: so many bytes are read by now, or reading stops.
+// After one read: the number of bytes read so far, or reading stops.
 enum Step {
     Read(usize),
     Stop(Input),
 }
 
-// The read after the first `done` bytes answered `got`. One that a signal interrupts counts as failed.
+// The read after the first `done` bytes returned `got`. One that a signal interrupts counts as failed.
 fn after_read(done: usize, got: isize) -> Step
     requires { ⌜ done + natAbs got < 2 ^ 64 ⌝ }
     ensures { λ r. ⌜ r ≡ afterRead done got ⌝ }

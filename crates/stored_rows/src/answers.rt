@@ -1,14 +1,14 @@
-// The answer of an entry as a row has it, and digests.
+// The result of an entry point in the form of a row, and digests.
 use super::numbers;
 
-// What an entry answered, the words that it told, and the digest of the list that it was lent.
+// The returned number, the words in `values`, and the digest of the output array.
 pub struct Answer {
     pub number: u32,
     pub words: [u32; 19],
     pub digest: u32,
 }
 
-// What stands in the list for words before: 7 × i + 3 at place i.
+// The words of `values` before the call: element i is 7 × i + 3.
 pub const BEFORE: [u32; 19] = [
     3,
     10,
@@ -31,18 +31,18 @@ pub const BEFORE: [u32; 19] = [
     129,
 ];
 
-// How many arguments and words a row of a kind has.
+// The numbers of arguments and words in a row of a kind.
 pub struct Shape {
     pub arguments: u8,
     pub words: u8,
 }
 
-// How many words a row has: kind, arguments, number, words, digest. No row has 35 or more, so an unknown kind is not read.
+// The length of a row: kind, arguments, number, words, digest. No row has 35 words or more, so an unknown kind is not read.
 pub fn row_length(shape: Shape) -> usize {
     shape.arguments as usize + shape.words as usize + 3
 }
 
-// The answer of what is no entry: it never refuses and is lent no list.
+// The result of a function that is no entry point: it never fails and has no output array.
 pub fn of_part(words: [u32; 19]) -> Answer {
     Answer {
         number: 0,
@@ -58,7 +58,7 @@ fn told(words: [u32; 19], k: usize) -> u64 {
     0
 }
 
-// Are the first n words those of the row behind its kind, so many arguments and the number?
+// Are the first n words equal to those of the row after its kind, arguments and number?
 fn same_words(words: [u32; 19], row: [u64; 32], arguments: u8, n: u8) -> bool {
     let mut k: u8 = 0;
     while k < n {
@@ -70,7 +70,7 @@ fn same_words(words: [u32; 19], row: [u64; 32], arguments: u8, n: u8) -> bool {
     true
 }
 
-// The number stands behind the arguments, then the words and the digest.
+// The number follows the arguments, then the words and the digest.
 pub fn agrees(answer: Answer, row: [u64; 32], shape: Shape) -> bool {
     let words = answer.words;
     let number_at = shape.arguments as usize + 1;

@@ -1,9 +1,9 @@
-// Kinds 11 and 111: the whole layout of a board, as the count of markers and two digests.
+// Kinds 11 and 111: the whole layout of a board, as the number of markers and two digests.
 use super::answers;
 use super::answers::BEFORE;
 use super::numbers;
 
-// Places on a board and one beyond it on every side are counted from 0; their coordinates start at -1.
+// Squares of a board and one beyond it on every side are counted from 0; their coordinates start at -1.
 fn coordinate(k: u16) -> i32 {
     if k == 0 {
         return -1;
@@ -44,7 +44,7 @@ fn places(rows: u8, cols: u8, legacy: u32) -> u32 {
     h
 }
 
-// Where the marker and the corner of an id are.
+// The positions of the marker and the corner with an id.
 fn after_squares(h: u32, rows: u8, cols: u8, legacy: u32, id: u32) -> u32 {
     answers::after_both(
         answers::after_both(

@@ -1,6 +1,6 @@
-// Rows of stored answers: reading them byte by byte, the lists that they build up, what their words stand for, digests, how many agree, and the answers
-// to rows that ask for what no entry tells by itself. For the program `replay`. Uses `integers`, `floats`, `score_matrix`, `oracle_exports`,
-// `standard_input`, `io` and `libc`.
+// Reads the rows of stored answers for the program `replay` and compares them with results of this library.
+// It reads rows byte by byte, builds up their lists, decodes their words, computes digests, counts the rows that agree, and has the functions for
+// rows about what no entry point returns by itself.
 pub mod answers;
 mod layout;
 pub mod lines;

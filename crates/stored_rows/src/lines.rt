@@ -1,18 +1,18 @@
-// The lines of the standard input, one at a time. Words are upper-case hexadecimal, one space apart; a line that starts with # is a comment.
+// The lines of the standard input, one at a time. Words are upper-case hexadecimal, separated by one space; a line that starts with # is a comment.
 ghost use Prim.Native.Nat.{_<_};
 use standard_input::Input;
 
 // A line as far as it is read. A comment has no words; a line that is not read has one, of no known kind.
 pub struct Line {
-    // The words that have ended, and how many.
+    // The complete words, and their number.
     pub words: [u64; 32],
     pub count: usize,
-    // May there be a line after it?
+    // Can there be a line after it?
     pub more: bool,
-    // The word after them, and whether it has a digit yet.
+    // The next word, and whether it has a digit yet.
     word: u64,
     started: bool,
-    // Has it a byte yet, is it a comment, has it a byte that is not expected?
+    // Does it have a byte yet, is it a comment, does it have an unexpected byte?
     begun: bool,
     comment: bool,
     broken: bool,
@@ -54,7 +54,7 @@ impl Line {
         self
     }
 
-    // Refused: what is no digit, a digit after a leading zero, a 17th digit.
+    // Refused: no digit, a digit after a leading zero, a 17th digit.
     fn with_digit(mut self, digit: u8) -> Line {
         let word = self.word;
         if 15 < digit {
@@ -71,7 +71,7 @@ impl Line {
         self
     }
 
-    // Refused: no digit, a 33rd word.
+    // Refused: a word without a digit, a 33rd word.
     fn word_ended(mut self) -> Line {
         let word = self.word;
         let at = self.count;
@@ -128,7 +128,7 @@ impl Line {
         line
     }
 
-    // Where there is no byte: a line with no line feed is not read, and neither is one at which a read fails.
+    // At the end of the input or a failed read: a line without a line feed is not read, nor is one at which a read fails.
     fn at_end(mut self, failed: bool) -> Line {
         self.more = false;
         if failed || (self.begun && !self.comment) {
@@ -138,7 +138,7 @@ impl Line {
     }
 }
 
-// A byte, the end of the input, or that a read failed.
+// A byte, the end of the input, or a failed read.
 enum Next {
     Byte(u8),
     Ended,
@@ -156,7 +156,7 @@ fn next_byte() -> Next {
     }
 }
 
-// Nothing says that a line ends, and a loop has to: it counts its turns down from a number that no run uses up.
+// A line may have any length, and a loop must terminate: it counts down from a number that no run uses up.
 pub fn next_line() -> Line {
     let mut line = Line::new();
     let mut turns = u64::MAX;

@@ -1,10 +1,10 @@
-// The two lists that rows build up, of bytes and of words, what is lent of them, and the lists for results.
+// The two lists that rows build up, of bytes and of words, the slices of them that are passed, and the output arrays.
 ghost use mathlib.Core.Path.{_≡_};
 ghost use lib.ListN.{length};
 use super::numbers;
 use super::tally::Effect;
 
-// The length with `n` more behind `at`; 0 where there is none to add, or no room for it in `room` in all.
+// The length with `n` more after `at`; 0 if there is none to add, or if the total exceeds `room`.
 fn end_of(at: usize, n: usize, room: usize) -> usize {
     if n == 0 || room < n {
         return 0;
@@ -15,7 +15,7 @@ fn end_of(at: usize, n: usize, room: usize) -> usize {
     at + n
 }
 
-// How many bytes or words a row of the kinds 1 to 4 adds; none if it has not its number of words.
+// How many bytes or words a row of kinds 1 to 4 adds; none if it does not have its number of words.
 fn added_count(row: [u64; 32], count: usize) -> usize {
     let n = row[1];
     match row[0] {
@@ -31,7 +31,7 @@ fn added_count(row: [u64; 32], count: usize) -> usize {
     }
 }
 
-// Byte k of those that a row adds: in a row of kind 1 they stand in the words, 8 a word, the first lowest.
+// Byte k of those that a row adds: a row of kind 1 has 8 in a word, the first lowest.
 fn byte_of(row: [u64; 32], k: usize) -> u8 {
     if row[0] == 2 {
         return numbers::byte(row[2]);
@@ -118,7 +118,7 @@ pub fn given(words: &[u64], i: usize) -> u64 {
     0
 }
 
-// Corners have four words each: whether it has a grid point, u, v and its score.
+// A corner has four words: whether it has a grid point, u, v and its score.
 pub fn scores(words: &[u64]) -> [f32; 1100]
     ensures { λ r. ⌜ 1100 ≡ length r ⌝ }
 {
@@ -143,7 +143,7 @@ pub fn grid(words: &[u64]) -> [i32; 3300]
     grid
 }
 
-// The words behind those of so many corners.
+// The words after those of so many corners.
 pub fn inliers(words: &[u64], corners: usize) -> [usize; 1100]
     ensures { λ r. ⌜ 1100 ≡ length r ⌝ }
 {
@@ -157,7 +157,7 @@ pub fn inliers(words: &[u64], corners: usize) -> [usize; 1100]
     inliers
 }
 
-// Words of 32 bits from place `first` on.
+// 32-bit words from index `first` on.
 pub fn short_words(words: &[u64], first: u8) -> [u32; 8200]
     ensures { λ r. ⌜ 8200 ≡ length r ⌝ }
 {
@@ -170,14 +170,14 @@ pub fn short_words(words: &[u64], first: u8) -> [u32; 8200]
     list
 }
 
-// Is a number the least of its four turns?
+// Is a number the least of its four rotations, their canonical representative?
 fn is_least_turn(number: u64, side: u8) -> bool {
     number <= oracle_exports::oracle_rotate_code_u64(number, side, 1)
         && number <= oracle_exports::oracle_rotate_code_u64(number, side, 2)
         && number <= oracle_exports::oracle_rotate_code_u64(number, side, 3)
 }
 
-// How many there are after a number: it is put behind them if it is the least of its turns.
+// Appends a number if it is the least of its rotations. Returns the count.
 fn put_code(codes: &mut [u64], found: usize, number: u64, side: u8) -> usize {
     if found < codes.len() && is_least_turn(number, side) {
         codes[found] = number;
@@ -195,8 +195,8 @@ fn put_codes(codes: &mut [u64], side: u8, count: usize) {
     }
 }
 
-// The numbers below 2,048, in rising order, that are the least of their turns, 0 past the last of them, but for `value` if there is such a place. No
-// more than `count` are looked for: the caller lends so many.
+// The numbers below 2,048, ascending, that are the least of their rotations, then 0; but `value` at `place`, if there is such an index. No more than
+// `count` are searched for: the caller passes so many.
 pub fn codes(side: u64, count: usize, place: u64, value: u64) -> [u64; 1025]
     ensures { λ r. ⌜ 1025 ≡ length r ⌝ }
 {
@@ -206,7 +206,7 @@ pub fn codes(side: u64, count: usize, place: u64, value: u64) -> [u64; 1025]
     codes
 }
 
-// What stands at place i of a list for results before it is lent.
+// Element i of an output array before the call.
 fn filling(i: usize) -> u32 {
     if 0xF_FFFF < i {
         return 0;
@@ -222,7 +222,7 @@ pub fn fill(list: &mut [u32]) {
     }
 }
 
-// The same for a list of signed words.
+// The same for signed words.
 pub fn fill_signed() -> [i32; 3000]
     ensures { λ r. ⌜ 3000 ≡ length r ⌝ }
 {

@@ -1,4 +1,4 @@
-// What the words of a row stand for.
+// The values of the words of a row.
 ghost use Prim.Native.Nat.{_≤_};
 
 pub fn low(w: u64) -> u32 {
@@ -13,7 +13,7 @@ pub fn byte(w: u64) -> u8 {
     (w % 256) as u8
 }
 
-// A row above FF asks what the kind 100 less asks, of a legacy board.
+// A row of a kind above FF has the meaning of the kind 100 less, for a legacy board.
 pub fn kind(w: u64) -> u64 {
     w % 256
 }
@@ -33,7 +33,7 @@ pub fn lows(row: [u64; 32]) -> [u32; 32] {
     bits
 }
 
-// The signed number with these bits. The complement of n is −1 − n.
+// The signed number with these bits. `!n` is −1 − n.
 pub fn signed(bits: u32) -> i32 {
     if bits < 0x8000_0000 {
         return bits as i32;
@@ -41,7 +41,7 @@ pub fn signed(bits: u32) -> i32 {
     !((0xFFFF_FFFF - bits) as i32)
 }
 
-// The same for a number of 16 bits; 0 for one out of their range.
+// The same for 16 bits; 0 for a number out of range.
 pub fn short(bits: u32) -> i16 {
     if bits < 0x8000 {
         return bits as i16;
@@ -61,7 +61,7 @@ pub fn word_at(row: [u64; 32], k: usize) -> u64 {
     0
 }
 
-// How much of a list with room for `room` is lent, where a row asks for n.
+// The length of the slice of an array of length `room` that is passed if a row requests n.
 pub fn least(n: u64, room: usize) -> usize
     ensures { λ r. ⌜ r ≤ room ⌝ }
 {
@@ -71,7 +71,7 @@ pub fn least(n: u64, room: usize) -> usize
     room
 }
 
-// How many of n are behind the first `before`.
+// How many of n come after the first `before`.
 pub fn behind(n: usize, before: usize) -> u64 {
     if n < before {
         return 0;

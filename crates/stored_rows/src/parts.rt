@@ -1,4 +1,4 @@
-// Kinds 10 to 18: what no entry tells by itself.
+// Kinds 10 to 18: what no entry point returns by itself.
 use super::answers::BEFORE;
 use super::layout;
 use super::numbers;
@@ -48,7 +48,7 @@ fn cell_corners(u: i16, v: i16, px: f32) -> [u32; 19] {
     words
 }
 
-// 16 entries from one on.
+// 16 entries from `first` on.
 fn table_entries(first: u8) -> [u32; 19] {
     let mut words = BEFORE;
     let mut k = 0;
@@ -67,7 +67,7 @@ fn weight(row: [u64; 32]) -> [u32; 19] {
     ))
 }
 
-// The score of a grid, its evidence, and the code that is read.
+// The score of a grid, its evidence, and the code read.
 fn score(grid: &[u8], row: [u64; 32]) -> [u32; 19] {
     let bits = numbers::byte(row[1]);
     let border = numbers::byte(row[2]);
@@ -84,7 +84,7 @@ fn score(grid: &[u8], row: [u64; 32]) -> [u32; 19] {
     words
 }
 
-// Kinds 12 to 14 take two signed numbers of 16 bits.
+// Kinds 12 to 14 take two signed 16-bit numbers.
 fn by_point(kind: u64, bits: [u32; 32]) -> [u32; 19] {
     let turn = numbers::byte(bits[1] as u64);
     match kind {

@@ -1,13 +1,13 @@
-// What rows do, and how many of them agree.
+// The effects of rows, and how many of them agree.
 use libc::STDOUT_FILENO;
 
-// How much of the lists is in use.
+// The used lengths of the lists.
 pub struct Used {
     pub bytes: usize,
     pub words: usize,
 }
 
-// What a row does. Those that add say how much is in use afterwards, and one that asks whether its answer agrees.
+// The effect of a row: the used length after adding, or whether the result agrees.
 pub enum Effect {
     Nothing,
     Unread,
@@ -32,7 +32,7 @@ pub fn used_after(mut used: Used, effect: Effect) -> Used {
     }
 }
 
-// Rows that ask, those of them that agree, rows that are not read, and lines.
+// Rows that are compared, those of them that agree, rows that are not read, and lines.
 pub struct Tally {
     asked: u64,
     agreed: u64,
@@ -42,7 +42,7 @@ pub struct Tally {
     first: u64,
 }
 
-// One more. A full count stays full, since an input may be of any length.
+// One more. The count saturates, since an input may have any length.
 fn more(count: u64) -> u64 {
     if count < u64::MAX {
         return count + 1;

@@ -1,5 +1,5 @@
--- P11 of the proved table, the refusal: the answers to Match's questions compute, 15 for every shot with the two cells, 21, 1 to 14, 22 and 23 for
--- one record. Assumes nothing.
+-- P11 of the proved table, the refusal, by computation: question 15 for every shot with the two cells, questions 21, 1 to 14, 22 and 23 for one
+-- record. Assumes nothing.
 use mathlib.Core.Path.{_≡_, refl, _∙_}
 use mathlib.Core.List.{List}
 use mathlib.Core.Option.{Option, none, some}

@@ -1,4 +1,4 @@
--- Document 02's small shots: each answer computes. Assumes nothing.
+-- Document 02's small shots: each follows by computation. Assumes nothing.
 use mathlib.Core.Path.{refl}
 use lib.Ieee.{ofBits, div, le, lt, eq}
 use borrow.Author.Tests.{le-leb}

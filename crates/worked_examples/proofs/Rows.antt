@@ -1,4 +1,4 @@
--- The proved table: each row computes. Assumes nothing.
+-- The proved table: each row follows by computation. Assumes nothing.
 use mathlib.Core.Path.{refl}
 use lib.Ieee.{ofBits, toBits, ofInt, neg, sub, mul, div, le, lt, eq}
 use Rattle.matcher.specs.Codes.{fromBits, source}

@@ -55,7 +55,7 @@ never-same r t e =
     omega arith
 
 -- ---- turns
--- the place on which one turn puts (0, 0), counted from the least point of the turned square, is (0, 1)
+-- one turn maps (0, 0) to (0, 1), relative to the least point of the rotated square
 one-below : (q : Place) → moved (asPoint q) (pos 0) (negsuc 0) ≡ point (pos 0) (pos 0) → indexOf 2 q ≡ 2
 unfolding plus minus
 one-below q e =
@@ -111,7 +111,7 @@ module _ (s : Shot) (first second : Option Sample) where
       on (suc zero) l = record { i = 0; j = 1; column = refl; row = refl; inside = (lit< tt, lit< tt) }
       on (suc (suc k)) l = absurd (omega arith)
 
--- tx goes before ty
+-- tx is ordered before ty
 not-before : Precedes (align 0 (pos 1) (pos 0)) (align 0 (pos 0) (pos 3)) → ⊥
 not-before (inl l) = omega arith
 not-before (inr (e, inl l)) = l .lt

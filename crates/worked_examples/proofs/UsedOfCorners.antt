@@ -104,7 +104,7 @@ twelve : cornerCount 4 5 ≡ 12
 unfolding countPassing
 twelve = refl
 
--- the result that stands for a place past the last
+-- the default result after the last
 default : resultOf x 0 ≡ result 0 2
 default = ap (λ (o : Option ℕ). result 0 (index o)) chosen-0
 
@@ -149,7 +149,7 @@ words : along oneFloat 2 ∷ along oneFloat 1 ∷ [] ≡ 0x40000000 ∷ 0x3F8000
 unfolding ofBits toBits ofInt mul
 words = refl
 
--- a turn puts cell (0, 0) on the square of marker 3
+-- a turn maps cell (0, 0) to the square of marker 3
 on-marker : markerOn (board 4 5) (applied (align 1 (pos 2) (pos 1)) (point (pos 0) (pos 0)) .u) (applied (align 1 (pos 2) (pos 1)) (point (pos 0) (pos 0)) .v)
     ≡ numbered.Id 3
 unfolding sends parityOf numberAtℤ numberAt countPassing

@@ -61,7 +61,7 @@ use Rattle.worked_examples.specs.Table.{board}
 use Rattle.worked_examples.specs.Uses.{greys, twoByTwo, unsampled, twoSampled, pair, demanding, elsewhere, pairRecord, turnedOnce, OfRecords}
 
 -- ---- the records
--- bytes that are the same from a place on and below 256, where a test of them computes
+-- equal bytes from an offset on, below 256, where a test of them computes
 same-bytes : (a b : List ℕ) (n at to : ℕ) → every (λ (i : ℕ). eqb (getD a (at + i) 0) (getD b (to + i) 0)) n ≡ true
     → (i : ℕ) → i < n → getD a (at + i) 0 ≡ getD b (to + i) 0
 same-bytes a b n at to e i l = eqb-true (getD a (at + i) 0) (getD b (to + i) 0) (each (λ (i : ℕ). eqb (getD a (at + i) 0) (getD b (to + i) 0)) n e i l)
@@ -134,7 +134,7 @@ unfolding pair
 table-is = refl
 
 -- ---- the reader
--- where the sections of the record are, and the part of its first cell
+-- the sections of the record, and the byte range of its first cell's grid
 outline : (b : List ℕ) → length b ≡ 84 → SameBetween 0 15 (pairRecord 200) b → SameBetween 31 34 (pairRecord 200) b → SameOutline (pairRecord 200) b
 unfolding pair bytesOf littleEndian fromBits number thresholdAt pxAt tableAt rowsAt cellCountAt cellMap cellAt
 outline b long header map = record { size = sym long; header = header; map = map }
@@ -163,7 +163,7 @@ agrees g =
     let same = same-between (pairRecord 200) (pairRecord g) in
     (refl, same 0 15 15 refl refl, same 31 3 34 refl refl, same 43 16 59 refl refl)
 
--- ---- the sections, and reading back
+-- ---- the sections, and parsing back
 pair-bytes : Bytes (pairRecord 200)
 pair-bytes = all-bytes (pairRecord 200) pair-small
 

@@ -1,4 +1,4 @@
--- Document 02: small shots, which of them a question before 15 refuses and how many of their cells contribute, as statements about the definitions.
+-- Document 02: small shots, which of them fail a question before 15 and how many of their cells contribute, as statements about the definitions.
 use mathlib.Core.Path.{_≡_}
 use mathlib.Core.List.{List}
 use mathlib.Core.Option.{Option, none, some}
@@ -10,23 +10,23 @@ use Rattle.hypothesis.specs.Evidence.{contributingCells}
 use Rattle.board_match.specs.Questions.{askedBefore15}
 use Rattle.worked_examples.specs.Table.{align, showing, tooWide}
 
--- sampled with a fraction of 1, and with one of 0: with weight 1 and 0
+-- sampled with fraction 1 and with fraction 0: weight 1 and 0
 abbrev pub blackBorder : ℕ → List ℕ → Option Sample
 blackBorder threshold grid = some (record { fraction = 0x3F800000; threshold = threshold; grid = grid })
 
 abbrev pub whiteBorder : ℕ → List ℕ → Option Sample
 whiteBorder threshold grid = some (record { fraction = 0; threshold = threshold; grid = grid })
 
--- how many cells contribute to the placement with turn 0 and the translation (tx, 0)
+-- the number of cells that contribute to the placement with turn 0 and translation (tx, 0)
 abbrev pub countedAt : ℕ → ℕ → Option Sample → Option Sample → ℕ
 countedAt tx u first second = contributingCells (showing tooWide u first second) (align 0 (pos tx) (pos 0))
 
 pub record Requests : Type 0 where
-  -- 2.3: two cells at (0, 0) are refused, sampled or not, and before their samples (13) or the list (14) are looked at. One square apart they pass
+  -- 2.3: two cells at (0, 0) are refused, sampled or not, before samples (13) and list (14) are checked. One square apart they pass
   pub filed-twice : (first second : Option Sample) (words : ℕ) → askedBefore15 (showing tooWide 0 first second) words ≡ some refusal.RepeatedPoint
   pub side-by-side : (words : ℕ) → 36 ≤ words → askedBefore15 (showing tooWide 1 none none) words ≡ none
-  -- 2.5: on the marker squares (1, 0) and (3, 0), whatever they show, two cells of weight 1 are counted, and one alone if the other has weight 0; on the
-  -- plain squares (0, 0) and (2, 0) none is. Of two cells side by side one is, here and there
+  -- 2.5: on the marker squares (1, 0) and (3, 0), whatever their greys, two cells of weight 1 count, and only one if the other has weight 0; on the
+  -- plain squares (0, 0) and (2, 0) none does. Of two adjacent cells one does, in both positions
   pub both : (t : ℕ) (g h : List ℕ) → countedAt 1 2 (blackBorder t g) (blackBorder t h) ≡ 2
   pub one : (t : ℕ) (g h : List ℕ) → (countedAt 1 2 (blackBorder t g) (whiteBorder t h) ≡ 1) × (countedAt 1 2 (blackBorder t g) none ≡ 1)
   pub neither : (t : ℕ) (g h : List ℕ) → countedAt 0 2 (blackBorder t g) (blackBorder t h) ≡ 0

@@ -40,11 +40,10 @@ use Rattle.link_check.specs.declared.LinkViolationKind.the-variants as kind
 use Rattle.link_check.specs.Links.{linkCount}
 use Rattle.link_check.specs.Violations.{Violation, expectation, violations}
 
--- an alignment
 abbrev pub align : ℕ → ℤ → ℤ → GridAlignment
 align turn tx ty = record { turn = turn; tx = tx; ty = ty }
 
--- 0, 0.25, 0.5, 0.75, 1, 2, 4 and −6 by their bits
+-- 0, 0.25, 0.5, 0.75, 1, 2, 4 and −6 as bit patterns
 abbrev pub zeroFloat : Float
 zeroFloat = ofBits binary32 0
 
@@ -69,7 +68,7 @@ four = ofBits binary32 0x40800000
 abbrev pub minusSix : Float
 minusSix = ofBits binary32 0xC0C00000
 
--- settings with a border threshold, the rest of them as in c
+-- settings c with another border threshold
 abbrev pub overThreshold : BoardMatchConfig → Float → BoardMatchConfig
 overThreshold c threshold =
     record { «px_per_square» = c .«px_per_square»; «alignment_min_margin» = c .«alignment_min_margin»; «cell_weight_border_threshold» = threshold }
@@ -78,7 +77,7 @@ overThreshold c threshold =
 abbrev pub evident : GridAlignment → ℕ → Float → Hypothesis
 evident p n x = record { alignment = p; evidence = evidence.Number x; «contributing_cells» = n }
 
--- a shot with P3's board and the cells (0, 0) and (u, 0), sampled or not, the rest of it as in s
+-- a shot s with P3's board and the cells (0, 0) and (u, 0), sampled or not
 abbrev pub twoCells : ℕ → Option Sample → Option Sample → List Cell
 twoCells u first second = record { u = pos 0; v = pos 0; sample = first } ∷ record { u = pos u; v = pos 0; sample = second } ∷ []
 
@@ -100,7 +99,8 @@ showing s u first second =
       cells = twoCells u first second;
     }
 
--- such a shot with the cells (0, 0) and (5, 0): default settings, side 4, border 1, sizes 1.0 and 0.5, codes 0 to 7, 9 and 10 (8 is 1 turned), no cell sampled
+-- such a shot with the cells (0, 0) and (5, 0): default settings, side 4, border 1, sizes 1.0 and 0.5, codes 0 to 7, 9 and 10 (8 is 1 rotated), no
+-- cell sampled
 abbrev pub tooWide : Shot
 tooWide =
     record {
@@ -127,7 +127,7 @@ board rows cols = record { rows = rows; cols = cols; bits = 4; «border_bits» =
 abbrev pub links : List ℕ
 links = 3 ∷ 1 ∷ 3 ∷ 1 ∷ 3 ∷ 9 ∷ []
 
--- an entry of marker 3, whose corners are P7's
+-- a violation of marker 3, whose corners are P7's
 abbrev pub tableEntry : LinkViolationKind → Option ℕ → List ℕ → Violation
 tableEntry k reported missing =
     record { marker = 3; kind = k; reported = reported; expected = 1 ∷ 2 ∷ 6 ∷ 5 ∷ []; missing = missing }
@@ -171,8 +171,8 @@ pub record Table : Type 0 where
       × ((p : GridAlignment) (n : ℕ) → margin (evidence.Number twoFloat) four (choice.Placement (evident p n minusSix)) ≡ twoFloat)
   -- null score, side 4: bits C1317218
   pub P10 : toBits binary32 (nullScore 4) ≡ 0xC1317218
-  -- P3's board: cells (0, 0), (2, 0) give 44 placements, by the list and by the formula; (0, 0), (4, 0) give 8; (0, 0), (5, 0) is refused 15,
-  -- where question 15 is asked and as Match's answer to a record
+  -- P3's board: cells (0, 0), (2, 0) give 44 placements, by the list and by the formula; (0, 0), (4, 0) give 8; (0, 0), (5, 0) is refused 15, as
+  -- question 15 and as Match's result for a record
   pub P11 :
       ((s : Shot) (first second : Option Sample) → (length (placements (showing s 2 first second)) ≡ 44) × (countOf (showing s 2 first second) ≡ 44))
       × ((s : Shot) (first second : Option Sample) → (length (placements (showing s 4 first second)) ≡ 8) × (countOf (showing s 4 first second) ≡ 8))

@@ -1,13 +1,13 @@
-//! The shape in which both sides answer, as the C functions do: a number, words, and a list that is lent.
+//! The shape in which both sides answer, as the C functions do: a number, words, and an output array.
 
-/// What is written of each list stands at its front; the places past it stay as they were.
+/// Written words are at the start of each array; the places past them keep their values.
 #[derive(Clone, Debug, Default, PartialEq, Eq)]
 pub struct Answer {
-    /// 0, or that of the question answered with no.
+    /// 0, or the number of the check that fails.
     pub number: u32,
     /// Written to `values`.
     pub words: Vec<u32>,
-    /// Written to the list that is lent.
+    /// Written to the output array.
     pub list: Vec<u32>,
 }
 
@@ -37,12 +37,12 @@ impl Answer {
     }
 }
 
-/// A list before a call: numbers that few answers hold, each another.
+/// A list before a call: values that few answers have, all different.
 pub fn before(places: usize) -> Vec<u32> {
     (0..places as u32).map(|i| 0xFFC0_0000 + i).collect()
 }
 
-/// A list after a call that wrote so many words to its front, as far as there is room.
+/// A list after a call that wrote so many words to its start, as far as there is room.
 pub fn after(mut list: Vec<u32>, written: &[u32]) -> Vec<u32> {
     let count = written.len().min(list.len());
     list[..count].copy_from_slice(&written[..count]);

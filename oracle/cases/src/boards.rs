@@ -1,5 +1,5 @@
-//! Arguments for the constructor of a board: good ones, and these with one, two or many of them changed, to good values
-//! and to bad ones. Two bad ones at a time show in which order the questions are asked.
+//! Arguments for the constructor of a board: good ones, and these with one, two or many of them changed, to good values and
+//! to bad ones. Two bad ones at a time show in which order the checks are made.
 
 mod look_alikes;
 
@@ -11,15 +11,15 @@ use std::sync::{LazyLock, Mutex};
 
 pub use look_alikes::{Pair, random_pair, with_look_alikes};
 
-/// The codes are the first `code_count` that are listed for the side, of which no two are alike as far as the side has so many,
-/// but for `value` at `place` where there is such a place.
+/// The codes are the first `code_count` that are listed for the side, of which no two are equal up to rotation as far as the
+/// side has so many, but for `value` at `place` where there is such a place.
 #[derive(Clone, Copy, Debug)]
 pub struct BoardArguments {
     pub rows: u32,
     pub cols: u32,
     pub bits: u32,
     pub border_bits: u32,
-    /// The mark of a board from before OpenCV 4.6.
+    /// The legacy flag, of a board from before OpenCV 4.6.
     pub legacy_pattern: bool,
     pub cell_size: f32,
     pub marker_size_rel: f32,
@@ -36,7 +36,7 @@ impl BoardArguments {
         }
     }
 
-    /// A side above 8 counts as 8: question 6 refuses it, whatever its codes are.
+    /// A side above 8 counts as 8: check 6 refuses it, whatever its codes are.
     pub fn side(&self) -> u8 {
         self.bits.min(8) as u8
     }
@@ -45,7 +45,7 @@ impl BoardArguments {
         self.rows as usize * self.cols as usize / 2
     }
 
-    /// They live as long as the program, which the dictionary of the Rust asks for. Each list is made once.
+    /// They live as long as the program, which upstream's dictionary needs. Each list is made once.
     pub fn codes(&self) -> &'static [u64] {
         type Made = HashMap<(u8, usize, usize, u64), &'static [u64]>;
         static MADE: LazyLock<Mutex<Made>> = LazyLock::new(Mutex::default);
@@ -61,7 +61,7 @@ impl BoardArguments {
     }
 }
 
-/// A board that is accepted, with as many codes as it has markers and without a mark.
+/// A board that is accepted, with as many codes as it has markers and without the legacy flag.
 pub const fn board([rows, cols]: [u32; 2], cell_size: f32) -> BoardArguments {
     BoardArguments {
         rows,

@@ -1,4 +1,4 @@
-//! Sampled cells: greys and a threshold.
+//! Sampled cells: grey levels and a threshold.
 
 use crate::prng::Prng;
 use std::ops::RangeInclusive;
@@ -16,7 +16,7 @@ pub struct Cell {
     pub bits: u8,
     pub border: u8,
     pub threshold: u8,
-    /// The greys of the bits and of the border around them, row by row.
+    /// The grey levels of the bits and of the border around them, row by row.
     pub grid: Vec<u8>,
 }
 
@@ -69,14 +69,14 @@ impl Cell {
         greys.map(|&grey| i32::from(self.threshold) - i32::from(grey))
     }
 
-    /// Any threshold, and greys that are random, half of the time near the threshold.
+    /// Any threshold, and grey levels that are random, half of the time near the threshold.
     pub fn random(prng: &mut Prng, size: [u8; 2]) -> Self {
         let threshold = any_grey(prng);
         let pattern = prng.pick(&PATTERNS[PATTERNS.len() - 2..]);
         Self::of_pattern(prng, size, threshold, pattern)
     }
 
-    /// Shows a code, black where a bit is set, in greys on both sides of the threshold; one bit in eight is in doubt.
+    /// Shows a code, black where a bit is set, in grey levels on both sides of the threshold; one bit in eight is in doubt.
     pub fn showing(prng: &mut Prng, [bits, border]: [u8; 2], code: u64) -> Self {
         let threshold = 60 + prng.below(140) as u8;
         Self::painted([bits, border], threshold, |column, row| {

@@ -1,4 +1,4 @@
-//! Marker codes of each side, their turns, and codes of which no two are alike.
+//! Marker codes of each side, their rotations, and codes of which no two are equal up to rotation.
 
 use crate::prng::Prng;
 use std::collections::HashSet;
@@ -39,7 +39,7 @@ fn checker(side: u8) -> u64 {
         .fold(0, |code, bit| code | 1 << bit)
 }
 
-/// Bit y × n + x of the turned code is bit sy × n + sx of the code (document 01).
+/// Bit y × n + x of the rotated code is bit sy × n + sx of the code (document 01).
 pub fn turned_code(code: u64, side: u8, turn: u8) -> u64 {
     let n = u32::from(side);
     let mut turned = 0;
@@ -57,17 +57,17 @@ pub fn turned_code(code: u64, side: u8, turn: u8) -> u64 {
     turned
 }
 
-/// Two codes are alike if the least of their turns is the same.
+/// Two codes are equal up to rotation if the least of their rotations is the same.
 pub fn least_turn(code: u64, side: u8) -> u64 {
     let turned = TURNS.map(|turn| turned_code(code, side, turn));
-    turned.min().expect("there are four turns")
+    turned.min().expect("there are four rotations")
 }
 
 /// Below this there are as many codes as any list has, of every side that has so many.
 const NUMBERS: u64 = 2048;
 
-/// The codes of a generated board: the first `count` of the numbers below 2,048, in rising order, that are the least of their
-/// turns, and 0 past the last of them. Only sides 1 to 3 have fewer than a board may need: 2, 6 and 140.
+/// The codes of a generated board: the first `count` of the numbers below 2,048, in rising order, that are the least of
+/// their rotations, and 0 past the last of them. Only sides 1 to 3 have fewer than a board may need: 2, 6 and 140.
 pub fn listed_codes(side: u8, count: usize) -> Vec<u64> {
     let least = (0..NUMBERS).filter(|&number| least_turn(number, side) == number);
     let mut codes: Vec<u64> = least.take(count).collect();
@@ -75,12 +75,12 @@ pub fn listed_codes(side: u8, count: usize) -> Vec<u64> {
     codes
 }
 
-/// How many codes there are of which no two are alike; for a side of 4 and more, as many as any list has.
+/// How many codes there are of which no two are equal up to rotation; for a side of 4 and more, as many as any list has.
 pub fn most_different(side: u8) -> usize {
     [0, 2, 6, 140, usize::MAX][usize::from(side.min(4))]
 }
 
-/// Random codes of which no two are alike. The side must have so many.
+/// Random codes of which no two are equal up to rotation. The side must have so many.
 pub fn random_different_codes(prng: &mut Prng, side: u8, count: usize) -> Vec<u64> {
     assert!(count <= most_different(side));
     let mut seen = HashSet::new();
@@ -98,7 +98,7 @@ pub fn random_different_codes(prng: &mut Prng, side: u8, count: usize) -> Vec<u6
 mod tests {
     use super::*;
 
-    /// Every code of a side from 1 to 4, by the least of its turns.
+    /// Every code of a side from 1 to 4, by the least of its rotations.
     #[test]
     fn how_many_are_different() {
         for (side, count) in [(1, 2), (2, 6), (3, 140), (4, 16_456)] {
@@ -115,7 +115,7 @@ mod tests {
         assert_eq!(listed_codes(2, 7), [0, 1, 3, 6, 7, 15, 0]);
         assert_eq!(listed_codes(3, 8), [0, 1, 2, 3, 5, 6, 7, 10]);
         assert_eq!(listed_codes(3, 141)[138..], [495, 511, 0]);
-        // The corner top right is bit 3, and bit 0 when it is turned.
+        // The corner top right is bit 3, and bit 0 when it is rotated.
         assert_eq!(listed_codes(4, 9), [0, 1, 2, 3, 4, 5, 6, 7, 9]);
         for side in 4..=8 {
             let codes = listed_codes(side, 1025);

@@ -1,4 +1,4 @@
-//! Boards, corners and alignments for the corner entry.
+//! Boards, corners and alignments for the corner entry point.
 
 mod limits;
 mod random;
@@ -24,7 +24,7 @@ pub const FARTHEST_TRANSLATION: i32 = 8192;
 #[derive(Clone, Debug)]
 pub struct CornerInput {
     pub board: BoardArguments,
-    /// Scores, grid words and the length of the lent list; no inliers.
+    /// Scores, grid words and the length of the output array; no inliers.
     pub lists: CornerLists,
     pub turn: u32,
     /// That of corners.
@@ -32,7 +32,7 @@ pub struct CornerInput {
 }
 
 impl CornerInput {
-    /// No corners, and a list with just the places that are asked for.
+    /// No corners, and an output array of just the length that is needed.
     pub fn new(board: BoardArguments, turn: u32, translation: [i32; 2]) -> Self {
         let lists = CornerLists {
             places: words_needed(&board),
@@ -46,7 +46,7 @@ impl CornerInput {
         }
     }
 
-    /// Which asks the questions about a board: the list has places enough for every board that is accepted.
+    /// Which makes the checks of a board: the output array is long enough for every board that is accepted.
     pub fn without_corners(board: BoardArguments) -> Self {
         let mut input = Self::new(board, 0, [0, 0]);
         input.lists.places = MOST_PLACES;
@@ -59,7 +59,7 @@ impl CornerInput {
         *self.lists.scores.last_mut().expect("one was added") = score;
     }
 
-    /// The grid point that the alignment sends to a board corner. The turn is 0 to 3.
+    /// The grid point that the alignment sends to a board corner. The rotation is 0 to 3.
     pub const fn source(&self, [i, j]: [i32; 2]) -> [i32; 2] {
         let [tx, ty] = self.translation;
         let [i, j] = [i - tx, j - ty];
@@ -78,7 +78,7 @@ impl CornerInput {
     }
 }
 
-/// Words of a list with a place for each inner corner. Boards of any size are asked about.
+/// Words of a list with a place for each inner corner. Boards may have any size.
 pub const fn words_needed(board: &BoardArguments) -> usize {
     let rows = (board.rows as usize).saturating_sub(1);
     let cols = (board.cols as usize).saturating_sub(1);

@@ -1,4 +1,4 @@
-//! Corners and inliers, from which the cells entry makes marker cells.
+//! Corners and inliers, from which the cells entry point makes marker cells.
 
 pub(crate) mod limits;
 mod most;
@@ -25,7 +25,7 @@ pub const WORDS_OF_A_CELL: usize = 6;
 /// Words of a corner in `grid`.
 pub const WORDS_OF_A_CORNER: usize = 3;
 
-/// The score of a corner of which nothing else is asked.
+/// The score of a corner of which nothing else is used.
 const SCORE: f32 = 0.5;
 
 /// No point is checked of a corner without one.
@@ -33,12 +33,12 @@ pub const NO_POINT: [i32; 3] = [0, i32::MIN, i32::MAX];
 
 #[derive(Clone, Debug)]
 pub struct CornerLists {
-    /// One for each corner: this list says how many there are.
+    /// One for each corner: the length of this list is their number.
     pub scores: Vec<f32>,
     /// Three words for each corner: not 0 where it has a grid point, then u, then v. Words past its end count as 0.
     pub grid: Vec<i32>,
     pub inliers: Vec<usize>,
-    /// How many words the list has that is lent for the cells.
+    /// The length of the output array for the cells, in words.
     pub places: usize,
 }
 

@@ -1,9 +1,9 @@
-//! What the inputs of entries share: pairs of refusals, and lengths of the list that is lent.
+//! What the inputs of the entry points share: pairs of refusals, and lengths of the output array.
 
 use crate::boards::BoardArguments;
 use std::ops::RangeInclusive;
 
-/// New numbers for one argument of `board`, by which each of the questions 1 to 8 is answered with no.
+/// New numbers for one argument of `board`, by which each of the checks 1 to 8 fails.
 pub const BOARD_REFUSALS: [fn(&mut BoardArguments); 12] = [
     |board| board.rows = 1,
     |board| board.cols = 0,
@@ -21,8 +21,7 @@ pub const BOARD_REFUSALS: [fn(&mut BoardArguments); 12] = [
 
 type Change<T> = Box<dyn Fn(&mut T)>;
 
-/// Good input with each pair of refusals, each of them alone, and none. Which of two is named shows the order of the
-/// questions.
+/// Good input with each pair of refusals, each of them alone, and none. Which of two is named shows the order of the checks.
 pub fn pairs_of_refusals<T: Clone + 'static>(
     good: &T,
     board_of: fn(&mut T) -> &mut BoardArguments,
@@ -54,7 +53,7 @@ pub fn changed<T: Clone>(good: &T, change: impl Fn(&mut T)) -> T {
     input
 }
 
-/// Lengths of a lent list around the one that is asked for.
+/// Lengths of an output array around the one that is needed.
 pub fn lengths_around(needed: usize) -> RangeInclusive<usize> {
     needed.saturating_sub(2)..=needed + 2
 }

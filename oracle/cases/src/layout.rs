@@ -1,4 +1,4 @@
-//! Board sizes, and where to ask about the layout of a board: on it, beside it, and far off.
+//! Board sizes, and the places of a board at which the layout is compared: on it, beside it, and far off.
 
 use std::ops::RangeInclusive;
 
@@ -21,7 +21,7 @@ const FAR: [RangeInclusive<i32>; 7] = [
 /// An id with one of these added looks like itself when a part of it is dropped.
 const SHIFTS: [u32; 3] = [0, 65_536, 1 << 31];
 
-/// Columns and rows to ask about, on a board that has so many of them.
+/// Columns and rows of these places, on a board that has so many of them.
 pub fn coordinates(rows: u8, cols: u8) -> impl Iterator<Item = [i32; 2]> {
     let along = |size: u8| (-2..=i32::from(size) + 2).chain(FAR.into_iter().flatten());
     along(rows).flat_map(move |j| along(cols).map(move |i| [i, j]))

@@ -1,4 +1,4 @@
-//! What both sides are asked: fixed lists of telling values, and random ones from a fixed seed.
+//! The inputs of both sides: fixed lists of special values, and random ones from a fixed seed.
 
 pub mod answer;
 pub mod boards;
@@ -12,4 +12,5 @@ pub mod layout;
 pub mod link_entry;
 pub mod points;
 pub mod prng;
+pub mod results;
 pub mod tables;

@@ -1,4 +1,4 @@
-//! Boards and links for the link entry.
+//! Boards and links for the link entry point.
 
 mod limits;
 mod many;
@@ -28,12 +28,12 @@ pub struct LinkInput {
     pub words: Vec<u32>,
     /// `MustMatchAll4`.
     pub all_four: bool,
-    /// How many words the list has that is lent for the violations.
+    /// The length of the output array for the violations, in words.
     pub places: usize,
 }
 
 impl LinkInput {
-    /// A list with just the places that are asked for.
+    /// An output array of just the length that is needed.
     pub fn new(board: BoardArguments, links: &[[u32; 2]], all_four: bool) -> Self {
         Self {
             board,

@@ -8,7 +8,7 @@ pub const TELLING: [i16; 31] = [
     0, 1, 2, 5, 7, 31, 32, 127, 128, 255, 256, 4095, 4096, 8192, 32_766, 32_767,
 ];
 
-/// Every pair of telling numbers.
+/// Every pair of special numbers.
 pub fn telling_points() -> impl Iterator<Item = [i16; 2]> {
     TELLING
         .into_iter()

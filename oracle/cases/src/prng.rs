@@ -1,4 +1,4 @@
-//! A small source of random numbers (SplitMix64) with a seed, so that every run asks the same.
+//! A small source of random numbers (SplitMix64) with a seed, so that every run has the same inputs.
 
 pub struct Prng(u64);
 

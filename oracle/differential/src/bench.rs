@@ -18,7 +18,7 @@ const ROUNDS: usize = 31;
 /// A short case is repeated until a round takes about so many nanoseconds.
 const LENGTH_OF_A_ROUND: f64 = 5e6;
 
-/// A case that takes the Rust longer than this has one round.
+/// A case that takes upstream longer than this has one round.
 const LONG: f64 = 1e9;
 
 /// Runs that are ready to be timed.
@@ -34,12 +34,12 @@ pub fn runs<'a, T>(count: usize, mut call: impl FnMut() -> T + Send + 'a) -> Run
 }
 
 pub trait Case {
-    /// What these runs are lent or use up is made before they are timed.
+    /// The output arrays of these runs, and what they use up, are made before they are timed.
     fn runs_of_ours(&self, count: usize) -> Runs<'_>;
 
     fn runs_of_theirs(&self, count: usize) -> Runs<'_>;
 
-    /// Do both sides answer alike?
+    /// Do both sides return the same?
     fn agrees(&self) -> bool;
 
     /// How many units a run has, by which times are divided.
@@ -53,7 +53,7 @@ pub trait Case {
     }
 }
 
-/// What a benchmark is asked for on its command line: `[ours|theirs|both [ROUNDS [CASE]]]`.
+/// The arguments of a benchmark: `[ours|theirs|both [ROUNDS [CASE]]]`.
 struct Arguments {
     ours: bool,
     theirs: bool,
@@ -86,14 +86,14 @@ pub struct Bench {
     pub program: &'static str,
     /// What a time is for.
     pub unit: &'static str,
-    /// Whether the memory of a call is told. This takes the allocator `heap::Counting`.
+    /// Whether the memory of a call is printed. This takes the allocator `heap::Counting`.
     pub tells_memory: bool,
     /// Printed before all cases.
     pub first: fn(),
 }
 
 impl Bench {
-    /// One that tells the memory too.
+    /// One that prints the memory too.
     pub const fn with_memory(program: &'static str, unit: &'static str) -> Self {
         Self {
             program,
@@ -128,7 +128,7 @@ impl Bench {
         ExitCode::from(u8::from(!agree))
     }
 
-    /// Prints the times. Do the answers agree, if both sides are asked?
+    /// Prints the times. Do the answers agree, if both sides are run?
     fn measure(&self, case: &impl Case, arguments: &Arguments) -> bool {
         let mut rounds = arguments.rounds;
         let count = case.fixed_runs().unwrap_or_else(|| {
@@ -204,7 +204,7 @@ pub fn nanoseconds(round: impl FnOnce()) -> f64 {
 pub fn warn_of_checks() {
     if checks_overflow() {
         let advice = "use --profile speed";
-        eprintln!("Built with checks for overflow, which slow the Rust down: {advice}.");
+        eprintln!("Built with checks for overflow, which slow upstream down: {advice}.");
     }
 }
 
@@ -224,10 +224,10 @@ fn print_memory<'a>(side: &str, run: impl Fn() -> Runs<'a>) {
     println!("    {side:6}  {heap:9} bytes of heap, {stack:7} of stack");
 }
 
-/// An entry that tells first how many results there are.
+/// An entry point whose first word is the number of results.
 pub struct EntryCase {
     input: Box<dyn Input + Sync>,
-    /// The results of the Rust, counted.
+    /// The results of upstream, counted.
     theirs: Box<dyn Fn() -> usize + Sync>,
 }
 
@@ -255,7 +255,7 @@ impl Case for EntryCase {
         runs(count, &self.theirs)
     }
 
-    /// Whether there are as many results. The Rust does not refuse too many cells.
+    /// Whether there are as many results. Upstream does not refuse too many cells.
     fn agrees(&self) -> bool {
         let mut values = [0; 2];
         let number = self.input.ours()(&mut values, &mut vec![0; self.input.places()]);

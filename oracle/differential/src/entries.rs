@@ -1,4 +1,4 @@
-//! The entries of our library, as every Rust program asks them, and the answers that are expected.
+//! The entry points of this library, as every Rust program calls them, and the answers that are expected.
 
 use cases::answer::Answer;
 use cases::boards::BoardArguments;
@@ -9,12 +9,12 @@ use charuco::{BoardSpec, words};
 use matches::given::Given;
 use std::slice::from_raw_parts_mut;
 
-/// A call of our library: it writes `values` and the list that is lent, and answers a number.
+/// A call of this library: it writes `values` and the output array, and returns a number.
 pub type Call<'a> = Box<dyn Fn(&mut [u32], &mut [u32]) -> u32 + Send + 'a>;
 
 /// An input of an entry.
 pub trait Input {
-    /// The length of the list that is lent.
+    /// The length of the output array.
     fn places(&self) -> usize;
 
     fn ours(&self) -> Call<'_>;

@@ -1,4 +1,4 @@
-//! How both sides are asked, for the comparison and the benchmarks.
+//! How both sides are called, for the comparison and the benchmarks.
 
 pub mod bench;
 pub mod entries;

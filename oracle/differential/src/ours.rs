@@ -1,4 +1,4 @@
-//! Parts of our library that its C functions do not show by themselves: the functions that `oracle_exports` exports for
+//! Parts of this library that its C functions do not show by themselves: the functions that `oracle_exports` exports for
 //! tests, and safe functions over them in the shapes of the crate `theirs`.
 
 pub mod scores;
@@ -53,7 +53,7 @@ pub fn cell_rect_corners([u, v]: [i16; 2], px: f32) -> [[f32; 2]; 4] {
     [0, 1, 2, 3].map(|corner| [0, 1].map(|axis| oracle_cell_rect_corner(u, v, px, corner, axis)))
 }
 
-/// A board by its size and mark, which is all that the layout depends on.
+/// A board by its size and legacy flag, which is all that the layout depends on.
 pub struct Board {
     pub rows: u8,
     pub cols: u8,
@@ -116,7 +116,7 @@ impl Board {
     }
 }
 
-/// The library says "there is none" with the largest number.
+/// The library returns the largest number for none.
 fn present(answer: u64) -> Option<u64> {
     (answer != u64::MAX).then_some(answer)
 }

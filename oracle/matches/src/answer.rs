@@ -2,7 +2,7 @@
 
 use cases::answer::Answer;
 
-/// A quarter turn, then a translation.
+/// A rotation by 90°, then a translation.
 #[derive(Clone, Copy, Debug, PartialEq, Eq)]
 pub struct Alignment {
     pub turn: u8,
@@ -56,13 +56,13 @@ pub struct Placed {
 /// Or the refusal.
 pub type Matched = Result<Placed, Answer>;
 
-/// Words of a marker in the lent list.
+/// Words of a marker in the output array.
 pub const MARKER_WORDS: usize = 18;
 
 /// Words of an answer.
 pub const ANSWER_WORDS: usize = 19;
 
-/// Words of a lent list with a place for each of 256 cells.
+/// Words of an output array with a place for each of 256 cells.
 pub const MOST_PLACES: usize = 256 * MARKER_WORDS;
 
 /// The refusal of a margin.
@@ -103,7 +103,8 @@ impl Alignment {
 }
 
 impl Hypothesis {
-    /// The alignment, whether there is a number, and its bits. The counts of contributing cells stand at the end of the answer.
+    /// The alignment, whether there is a number, and its bits. The counts of contributing cells are at the end of the
+    /// answer.
     fn words(&self) -> [u32; 5] {
         let [turn, tx, ty] = self.alignment.words();
         let bits = self.evidence.map_or(0, f32::to_bits);

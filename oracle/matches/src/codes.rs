@@ -1,4 +1,4 @@
-//! Which codes of a shot the questions 8 and 22 speak of, for records with many codes.
+//! Which codes of a shot the checks 8 and 22 cover, for records with many codes.
 
 use cases::codes::{all_ones, least_turn};
 use records::Shot;
@@ -11,7 +11,8 @@ pub fn too_large(shot: &Shot) -> Vec<usize> {
     too_large.map(|(place, _)| place).collect()
 }
 
-/// The place of each code, of a marker or past the last, that is alike an earlier one; before it that of the first such.
+/// The place of each code, of a marker or past the last, that is equal to an earlier one up to rotation; before it that of
+/// the first such.
 pub fn alike(shot: &Shot) -> Vec<[usize; 2]> {
     let mut first: HashMap<u64, usize> = HashMap::new();
     let mut pairs = Vec::new();

@@ -1,5 +1,5 @@
-//! What an answer shows of the counts of contributing cells (document 02, 2.5): which wrong counts it tells from the right
-//! ones, and which counts come up in it.
+//! What an answer shows of the counts of contributing cells (document 02, 2.5): which wrong counts it excludes, and which
+//! counts come up in it.
 
 use crate::answer::{ANSWER_WORDS, Alignment};
 use crate::model::Model;
@@ -12,7 +12,7 @@ const HAS_RUNNER_UP: usize = 5;
 const RUNNER_UP: usize = 6;
 const COUNTS: [usize; 2] = [17, 18];
 
-/// A placement that an answer tells.
+/// A placement of an answer.
 struct Told<'a> {
     shot: &'a Shot,
     model: &'a Model<'a>,

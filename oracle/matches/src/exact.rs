@@ -1,4 +1,4 @@
-//! The exact evidence of every placement, as document 01 defines it, in whole numbers of 2⁻²⁹⁸; and how far the reported
+//! The exact evidence of every placement, as document 01 defines it, in integer multiples of 2⁻²⁹⁸; and how far the reported
 //! one is from it.
 
 use crate::answer::Hypothesis;
@@ -51,7 +51,7 @@ struct Exact<'a> {
     model: &'a Model<'a>,
     weights: Vec<Wide>,
     null_score: Wide,
-    /// Sum of the entries less null score, of a cell, a marker and a turn.
+    /// Sum of the entries less null score, of a cell, a marker and a rotation.
     evidence: HashMap<(usize, usize, u8), Wide>,
 }
 

@@ -1,4 +1,4 @@
-//! Records to ask about, by kinds. All are random, each kind from a seed of its own.
+//! The records of the comparison, by kinds. All are random, each kind from a seed of its own.
 
 mod counts;
 mod faults;
@@ -18,7 +18,7 @@ use std::ops::Range;
 
 pub use scene::{Look, Scene, markers_of};
 
-/// A record, and how many words the lent list has.
+/// A record, and how many words the output array has.
 #[derive(Clone, Debug)]
 pub struct Given {
     pub record: Vec<u8>,
@@ -26,20 +26,24 @@ pub struct Given {
 }
 
 pub struct Kind {
+    /// The seed is made of it.
     pub name: &'static str,
+    /// As it is printed.
+    pub title: &'static str,
     /// Of legacy boards, with scenes that are drawn on their layout.
     pub legacy: bool,
     pub count: usize,
     make: Make,
 }
 
-/// No two cells of a shot that passes question 12 are at one point, but in the kind that means it, and by damage.
+/// No two cells of a shot that passes check 12 have the same position, except in the kind of duplicate positions and by damage.
 pub const KINDS: [Kind; 19] = [
     shots("true placements", 18_000, numbers::shown),
     shots("ties", 15_000, ties::shot),
-    shots("tiny boards", 12_000, ties::tiny_board),
+    shots("tiny boards", 12_000, ties::tiny_board).titled("boards of 2 × 2 to 3 × 3 squares"),
     shots("weights", 10_000, numbers::weights),
-    shots("one cell, rim, just fitting, far off", 12_000, reach::shot),
+    shots("one cell, rim, just fitting, far off", 12_000, reach::shot)
+        .titled("one cell, cells at the rim, just fitting and far off"),
     shots("about 256 cells", 300, reach::many_cells),
     shots("tables by the formula", 8_000, numbers::table_by_formula),
     shots("any tables", 8_000, numbers::any_table),
@@ -49,22 +53,23 @@ pub const KINDS: [Kind; 19] = [
         4_000,
         numbers::minimum_at_the_margin,
     ),
-    shots("odd floats", 6_000, numbers::odd_floats),
+    shots("odd floats", 6_000, numbers::odd_floats).titled("-0.0 and subnormal fields"),
     kind("one fault or two", 12_000, Make::Given(faults::given)),
     kind(
         "markers that look alike",
         14_000,
         Make::Given(look_alikes::given),
-    ),
-    kind("lent lists", 4_000, Make::Given(with_any_places)),
+    )
+    .titled("codes equal up to rotation"),
+    kind("lent lists", 4_000, Make::Given(with_any_places)).titled("output arrays of any length"),
     kind("damaged records", 8_000, Make::Given(damaged)),
-    kind("cells at one point", 60_000, Make::Given(repeats::given)),
-    shots("points nearly alike", 12_000, repeats::nearly),
+    kind("cells at one point", 60_000, Make::Given(repeats::given)).titled("duplicate positions"),
+    shots("points nearly alike", 12_000, repeats::nearly).titled("positions that are nearly equal"),
     shots("counts of contributing cells", 10_000, counts::shot),
     kind("many codes", 2_000, Make::Given(many_codes::given)),
 ];
 
-/// The places of the kinds that are about cells at one point, of the one that is about counts, and of the one with many codes.
+/// The places of the kinds for duplicate positions, of the one for counts, and of the one with many codes.
 pub const OF_REPEATS: Range<usize> = 15..17;
 pub const OF_COUNTS: usize = 17;
 pub const OF_MANY_CODES: usize = 18;
@@ -81,7 +86,7 @@ pub const LEGACY_KINDS: [Kind; KINDS.len()] = {
     kinds
 };
 
-/// A shot gets a list with a place for each cell. The second argument is the mark.
+/// A shot gets an output array with room for each cell. The second argument is the legacy flag.
 #[derive(Clone, Copy)]
 enum Make {
     Shot(fn(&mut Prng, bool) -> Shot),
@@ -91,6 +96,7 @@ enum Make {
 const fn kind(name: &'static str, count: usize, make: Make) -> Kind {
     Kind {
         name,
+        title: name,
         legacy: false,
         count,
         make,
@@ -102,6 +108,11 @@ const fn shots(name: &'static str, count: usize, make: fn(&mut Prng, bool) -> Sh
 }
 
 impl Kind {
+    const fn titled(mut self, title: &'static str) -> Self {
+        self.title = title;
+        self
+    }
+
     pub fn all(&self) -> impl Iterator<Item = Given> {
         self.first(self.count)
     }
@@ -122,8 +133,8 @@ impl Kind {
     }
 }
 
-/// A list with a place for each cell, and a few words more half of the time. Half of the shots without a minimum margin of
-/// their own get one that no margin is below, since a match tells more than a refusal.
+/// An output array with room for each cell, and a few words more half of the time. Half of the shots without a minimum margin
+/// of their own get one that no margin is below, since a match shows more than a refusal.
 fn with_places(prng: &mut Prng, mut shot: Shot) -> Given {
     let more = prng.pick(&[0, 0, 0, 1, 17, MARKER_WORDS, 50]);
     if shot.map & settings::MINIMUM_MARGIN == 0 && prng.one_in(2) {
@@ -135,7 +146,7 @@ fn with_places(prng: &mut Prng, mut shot: Shot) -> Given {
     }
 }
 
-/// A list around the length that is needed, or of any other.
+/// An output array of about the length that is needed, or of any other.
 fn with_any_places(prng: &mut Prng, legacy: bool) -> Given {
     let shot = numbers::shown(prng, legacy);
     let needed = shot.cells.len() * MARKER_WORDS;

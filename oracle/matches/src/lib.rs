@@ -1,5 +1,5 @@
-//! The whole match, from a record to the answer that document 01 and the upstream Rust give; records to ask about; and the
-//! exact evidence, to which the accuracy rule holds the reported one.
+//! The whole match, from a record to the answer that document 01 and upstream give; the records of the comparison; and the
+//! exact evidence, with which the accuracy rule compares the reported one.
 
 mod answer;
 pub mod codes;

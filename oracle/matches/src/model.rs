@@ -1,6 +1,6 @@
-//! The match by the rules of document 01 alone, for tables that no formula gives and for legacy boards with an even row count:
-//! naive, sentence by sentence, without the Rust. The comparison holds it to the Rust, also for such boards, which are turned
-//! for it (`turned.rs`), where there is a formula.
+//! The match by the rules of document 01 alone, for tables that no formula gives and for legacy boards with an even row
+//! count: naive, sentence by sentence, without upstream. It is compared with upstream, also for such boards, which are
+//! rotated for it (`turned.rs`), where there is a formula.
 
 use crate::answer::{Alignment, Hypothesis, Marker, Matched, Placed, Selected, below_minimum};
 use cases::answer::Answer;
@@ -15,7 +15,7 @@ const LN_2: f32 = f32::from_bits(0x3F31_7218);
 /// 2⁻²³.
 const LEAST_CAPACITY: f32 = 1.0 / 8_388_608.0;
 
-/// A shot that the questions 1 to 8, 22, 9, 10, 12, 23, 13 and 14 have let pass.
+/// A shot that passes the checks 1 to 8, 22, 9, 10, 12, 23, 13 and 14.
 pub fn match_shot(shot: &Shot) -> Matched {
     if shot.cells.is_empty() {
         return Err(Answer::refused(11));
@@ -53,7 +53,7 @@ pub fn turned_point(turn: u8, [u, v]: [i32; 2]) -> [i32; 2] {
     }
 }
 
-/// For each turn the corner of a cell that becomes top left stands elsewhere in the cell.
+/// For each rotation the corner of a cell that becomes top left is elsewhere in the cell.
 fn corner_alignment(cells: Alignment) -> Alignment {
     let [dx, dy] = [[0, 0], [0, 1], [1, 1], [1, 0]][usize::from(cells.turn)];
     Alignment {
@@ -102,8 +102,8 @@ impl<'a> Model<'a> {
         square.is_some_and(|square| self.markers[square].is_some())
     }
 
-    /// For each turn, every translation that puts all cells on the board, tx outer, ty inner, rising. Only those that put
-    /// the first cell there are tried.
+    /// For each rotation, every translation that puts all cells on the board, tx outer, ty inner, rising. Only those that
+    /// put the first cell there are tried.
     pub fn alignments(&self) -> Vec<Alignment> {
         let first = &self.shot.cells[0];
         let mut alignments = Vec::new();

@@ -1,7 +1,7 @@
-//! The questions of the match in their order. Those that the Rust asks it answers itself: 1 to 5 and 7 when a board is
-//! made, 11 and 15 to 17 in the matcher. The rule for the added ones stands here and in `theirs`. Shots of boards with markers
-//! that are alike are refused by 22, and shots with two cells at one point by 23, so that nothing else of them is compared with
-//! the Rust, which places them.
+//! The checks of the match in their order. Those that upstream has it makes itself: 1 to 5 and 7 when a board is made, 11
+//! and 15 to 17 in the matcher. The rule for the added ones is here and in `theirs`. Shots of boards with codes that are
+//! equal up to rotation are refused by 22, and shots with two cells at the same position by 23, so that nothing else of them
+//! is compared with upstream, which places them.
 
 use crate::answer::{MARKER_WORDS, Matched};
 use crate::turned::{self, Compared, TurnedShot};
@@ -18,7 +18,7 @@ use theirs::{accepted_board, board_up_to_8, is_table, likelihood_table};
 
 const MOST_CELLS: usize = 256;
 
-/// What is expected for a record and a lent list of so many words.
+/// What is expected for a record and an output array of so many words.
 pub fn match_record(record: &[u8], places: usize) -> Matched {
     let read = records::read(record).ok_or(Answer::refused(REFUSED))?;
     match_shot(&read.shot, places)
@@ -34,8 +34,8 @@ pub fn match_shot(shot: &Shot, places: usize) -> Matched {
     }
 }
 
-/// What the Rust and the rules alone say, for a shot that comes so far, has a table by the formula and a board that the Rust
-/// knows.
+/// What upstream and the rules alone return, for a shot that comes so far, has a table by the formula and a board that
+/// upstream knows.
 pub fn by_rust_and_model(shot: &Shot) -> Option<[Matched; 2]> {
     asked_first(shot, usize::MAX).ok()?;
     let slope_and_floor = slope_and_floor(&shot.table).filter(|_| !is_unknown_to_rust(shot))?;
@@ -43,16 +43,16 @@ pub fn by_rust_and_model(shot: &Shot) -> Option<[Matched; 2]> {
     Some([by_rust, model::match_shot(shot)])
 }
 
-/// What the Rust says of the board turned by a quarter, and the rules alone of the board as it is, for a shot that comes so
-/// far, has a table by the formula and a board that the Rust does not know.
+/// What upstream returns for the board rotated by 90°, and the rules alone for the board as it is, for a shot that comes so
+/// far, has a table by the formula and a board that upstream does not know.
 pub fn by_turned_rust_and_model(shot: &Shot) -> Option<[Compared; 2]> {
     asked_first(shot, usize::MAX).ok()?;
     let slope_and_floor = slope_and_floor(&shot.table).filter(|_| is_unknown_to_rust(shot))?;
     (!shot.cells.is_empty()).then(|| turned::by_rust_and_model(shot, slope_and_floor))
 }
 
-/// What is said of a shot if 22 is not asked: a refusal by a question from 1 to 8, else what the Rust says, where no question from 9
-/// to 14 that it does not ask refuses the shot and the table is by the formula.
+/// What is returned for a shot without check 22: a refusal by a check from 1 to 8, else what upstream returns, where no
+/// check from 9 to 14 that it lacks refuses the shot and the table is by the formula.
 pub fn by_rust_without_22(shot: &Shot) -> Option<Matched> {
     if let Err(refused) = board(shot) {
         return Some(Err(refused));
@@ -61,7 +61,7 @@ pub fn by_rust_without_22(shot: &Shot) -> Option<Matched> {
     by_rust(shot)
 }
 
-/// The same if 23 is not asked: a refusal by a question before it, else what the Rust says, where 13 does not refuse the shot.
+/// The same without check 23: a refusal by a check before it, else what upstream returns, where 13 does not refuse the shot.
 pub fn by_rust_without_23(shot: &Shot) -> Option<Matched> {
     let questions = after_board(shot, usize::MAX);
     let place = questions.iter().position(|&(number, _)| number == 23);
@@ -73,7 +73,7 @@ pub fn by_rust_without_23(shot: &Shot) -> Option<Matched> {
     by_rust(shot)
 }
 
-/// What the Rust says, if the table is by the formula. A legacy board that it does not know is turned by a quarter.
+/// What upstream returns, if the table is by the formula. A legacy board that it does not know is rotated by 90°.
 fn by_rust(shot: &Shot) -> Option<Matched> {
     let slope_and_floor = slope_and_floor(&shot.table)?;
     let turned = is_unknown_to_rust(shot).then(|| TurnedShot::new(shot).shot);
@@ -81,19 +81,19 @@ fn by_rust(shot: &Shot) -> Option<Matched> {
     Some(rust::Matching::new(shot, slope_and_floor).matched())
 }
 
-/// The Rust knows no mark. With an odd row count it answers as if there were none.
+/// Upstream has no legacy flag. With an odd row count it answers as if there were none.
 const fn is_unknown_to_rust(shot: &Shot) -> bool {
     shot.is_legacy() && shot.rows % 2 == 0
 }
 
-/// The questions 1 to 8, 22, 9, 10, 12, 23, 13 and 14. Where there is no cell, those from 12 on have nothing to refuse, so that the
-/// Rust may answer 11 after them.
+/// The checks 1 to 8, 22, 9, 10, 12, 23, 13 and 14. Where there is no cell, those from 12 on have nothing to refuse, so that
+/// upstream may answer 11 after them.
 fn asked_first(shot: &Shot, places: usize) -> Result<(), Answer> {
     accepted(shot)?;
     first_refused(&after_board(shot, places))
 }
 
-/// A question by its number, and whether it lets the shot pass.
+/// A check by its number, and whether the shot passes it.
 type Asked = (u32, bool);
 
 /// From 9 on, but for 11.
@@ -118,12 +118,12 @@ fn first_refused(questions: &[Asked]) -> Result<(), Answer> {
     refused.map_or(Ok(()), |&(number, _)| Err(Answer::refused(number)))
 }
 
-/// The board of a shot, or the refusal of one of its questions.
+/// The board of a shot, or the refusal of one of its checks.
 fn accepted(shot: &Shot) -> Result<CharucoBoard, Answer> {
     accepted_board(&arguments(shot), kept_codes(&shot.codes))
 }
 
-/// The same, though two markers are alike.
+/// The same, though two markers are equal up to rotation.
 pub fn board(shot: &Shot) -> Result<CharucoBoard, Answer> {
     board_up_to_8(&arguments(shot), kept_codes(&shot.codes))
 }
@@ -143,14 +143,14 @@ fn arguments(shot: &Shot) -> BoardArguments {
     }
 }
 
-/// Question 12.
+/// Check 12.
 fn cells_in_range(shot: &Shot) -> bool {
     let in_range = |x: i16| (-FARTHEST..=FARTHEST).contains(&x.into());
     let mut cells = shot.cells.iter();
     shot.cells.len() <= MOST_CELLS && cells.all(|cell| in_range(cell.u) && in_range(cell.v))
 }
 
-/// Question 23: no cell, sampled or not, lies where one before it does.
+/// Check 23: no cell, sampled or not, lies where one before it does.
 fn no_point_twice(shot: &Shot) -> bool {
     let point = |cell: &Cell| [cell.u, cell.v];
     let mut cells = shot.cells.iter().enumerate();
@@ -160,7 +160,7 @@ fn no_point_twice(shot: &Shot) -> bool {
     })
 }
 
-/// Question 13. In a record that is read every grid is whole.
+/// Check 13. In a record that is read every grid is whole.
 fn samples_in_range(shot: &Shot) -> bool {
     let mut fractions = shot.samples().map(|sample| f32::from_bits(sample.fraction));
     fractions.all(|fraction| (0.0..=1.0).contains(&fraction))
@@ -174,7 +174,7 @@ fn slope_and_floor(table: &[u32; TABLE_LENGTH]) -> Option<[f32; 2]> {
 
 type Formula = ([f32; 2], [u32; TABLE_LENGTH]);
 
-/// Every known slope and floor that are finite and give a table that question 10 lets pass.
+/// Every known slope and floor that are finite and give a table that passes check 10.
 pub static FORMULAS: LazyLock<Vec<Formula>> = LazyLock::new(|| {
     let finite = |pair: &[f32; 2]| pair.iter().all(|x| x.is_finite());
     let pairs = SLOPES_AND_FLOORS.into_iter().filter(finite);
@@ -184,7 +184,7 @@ pub static FORMULAS: LazyLock<Vec<Formula>> = LazyLock::new(|| {
         .collect()
 });
 
-/// Codes that live as long as the program, which the dictionary of the Rust asks for. Each list is kept once.
+/// Codes that live as long as the program, which upstream's dictionary needs. Each list is kept once.
 fn kept_codes(codes: &[u64]) -> &'static [u64] {
     static KEPT: LazyLock<Mutex<HashSet<&'static [u64]>>> = LazyLock::new(Mutex::default);
     let mut kept = KEPT.lock().expect("no other holder has panicked");

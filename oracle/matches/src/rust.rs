@@ -1,4 +1,4 @@
-//! A shot in the shapes of the upstream Rust, and the answer of its matcher.
+//! A shot in the shapes of upstream, and the answer of its matcher.
 
 use crate::answer::{Alignment, Hypothesis, Marker, Matched, Placed, Selected, below_minimum};
 use crate::questions::board;
@@ -13,7 +13,7 @@ use cases::answer::Answer;
 use records::Shot;
 use theirs::cell_samples;
 
-/// A shot that the questions 1 to 10 have let pass. That two markers are alike is nothing to the Rust.
+/// A shot that passes the checks 1 to 10. That two markers are equal up to rotation does not matter to upstream.
 pub struct Matching {
     board: CharucoBoard,
     cells: Vec<MarkerCell>,
@@ -25,7 +25,7 @@ pub struct Matching {
 pub struct Samples(ScanDecodeConfig);
 
 impl Matching {
-    /// The Rust takes the slope and floor in the place of a table.
+    /// Upstream takes the slope and floor in the place of a table.
     pub fn new(shot: &Shot, slope_and_floor: [f32; 2]) -> Self {
         let cells = shot.cells.iter().enumerate().map(|(place, cell)| {
             let point = Coord::new(cell.u.into(), cell.v.into());
@@ -59,7 +59,7 @@ impl Matching {
         self.selected_and_matched().1
     }
 
-    /// Also what the search chose, which a refusal by 17 does not tell; none where it came to no placement.
+    /// Also what the search chose, which a refusal by 17 does not return; none where it came to no placement.
     pub fn selected_and_matched(&self) -> (Option<Selected>, Matched) {
         let samples = self.samples();
         let run = MatchRun::new(&self.board, &self.cells, &samples.0, self.settings);
@@ -81,11 +81,11 @@ impl Matching {
         (selected, matched)
     }
 
-    /// Every placement of a shot that has cells. The search tells the best alone, so it is asked about one placement at a time:
-    /// two cells that are not sampled, on opposite squares of the board, leave one translation in each turn, and of the scores
-    /// only those of one turn are left. The cells are turned before and these scores are those of turn 0, which the search comes
-    /// to first: so it tells that placement also where no cell contributes and all are minus infinity. Only translations that put
-    /// the first cell on the board are tried.
+    /// Every placement of a shot that has cells. The search returns the best alone, so it is given one placement at a time:
+    /// two cells that are not sampled, on opposite squares of the board, leave one translation in each rotation, and of the
+    /// scores only those of one rotation are left. The cells are rotated before and these scores are those of rotation 0,
+    /// which the search comes to first: so it returns that placement also where no cell contributes and all are minus
+    /// infinity. Only translations that put the first cell on the board are tried.
     pub fn hypotheses(&self) -> Vec<Hypothesis> {
         let [cols, rows] = [self.board.spec().cols, self.board.spec().rows].map(|n| n as i32);
         let samples = [&self.samples[..], &[None, None]].concat();
@@ -125,7 +125,7 @@ fn placed(selected: Selected, run: MatchRun) -> Placed {
     Placed::new(selected, alignment(&corners), markers.collect())
 }
 
-/// The Rust's minus infinity is none. The count is its own, told by the feature `diagnostics`.
+/// Upstream's minus infinity is none. The count is its own, by the feature `diagnostics`.
 fn hypothesis(found: &DiagHypothesis) -> Hypothesis {
     let [tx, ty] = found.translation;
     Hypothesis {
@@ -146,7 +146,7 @@ fn alignment(transform: &GridAlignment) -> Alignment {
         .position(|matrix| matrix == transform.matrix());
     let [tx, ty] = transform.translation();
     Alignment {
-        turn: turn.expect("a quarter turn") as u8,
+        turn: turn.expect("a rotation by 90°") as u8,
         tx,
         ty,
     }

@@ -1,6 +1,6 @@
-//! Legacy boards with an even row count, of which the Rust knows nothing, turned by a quarter: then they are unmarked boards
-//! with rows and columns exchanged. Every placement of the shot is one on the turned board, with equal evidence and the same
-//! contributing cells.
+//! Legacy boards with an even row count, of which upstream knows nothing, rotated by 90°: then they are boards without the
+//! legacy flag with rows and columns exchanged. Every placement of the shot is one on the rotated board, with equal evidence
+//! and the same contributing cells.
 
 use crate::answer::{Alignment, Hypothesis, Marker, Matched, Placed, Selected, told};
 use crate::model::{self, Model};
@@ -9,15 +9,15 @@ use cases::answer::Answer;
 use records::{Shot, settings};
 use theirs::{TurnedBoard, rotate_code, rotate_gc_top_left, turned};
 
-/// The turn by which square (i, j) becomes (rows - 1 - j, i) and board corner (i, j) becomes (rows - j, i): clockwise, so that
-/// it is turn 3 of points, followed by a translation.
+/// The rotation by which square (i, j) becomes (rows - 1 - j, i) and board corner (i, j) becomes (rows - j, i): clockwise,
+/// so that it is rotation 3 of points, followed by a translation.
 const OF_POINTS: u8 = 3;
 const BACK: u8 = 1;
 
-/// What is printed turns with the board: a code whose top left bit is set becomes one whose top right bit is.
+/// What is printed rotates with the board: a code whose top left bit is set becomes one whose top right bit is.
 const OF_CODES: u8 = 1;
 
-/// A shot of such a board, as the Rust may be asked about it.
+/// A shot of such a board, as upstream takes it.
 pub struct TurnedShot {
     pub shot: Shot,
     ids: TurnedBoard,
@@ -26,7 +26,7 @@ pub struct TurnedShot {
 }
 
 impl TurnedShot {
-    /// A shot that the questions up to 8 have let pass. Its cells stay as they are. Codes past those of markers stay too.
+    /// A shot that passes the checks up to 8. Its cells stay as they are. Codes past those of markers stay too.
     pub fn new(shot: &Shot) -> Self {
         let ids = TurnedBoard::new(shot.rows, shot.cols);
         let mut codes = shot.codes.clone();
@@ -48,7 +48,7 @@ impl TurnedShot {
         }
     }
 
-    /// The alignment on the turned board that puts every cell on the square where this one puts it.
+    /// The alignment on the rotated board that puts every cell on the square where this one puts it.
     pub fn carried(&self, at: Alignment) -> Alignment {
         let [tx, ty] = moved(OF_POINTS, [at.tx, at.ty]);
         Alignment {
@@ -77,7 +77,7 @@ impl TurnedShot {
         }
     }
 
-    /// Of a match on the turned board.
+    /// Of a match on the rotated board.
     fn placed_back(&self, selected: Selected, placed: Placed) -> Placed {
         let markers = placed.markers.into_iter();
         Placed::new(
@@ -100,7 +100,7 @@ impl TurnedShot {
     }
 }
 
-/// Undoes the turn and a translation by so many to the right.
+/// Undoes the rotation and a translation by so many to the right.
 fn back_by(at: Alignment, right: i32) -> Alignment {
     let [tx, ty] = moved(BACK, [at.tx - right, at.ty]);
     Alignment {
@@ -110,7 +110,7 @@ fn back_by(at: Alignment, right: i32) -> Alignment {
     }
 }
 
-/// A translation, turned. Cells lie within 4,096, boards have at most 32 rows, so that 16 bits hold it.
+/// A translation, rotated. Cells lie within 4,096, boards have at most 32 rows, so that it has 16 bits.
 fn moved(turn: u8, translation: [i32; 2]) -> [i32; 2] {
     turned(turn, translation.map(|t| t as i16))
 }
@@ -136,8 +136,8 @@ pub struct Placement {
     pub contributing_cells: usize,
 }
 
-/// Equal evidence may choose another placement, as the turned ones come in another order; and another one may have another count of
-/// contributing cells.
+/// Equal evidence may choose another placement, as the rotated ones come in another order; and another one may have another
+/// count of contributing cells.
 #[derive(Clone, Copy, Debug, PartialEq, Eq)]
 pub struct Chosen {
     pub placements: usize,
@@ -153,7 +153,7 @@ struct Side {
     matched: Matched,
 }
 
-/// Of a shot that the questions up to 14 let pass.
+/// Of a shot that passes the checks up to 14.
 pub fn by_rust_and_model(shot: &Shot, slope_and_floor: [f32; 2]) -> [Compared; 2] {
     let sides = [by_rust(shot, slope_and_floor), by_model(shot)];
     let is_same = |chosen: fn(Selected) -> Option<Hypothesis>| {

@@ -1,4 +1,4 @@
-//! The counts of contributing cells (document 02, 2.5), on a small board by hand; and that the Rust's own are compared.
+//! The counts of contributing cells (document 02, 2.5), on a small board by hand; and that upstream's own are compared.
 
 use cases::cells::Cell as Grid;
 use matches::given::{KINDS, OF_COUNTS};
@@ -9,17 +9,17 @@ use records::{Cell, Sample, Shot, settings};
 
 const LEAST: f32 = f32::from_bits(1);
 
-/// 2 rows and 3 columns with a cell on each square. They fit as they are and turned by a half, and then those on markers come to
-/// the other squares, and those to markers. Markers by their ids, without the mark of a legacy board and with it; the cells:
+/// 2 rows and 3 columns with a cell on each square. They fit as they are and rotated by a half, and then those on markers
+/// come to the other squares, and those to markers. Markers by their ids, without the legacy flag and with it; the cells:
 ///
 /// ```text
 /// . 0 .    0 . 1    0 1 2
 /// 1 . 2    . 2 .    3 4 5
 /// ```
 ///
-/// A cell on a marker shows it, the others are white, so that they are best as they are. A letter says of each cell which fraction
-/// it has: 1, a quarter, the least, 0 or minus 0. `w` is one of fraction 1 that is white, wherever it is, and `n` one that is not
-/// sampled.
+/// A cell on a marker shows it, the others are white, so that they are best as they are. A letter is for each cell the
+/// fraction it has: 1, a quarter, the least, 0 or minus 0. `w` is one of fraction 1 that is white, wherever it is, and `n`
+/// one that is not sampled.
 fn shot(legacy: bool, border_threshold: f32, letters: &str) -> Shot {
     let codes = vec![1, 3, 7];
     let mut shown = [0; 6];
@@ -58,8 +58,8 @@ fn shot(legacy: bool, border_threshold: f32, letters: &str) -> Shot {
     if legacy { shot.marked() } else { shot }
 }
 
-/// Border threshold, letters without the mark, and the counts. With the mark the same letters stand one place to the right, and the
-/// last one first.
+/// Border threshold, letters without the legacy flag, and the counts. With the legacy flag the same letters are one place to
+/// the right, and the last one first.
 const BY_HAND: [(f32, &str, [usize; 2]); 13] = [
     (0.5, "111111", [3, 3]),
     (0.5, "n1n1n1", [3, 0]),
@@ -116,12 +116,12 @@ fn by_hand() {
     }
 }
 
-/// Of the Rust and of the rules: for a legacy board those of every placement, and the answer too, as there is no tie.
+/// Of upstream and of the rules: for a legacy board those of every placement, and the answer too, as there is no tie.
 #[test]
 fn of_both_sides() {
     for (shot, expected) in of_each_mark() {
         if shot.is_legacy() {
-            let [rust, rules] = by_turned_rust_and_model(&shot).expect("the Rust can be asked");
+            let [rust, rules] = by_turned_rust_and_model(&shot).expect("upstream can take it");
             assert_eq!(rust, rules);
             assert!(rust.is_same_runner_up);
             let answer = rust.answer.expect("both choose the same best");
@@ -133,7 +133,7 @@ fn of_both_sides() {
                 .collect();
             assert_eq!(of_all, expected);
         } else {
-            let both = by_rust_and_model(&shot).expect("the Rust can be asked");
+            let both = by_rust_and_model(&shot).expect("upstream can take it");
             for matched in both {
                 let placed = matched.expect("it is placed");
                 assert_eq!(counts(placed.best, placed.runner_up), expected);
@@ -142,8 +142,8 @@ fn of_both_sides() {
     }
 }
 
-/// By the Rust, evidence is none exactly where the count is 0, which `counts` asserts; and more cells contribute than emit a marker,
-/// or as many.
+/// By upstream, evidence is none exactly where the count is 0, which `counts` asserts; and more cells contribute than emit a
+/// marker, or as many.
 #[test]
 fn of_the_kind() {
     let mut placed_shots = 0;

@@ -40,9 +40,9 @@ fn p9_no_evidence_no_margin() {
     assert_eq!((refused.number, refused.words), (16, vec![0]));
 }
 
-/// On a board of 2 rows and 3 columns the cells (0, 0) and (2, 1) fit in turns 0 and 2, once each. Turn 0 has no marker below
-/// the one that is sampled, turn 2 has marker 2. A runner-up that is absent cannot be had: what fits in a turn also fits
-/// in the opposite one.
+/// On a board of 2 rows and 3 columns the cells (0, 0) and (2, 1) fit in rotations 0 and 2, once each. Rotation 0 has no
+/// marker below the one that is sampled, rotation 2 has marker 2. A runner-up that is absent cannot be had: what fits in a
+/// rotation also fits in the opposite one.
 #[test]
 fn p9_a_runner_up_that_is_none() {
     let mut shot = Shot::of_document_01();
@@ -84,7 +84,8 @@ fn p9_a_margin_above_1() {
     assert!(placed.margin > 11.0);
 }
 
-/// Ten markers of which no two are alike have 3 by 3 bits or more. The cell shows the last one, all of whose bits are set.
+/// Ten markers of which no two are equal up to rotation have 3 by 3 bits or more. The cell shows the last one, all of whose
+/// bits are set.
 #[test]
 fn p11_placements() {
     let placements = |far: i16| {

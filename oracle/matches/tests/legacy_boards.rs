@@ -1,5 +1,5 @@
-//! Legacy boards: small matches by hand, beside the examples of document 01, and the quarter turn by which the Rust is asked
-//! about them.
+//! Legacy boards: small matches by hand, beside the examples of document 01, and the rotation by 90° by which upstream
+//! answers for them.
 
 use matches::{
     Alignment, MARKER_WORDS, TurnedShot, by_rust_and_model, by_turned_rust_and_model, match_shot,
@@ -7,7 +7,7 @@ use matches::{
 };
 use records::Shot;
 
-/// The record of document 01 with the mark: its markers are on the squares (0, 0) and (1, 1).
+/// The record of document 01 with the legacy flag: its markers are on the squares (0, 0) and (1, 1).
 #[test]
 fn what_the_program_prints() {
     let shot = Shot::of_document_01().marked();
@@ -23,7 +23,7 @@ fn what_the_program_prints() {
     );
 }
 
-/// With an odd row count the mark changes nothing, and the Rust answers.
+/// With an odd row count the legacy flag changes nothing, and upstream answers.
 #[test]
 fn an_odd_row_count() {
     let mut shot = Shot::of_document_01();
@@ -38,7 +38,7 @@ fn an_odd_row_count() {
     assert!(by_turned_rust_and_model(&marked).is_none());
 }
 
-/// 2 rows and 3 columns, of which one cell is seen; markers have one, two and three bits set. The board as it is and turned
+/// 2 rows and 3 columns, of which one cell is seen; markers have one, two and three bits set. The board as it is and rotated
 /// clockwise, each marker as `a` to `c`:
 ///
 /// ```text
@@ -54,8 +54,8 @@ fn two_by_three() -> Shot {
     shot
 }
 
-/// The bits of a code are numbered row by row: 0 and 1 above, 2 and 3 below. Turned clockwise, 0 comes to 1, 1 to 3, 2 to 0: bit 0
-/// becomes 1, bits 0 and 1 become 1 and 3, bits 0 to 2 become 1, 3 and 0. The fourth code is of no marker.
+/// The bits of a code are numbered row by row: 0 and 1 above, 2 and 3 below. Rotated clockwise, 0 comes to 1, 1 to 3, 2 to
+/// 0: bit 0 becomes 1, bits 0 and 1 become 1 and 3, bits 0 to 2 become 1, 3 and 0. The fourth code is of no marker.
 #[test]
 fn the_turned_shot() {
     let turned = TurnedShot::new(&two_by_three()).shot;
@@ -65,8 +65,8 @@ fn the_turned_shot() {
     assert_eq!(turned.cells, two_by_three().cells);
 }
 
-/// The cell (0, 0) on `c`, on square (1, 1), in turn 0: on the turned board `c` is on (0, 1), and the cell is seen in the turn by
-/// which (1, 0), right of it on the board as it is, comes below it: (u, v) to (-v, u), turn 3.
+/// The cell (0, 0) on `c`, on square (1, 1), in rotation 0: on the rotated board `c` is on (0, 1), and the cell is seen in
+/// the rotation by which (1, 0), right of it on the board as it is, comes below it: (u, v) to (-v, u), rotation 3.
 #[test]
 fn a_placement_carried() {
     let turned = TurnedShot::new(&two_by_three());
@@ -85,13 +85,13 @@ fn a_placement_carried() {
     }
 }
 
-/// The cell shows every bit set, so that each marker has the same evidence in all four turns, which tie.
+/// The cell shows every bit set, so that each marker has the same evidence in all four rotations, which tie.
 #[test]
 fn the_rust_turned_and_the_rules() {
     let mut shot = two_by_three();
     let sample = shot.cells[0].sample.as_mut().expect("sampled");
     sample.grid.fill(0);
-    let [rust, rules] = by_turned_rust_and_model(&shot).expect("the Rust can be asked");
+    let [rust, rules] = by_turned_rust_and_model(&shot).expect("upstream can take it");
     assert_eq!(rust, rules);
     let evidence: Vec<Option<u32>> = rust.placements.iter().map(|at| at.evidence).collect();
     let numbers = evidence.iter().flatten().map(|&bits| f32::from_bits(bits));
@@ -106,17 +106,17 @@ fn the_rust_turned_and_the_rules() {
     }
 }
 
-/// A shot whose best is alone: both choose it, and all that is told of it agrees. Codes that stay as they are, where they
-/// should turn with the board, would show.
+/// A shot whose best is alone: both choose it, and the whole answer agrees. Codes that stay as they are, where they should
+/// rotate with the board, would show.
 #[test]
 fn an_answer_carried_back() {
     let mut shot = two_by_three();
     shot.codes = vec![6, 15, 1];
-    let [rust, rules] = by_turned_rust_and_model(&shot).expect("the Rust can be asked");
+    let [rust, rules] = by_turned_rust_and_model(&shot).expect("upstream can take it");
     assert_eq!(rust, rules);
     let answer = rust.answer.expect("both choose the same best");
     assert_eq!(answer.number, 0);
-    // Turn 0 on the square (1, 1), and of the marker its cell, id, point and turn.
+    // Rotation 0 on the square (1, 1), and of the marker its cell, id, point and rotation.
     assert_eq!(answer.words[..3], [0, 1, 1]);
     assert_eq!(answer.list[..5], [0, 2, 0, 0, 0]);
     let mut wrong = TurnedShot::new(&shot).shot;

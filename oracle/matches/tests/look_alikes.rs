@@ -1,4 +1,5 @@
-//! Question 22 (document 02, 2.2) in a match: what it refuses, where it stands, and that the Rust places what it refuses.
+//! Check 22 (document 02, 2.2) in a match: what it refuses, where it is in the order, and that upstream places what it
+//! refuses.
 
 use matches::{
     MARKER_WORDS, by_rust_and_model, by_rust_without_22, by_turned_rust_and_model, match_shot, told,
@@ -20,7 +21,7 @@ fn number(shot: &Shot) -> u32 {
     told(&match_shot(shot, MARKER_WORDS)).number
 }
 
-/// Code 1 of side 2 in its turns is 1, 2, 8 and 4 (P4 of document 01).
+/// Code 1 of side 2 in its rotations is 1, 2, 8 and 4 (P4 of document 01).
 #[test]
 fn markers_that_look_alike() {
     for mark in [Shot::marked, |shot| shot] {
@@ -55,18 +56,18 @@ fn the_order() {
     assert_eq!(number(&alike), 8);
 }
 
-/// It asks nothing about the turns of codes. Nothing of such a board is compared with it.
+/// It makes no check of the rotations of codes. Nothing of such a board is compared with it.
 #[test]
 fn the_rust_places_them() {
     for mark in [Shot::marked, |shot| shot] {
         let mut alike = mark(shot(&[1, 15, 2]));
         alike.set_minimum_margin(0.0);
-        let placed = by_rust_without_22(&alike).expect("it can be asked");
+        let placed = by_rust_without_22(&alike).expect("upstream can take it");
         assert_eq!(placed.expect("it is placed").markers.len(), 1);
         assert!(by_rust_and_model(&alike).is_none());
         assert!(by_turned_rust_and_model(&alike).is_none());
         alike.codes = vec![1, 2];
-        let refused = by_rust_without_22(&alike).expect("a question of the board");
+        let refused = by_rust_without_22(&alike).expect("a check of the board");
         assert_eq!(refused.expect_err("a code too few").number, 7);
     }
 }

@@ -1,11 +1,11 @@
-//! The generated records with many codes show that question 8 is asked of each code, and 22 of the last marker and of no code past it.
+//! The generated records with many codes show that check 8 covers each code, and 22 the last marker and no code past it.
 
 use matches::codes::{alike, too_large};
 use matches::given::{KINDS, LEGACY_KINDS, OF_MANY_CODES, markers_of};
 use matches::match_record;
 use records::{Shot, read};
 
-/// The shots of the kind, and the number that each is answered with.
+/// The shots of the kind, and the number that each gets.
 fn answered(legacy: bool) -> Vec<(Shot, u32)> {
     let kinds = if legacy { &LEGACY_KINDS } else { &KINDS };
     let answered = kinds[OF_MANY_CODES].all().filter_map(|given| {

@@ -1,4 +1,4 @@
-//! Question 23 (document 02, 2.3): what it refuses, where it stands, and that the Rust places what it refuses.
+//! Check 23 (document 02, 2.3): what it refuses, where it is in the order, and that upstream places what it refuses.
 
 use matches::given::{KINDS, LEGACY_KINDS, OF_REPEATS};
 use matches::{
@@ -115,11 +115,11 @@ fn the_kinds() {
     }
 }
 
-/// The cell of document 01 filed twice: the Rust counts both, so that the evidence is twice as large and the marker comes twice.
-/// One that is not sampled beside it changes nothing there.
+/// The cell of document 01 repeated: upstream counts both, so that the evidence is twice as large and the marker comes
+/// twice. One that is not sampled beside it changes nothing there.
 #[test]
 fn the_rust_places_them() {
-    let by_rust = |shot: &Shot| text(&by_rust_without_23(shot).expect("it can be asked"));
+    let by_rust = |shot: &Shot| text(&by_rust_without_23(shot).expect("upstream can take it"));
     let cell = (true, [0, 0]);
     let once = "placed\n\
         best 0 1 0 40317218 1\n\
@@ -145,12 +145,12 @@ fn the_rust_places_them() {
     assert_eq!(bytes, [63, 84]);
 }
 
-/// Nothing of such a shot is compared with the Rust, but that an earlier question refuses it.
+/// Nothing of such a shot is compared with upstream, but that an earlier check refuses it.
 #[test]
 fn what_is_compared() {
     for mark in [Shot::marked, |shot| shot] {
         let mut twice = mark(shot(&[(true, [0, 0]); 2]));
-        let placed = by_rust_without_23(&twice).expect("it can be asked");
+        let placed = by_rust_without_23(&twice).expect("upstream can take it");
         assert_eq!(placed.expect("it is placed").markers.len(), 2);
         assert!(by_rust_and_model(&twice).is_none());
         assert!(by_turned_rust_and_model(&twice).is_none());
@@ -160,7 +160,7 @@ fn what_is_compared() {
         for (far, codes, expected) in [(4097, [1, 15], 12), (4097, [1, 2], 22), (0, [1, 16], 8)] {
             twice.cells[1].u = far;
             twice.codes = codes.to_vec();
-            let refused = by_rust_without_23(&twice).expect("an earlier question");
+            let refused = by_rust_without_23(&twice).expect("an earlier check");
             assert_eq!(refused.expect_err("it is refused").number, expected);
         }
     }

@@ -23,7 +23,7 @@ pub fn truncations(record: &[u8]) -> impl Iterator<Item = &[u8]> {
     (0..record.len()).map(|length| &record[..length])
 }
 
-/// The record with the mark of a legacy board, as far as it has a map byte.
+/// The record with the legacy flag, as far as it has a map byte.
 pub fn marked(mut record: Vec<u8>) -> Vec<u8> {
     if let Some(map) = record.first_mut() {
         *map |= settings::LEGACY;
@@ -37,7 +37,7 @@ pub fn spare_bits(written: &Written, cells: usize) -> Vec<Vec<u8>> {
     mark_and_spare[1..].to_vec()
 }
 
-/// Likewise, with the mark of a legacy board, which only looks like damage, before the others.
+/// Likewise, with the legacy flag, which only looks like damage, before the others.
 pub fn bits_without_field(written: &Written, cells: usize) -> Vec<Vec<u8>> {
     let last = written.cell_map_at + cells / 8;
     let spare = match cells % 8 {
@@ -86,7 +86,7 @@ pub fn one_byte_more(record: &[u8]) -> [Vec<u8>; 2] {
     [0, 255].map(|byte| [record, &[byte]].concat())
 }
 
-/// One to three bytes, most often in front, where the counts are.
+/// One to three bytes, most often at the start, where the counts are.
 pub fn with_bytes_changed(prng: &mut Prng, record: &[u8]) -> Vec<u8> {
     let mut record = record.to_vec();
     let front = record.len().min(40);

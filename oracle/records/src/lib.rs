@@ -1,5 +1,5 @@
-//! Shot records, by document 01. Upstream has none, so this is no answer of the Rust: a writer and a reader, each
-//! written from the document alone and without the other, are held against each other and against our library.
+//! Shot records, by document 01. Upstream has none, so these are the oracle's: a writer and a reader, each written from the
+//! document alone and without the other, are compared with each other and with this library.
 
 pub mod damage;
 mod random;
@@ -14,7 +14,7 @@ pub use read::{Read, read};
 pub use shot::{Cell, Sample, Shot, TABLE_LENGTH, UNSAMPLED, built_in_table, settings};
 pub use write::{Written, write};
 
-/// The number of the one question that reading a record asks.
+/// The number of the one check that readers of a record make.
 pub const REFUSED: u32 = 21;
 
 /// The most bytes that a record may have.

@@ -4,7 +4,7 @@ use crate::shot::{Cell, Sample, Shot};
 use crate::write::write;
 use cases::prng::Prng;
 
-/// Bits of telling floats: plain ones, both zeros, the ends, the infinities, and NaNs of several patterns.
+/// Bits of special floats: plain ones, both zeros, the ends, the infinities, and NaNs of several patterns.
 pub const FLOATS: [u32; 16] = [
     0x3F800000, 0x3D4CCCCD, 0x3F000000, 0x42700000, 0, 0x80000000, 1, 0x7F7FFFFF, 0xFF7FFFFF,
     0x7F800000, 0xFF800000, 0x7FC00000, 0xFFC00000, 0x7F800001, 0xFFFFFFFF, 0x7FC00001,

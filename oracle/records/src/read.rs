@@ -11,7 +11,7 @@ pub struct Read {
     pub starts: Vec<usize>,
 }
 
-/// Nothing for a record that question 21 refuses.
+/// Nothing for a record that check 21 refuses.
 pub fn read(record: &[u8]) -> Option<Read> {
     if record.len() > LONGEST {
         return None;

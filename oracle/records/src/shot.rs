@@ -1,4 +1,4 @@
-//! What a record holds. Floats stand as their bits, so that no NaN loses its pattern.
+//! What a record holds. Floats are kept as bit patterns, so that no NaN loses its pattern.
 
 use cases::cells::Cell as Grid;
 use std::sync::LazyLock;
@@ -13,18 +13,18 @@ pub mod settings {
     /// Marks a legacy board (document 02, 2.1); it brings no field.
     pub const LEGACY: u8 = 16;
     pub const SPARE: [u8; 3] = [32, 64, 128];
-    /// The mark and the spare bits.
+    /// The legacy flag and the spare bits.
     pub const WITHOUT_FIELD: [u8; 4] = [LEGACY, 32, 64, 128];
 }
 
-/// Worked out once: a reader wants it for most records.
+/// Computed once: a reader wants it for most records.
 pub fn built_in_table() -> [u32; TABLE_LENGTH] {
     static TABLE: LazyLock<[u32; TABLE_LENGTH]> =
         LazyLock::new(|| theirs::likelihood_table(theirs::BUILT_IN).map(f32::to_bits));
     *TABLE
 }
 
-/// All that a reader knows of a record. The writer leaves out what the map byte says is not given.
+/// All that a reader knows of a record. The writer leaves out what the map byte marks as absent.
 #[derive(Clone, Debug, PartialEq, Eq)]
 pub struct Shot {
     pub map: u8,
@@ -60,7 +60,7 @@ pub const UNSAMPLED: Cell = Cell {
 pub struct Sample {
     pub fraction: u32,
     pub threshold: u8,
-    /// The greys row by row, side × side of them.
+    /// The grey levels row by row, side × side of them.
     pub grid: Vec<u8>,
 }
 
@@ -127,7 +127,7 @@ impl Shot {
         self.map & settings::LEGACY != 0
     }
 
-    /// The shot with the mark of a legacy board.
+    /// The shot with the legacy flag.
     pub const fn marked(mut self) -> Self {
         self.map |= settings::LEGACY;
         self
@@ -139,7 +139,7 @@ impl Shot {
         self.minimum_margin = margin.to_bits();
     }
 
-    /// The greys of a sample with the shot's bits and border.
+    /// The grey levels of a sample with the shot's bits and border.
     pub fn grid(&self, sample: &Sample) -> Grid {
         let size = [self.bits, self.border];
         Grid::new(size, sample.threshold, sample.grid.clone())
@@ -155,7 +155,7 @@ impl Shot {
             .filter_map(|cell| cell.sample.as_mut())
     }
 
-    /// How many greys a sampled cell has.
+    /// How many grey levels a sampled cell has.
     pub fn greys(&self) -> usize {
         Grid::side([self.bits, self.border]).pow(2)
     }

@@ -1,4 +1,4 @@
-//! Telling records, good and damaged, and the places in them that tell most.
+//! Special records, valid and damaged, and the places in them that show most.
 
 use crate::LONGEST;
 use crate::damage::{bits_without_field, counts, marked, spare_bits, with_bytes_changed};
@@ -9,7 +9,7 @@ use cases::entries::changed;
 use cases::prng::Prng;
 use std::ops::RangeInclusive;
 
-/// A record, and the places to ask for beside its header.
+/// A record, and the places to read beside its header.
 pub struct Telling {
     pub record: Vec<u8>,
     pub places: Vec<Place>,
@@ -114,7 +114,7 @@ fn map_bytes(all: &mut All, prng: &mut Prng) {
     with_maps(all, prng, 0..=ALL);
 }
 
-/// The same with the mark.
+/// The same with the legacy flag.
 fn marked_map_bytes(all: &mut All, prng: &mut Prng) {
     with_maps(all, prng, settings::LEGACY..=settings::LEGACY | ALL);
 }
@@ -130,7 +130,7 @@ fn with_maps(all: &mut All, prng: &mut Prng, maps: RangeInclusive<u8>) {
     }
 }
 
-/// Each telling float in each field.
+/// Each special float in each field.
 fn float_patterns(all: &mut All, prng: &mut Prng) {
     for first in 0..FLOATS.len() {
         let float = |field: usize| FLOATS[(first + field) % FLOATS.len()];
@@ -161,7 +161,7 @@ fn sides(all: &mut All, prng: &mut Prng) {
     }
 }
 
-/// More cells than starts are told of, some sampled; then as many as fit, none sampled.
+/// More cells than starts are kept, some sampled; then as many as fit, none sampled.
 fn many_cells(all: &mut All, prng: &mut Prng) {
     let shot = Shape::new(0, [1, 0], [40, 260], HALF).shot(prng);
     let cells = [0, 1, 7, 8, 9, 100, 101, 254, 255, 256, 257, 259, 260].map(Place::Cell);
@@ -177,7 +177,7 @@ fn many_cells(all: &mut All, prng: &mut Prng) {
     all.ask_shot(&shot, cells.map(Place::Cell));
 }
 
-/// With no sampled cell any side passes. A sampled cell of 255 by 255 greys fits; one of 765 by 765 does not, nor do
+/// With no sampled cell any side passes. A sampled cell of 255 by 255 grey levels fits; one of 765 by 765 does not, nor do
 /// the 60,937 that are left when their number is cut to 16 bits.
 fn large_sides(all: &mut All) {
     let cases = [
@@ -266,7 +266,7 @@ fn damaged(all: &mut All, prng: &mut Prng) {
     }
 }
 
-/// A spare bit beside the mark, of both maps; a record cut short, wrong counts, bytes changed.
+/// A spare bit beside the legacy flag, of both maps; a record cut short, wrong counts, bytes changed.
 fn marked_and_damaged(all: &mut All, prng: &mut Prng) {
     let shot = Shape::new(settings::LEGACY, [1, 0], [2, 3], HALF).shot(prng);
     let written = write(&shot);

@@ -1,4 +1,4 @@
-//! What the readers of a record answer: each asks question 21 alone. A place past the last of its kind is absent.
+//! What the readers of a record answer: each makes check 21 alone. A place past the last of its kind is absent.
 
 use crate::REFUSED;
 use crate::read::Read;
@@ -80,7 +80,7 @@ pub fn grid(read: Record, k: usize) -> Answer {
     })
 }
 
-/// The greys of a cell; none of one that is not sampled or absent.
+/// The grey levels of a cell; none of one that is not sampled or absent.
 pub fn greys(read: Record<'_>, k: usize) -> &[u8] {
     let sample = read.and_then(|read| sample(&read.shot, k));
     sample.map_or(&[], |sample| &sample.grid)

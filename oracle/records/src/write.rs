@@ -1,9 +1,9 @@
-//! The writer: any shot to bytes, also one that is too long or whose map byte has spare bits. The mark of a legacy board
-//! stands in the map byte alone.
+//! The writer: any shot to bytes, also one that is too long or whose map byte has spare bits. The legacy flag is in the map
+//! byte alone.
 
 use crate::shot::{Shot, settings};
 
-/// A record, and where the parts of it are whose damage tells something.
+/// A record, and where the parts of it are whose damage shows something.
 #[derive(Clone, Debug)]
 pub struct Written {
     pub bytes: Vec<u8>,

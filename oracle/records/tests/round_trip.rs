@@ -45,7 +45,7 @@ fn what_is_damaged_is_refused() {
     }
 }
 
-/// The mark adds no field and changes no other: the header tells it as its last word.
+/// The legacy flag adds no field and changes no other: it is the last word of the header.
 #[test]
 fn the_mark_of_a_legacy_board() {
     for shot in shots() {

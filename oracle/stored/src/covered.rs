@@ -1,6 +1,7 @@
 //! Whether the answers in the file would show that any two words or fields are exchanged, that a word is left out, or that a
-//! kind of line is spelled otherwise; whether every number of a refusal comes up; whether cells at one point are read; whether wrong
-//! counts of contributing cells would show; and whether it would show that one of many codes is not asked about.
+//! kind of line is spelled otherwise; whether every number of a refusal comes up; whether cells at the same position are
+//! read; whether wrong counts of contributing cells would show; and whether it would show that one of many codes is not
+//! checked.
 
 use crate::kinds::{self, Kind};
 use crate::script::{Asked, Script};
@@ -12,12 +13,12 @@ use matches::given::markers_of;
 use records::Shot;
 use std::collections::{BTreeMap, BTreeSet};
 
-/// Places of codes, the first being 0. A code that is too large is refused at each of them, if no other is: a match holds the first
-/// 512 in a list and reads the others in the record, of which there are up to 1,024.
+/// Places of codes, the first being 0. A code that is too large is refused at each of them, if no other is: a match keeps
+/// the first 512 in a list and reads the others in the record, of which there are up to 1,024.
 pub const TOO_LARGE_AT: [usize; 6] = [100, 101, 511, 512, 513, 1023];
 
-/// Places of two codes that are alike, of a board of 512 markers on which no others are, and the answer: the last marker is one of
-/// the markers, and the code past it is not.
+/// Places of two codes that are equal up to rotation, of a board of 512 markers on which no others are, and the answer: the
+/// last marker is one of the markers, and the code past it is not.
 pub const ALIKE_AT: [([usize; 2], u32); 4] = [
     ([0, 511], 22),
     ([510, 511], 22),
@@ -25,7 +26,7 @@ pub const ALIKE_AT: [([usize; 2], u32); 4] = [
     ([511, 512], 0),
 ];
 
-/// What no input tells apart.
+/// Words that no input distinguishes.
 struct Alike {
     /// Words with one value.
     same: &'static [usize],
@@ -40,7 +41,7 @@ const fn alike(same: &'static [usize], equal: &'static [[usize; 2]]) -> Alike {
 const NONE: Alike = alike(&[], &[]);
 
 /// A best placement always has a number, since without one no marker is emitted; there is always a runner-up, since cells
-/// that fit in a turn also fit in the opposite one; and the corners are turned as the cells are.
+/// that fit in a rotation also fit in the opposite one; and the corners are rotated as the cells are.
 const MATCH: Alike = alike(&[3, 5], &[[3, 5], [0, 13]]);
 
 /// The sides of a rectified cell are upright and level.
@@ -71,16 +72,16 @@ pub fn check(script: &Script) {
         check_kind(kind, &answers);
     }
     let of_repeats = || asked.iter().filter(|asked| asked.has_repeat);
-    // Kinds that ask about a record have none of their own for legacy boards.
+    // Kinds for a record have none of their own for legacy boards.
     let of_marked = asked.iter().filter(|asked| asked.is_marked);
     let matches = of_marked.filter(|asked| asked.kind == kinds::MATCH);
     let answers: Vec<&Answer> = matches.map(|asked| &asked.answer).collect();
     check_numbers("matches of legacy boards", kinds::MATCH.numbers, &answers);
-    // Cells at one point are read, and no match has them.
+    // Cells at the same position are read, and no match has them.
     for kind in [kinds::HEADER, kinds::CELL, kinds::GRID] {
         let is_read = |asked: &Asked| asked.kind == kind && asked.answer.number == 0;
         let name = kind.name;
-        assert!(of_repeats().any(is_read), "{name}, cells at one point");
+        assert!(of_repeats().any(is_read), "{name}, duplicate positions");
     }
     let mut matches = of_repeats().filter(|asked| asked.kind == kinds::MATCH);
     assert!(matches.all(|asked| asked.answer.number != 0));
@@ -91,7 +92,7 @@ pub fn check(script: &Script) {
     check_counts("matches of legacy boards", marked);
 }
 
-/// Question 8 is asked of every code, and 22 of the code of every marker and of no other.
+/// Check 8 covers every code, and 22 the code of every marker and no other.
 fn check_codes(asked: &[Asked]) {
     let has_match = |number: u32, is_it: &dyn Fn(&Shot) -> bool| {
         let of_number = asked.iter().filter(|asked| asked.answer.number == number);
@@ -107,11 +108,14 @@ fn check_codes(asked: &[Asked]) {
     for (pair, number) in ALIKE_AT {
         let only_these =
             |shot: &Shot| markers_of(shot.rows, shot.cols) == 512 && alike_codes(shot) == [pair];
-        assert!(has_match(number, &only_these), "codes {pair:?} alike");
+        assert!(
+            has_match(number, &only_these),
+            "codes {pair:?} equal up to rotation"
+        );
     }
     let none =
         |shot: &Shot| markers_of(shot.rows, shot.cols) == 512 && alike_codes(shot).is_empty();
-    assert!(has_match(0, &none), "no codes alike");
+    assert!(has_match(0, &none), "no codes equal up to rotation");
 }
 
 /// Every wrong count would show in the best and in the runner-up, and every pair of counts comes up.
@@ -132,7 +136,7 @@ fn check_numbers(name: &str, expected: &[u32], answers: &[&Answer]) {
     assert_eq!(numbers, expected, "numbers of {name}");
 }
 
-/// Refusals tell words of their own.
+/// Refusals have words of their own.
 fn check_kind(kind: Kind, answers: &[&Answer]) {
     let name = kind.name;
     check_numbers(name, kind.numbers, answers);
@@ -191,7 +195,7 @@ fn check_text(asked: &[Asked]) {
     let kinds: BTreeSet<String> = lines.keys().cloned().collect();
     assert_eq!(kinds, expected, "kinds of lines");
     for (kind, lines) in &lines {
-        // The number of a refusal, and the words that say that there is no evidence, by which no cell contributes, or no runner-up.
+        // The number of a refusal, and the words for no evidence, by which no cell contributes, or no runner-up.
         let same: &[usize] = match kind.as_str() {
             "best none" | "next none" => &[3, 4],
             "next absent" => &[0],

@@ -1,4 +1,4 @@
-//! The entries for cells, corners and links, and through that for corners the questions about a board.
+//! The entry points for cells, corners and links, and through that for corners the checks of a board.
 
 use crate::kinds::{CELLS, CORNERS, LEGACY_CORNERS, LEGACY_LINKS, LINKS};
 use crate::script::{MOST_PLACES, Script, few, float, signed};
@@ -42,7 +42,7 @@ fn ask_lists(script: &mut Script, lists: &CornerLists) {
     script.ask_with_list(CELLS, &counts, theirs::marker_cells(lists), lists.places);
 }
 
-/// Four words for each corner. Where grid words are missing, others stand in the file; they are not lent.
+/// Four words for each corner. Where grid words are missing, others are in the file; they are not passed.
 fn corner_words(lists: &CornerLists) -> Vec<u64> {
     let mut grid = lists.grid.clone();
     grid.resize(lists.count() * WORDS_OF_A_CORNER, 1);
@@ -59,7 +59,7 @@ const OF_EACH_NUMBER: usize = 4;
 /// Boards with two changes are drawn until each of the numbers 0 to 8 has come up so often.
 const BOARDS_OF_EACH_NUMBER: usize = 36;
 
-/// Boards with codes that are alike are drawn until each number has come up so often, or so many were drawn.
+/// Boards with codes that are equal up to rotation are drawn until each number has come up so often, or so many were drawn.
 const LOOK_ALIKES_OF_EACH_NUMBER: usize = 6;
 const LOOK_ALIKES: usize = 400;
 
@@ -78,7 +78,7 @@ fn board_arguments(board: &BoardArguments) -> [u64; 9] {
     ]
 }
 
-/// By which inputs are chosen: the number of the answer. One that 22 alone refuses counts as accepted, as before that question
+/// By which inputs are chosen: the number of the answer. One that 22 alone refuses counts as accepted, as before that check
 /// (document 02, 2.2), so that the choice stays.
 const fn chosen_by(answer: &Answer) -> u32 {
     match answer.number {
@@ -105,7 +105,7 @@ pub fn ask_boards(script: &mut Script) {
     }
 }
 
-/// Of boards with the mark or without it, each from a seed of its own.
+/// Of boards with the legacy flag or without it, each from a seed of its own.
 pub fn ask_corners(script: &mut Script, legacy: bool) {
     let mut prng = Prng::new(if legacy { 34 } else { 27 });
     // Longer lists are left to those with the most corners.
@@ -158,7 +158,7 @@ fn ask_corner_input(script: &mut Script, input: &CornerInput) {
     script.ask_with_list(kind, &arguments, answer, lists.places);
 }
 
-/// Of boards with the mark or without it, each from a seed of its own.
+/// Of boards with the legacy flag or without it, each from a seed of its own.
 pub fn ask_links(script: &mut Script, legacy: bool) {
     let mut prng = Prng::new(if legacy { 35 } else { 28 });
     let short = |input: &LinkInput| input.links().len() <= 30;
@@ -194,7 +194,7 @@ pub fn ask_links(script: &mut Script, legacy: bool) {
     }
 }
 
-/// Corners and links on boards with codes that are alike.
+/// Corners and links on boards with codes that are equal up to rotation.
 pub fn ask_look_alikes(script: &mut Script, legacy: bool) {
     let mut prng = Prng::new(if legacy { 47 } else { 46 });
     let mut is_new = few(LOOK_ALIKES_OF_EACH_NUMBER);
@@ -228,7 +228,7 @@ fn on_small_boards() -> Vec<LinkInput> {
     inputs
 }
 
-/// By the rules, which must be those of the Rust but for the order.
+/// By the rules, which must be those of upstream but for the order.
 fn links_answer(input: &LinkInput) -> Answer {
     let answer = theirs::links_by_rules(input);
     assert_eq!(unordered(&answer), theirs::links_by_rust(input), "{input}");

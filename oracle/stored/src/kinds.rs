@@ -1,4 +1,4 @@
-//! The kinds of rows that ask.
+//! The kinds of rows that have an answer.
 
 /// What a row of a kind has.
 #[derive(Clone, Copy, Debug, PartialEq, Eq, PartialOrd, Ord)]
@@ -8,9 +8,9 @@ pub struct Kind {
     pub arguments: usize,
     /// The length of `values`.
     pub words: usize,
-    /// Words of one result in the list that is lent, if there is one.
+    /// Words of one result in the output array, if there is one.
     pub of_result: usize,
-    /// What is answered: 0, and the numbers of the questions.
+    /// What is answered: 0, and the numbers of the checks.
     pub numbers: &'static [u32],
 }
 
@@ -33,7 +33,7 @@ const fn reader(number: u64, name: &'static str, arguments: usize, words: usize)
     }
 }
 
-/// The same, asked of a legacy board.
+/// The same of a legacy board.
 const fn of_legacy(kind: Kind, name: &'static str) -> Kind {
     Kind {
         number: kind.number + 0x100,
@@ -82,7 +82,7 @@ kinds! {
     ROTATE_CODE = part(0x10, "rotate_code_u64", 3, 2);
     LAYOUT = part(0x11, "layout", 3, 3);
     CORNER_ALIGNMENT = part(0x12, "cell_to_corner_alignment", 3, 2);
-    TURNED = part(0x13, "quarter turn", 3, 2);
+    TURNED = part(0x13, "rotated point", 3, 2);
     RECT_CORNERS = part(0x14, "cell_rect_corners_at", 3, 8);
     BUILT_IN_TABLE = part(0x15, "built-in table", 1, 16);
     NULL_SCORE = part(0x16, "null score", 1, 1);

@@ -1,5 +1,6 @@
-//! Prints the rows that the program `replay` asks our library again: the answers of the upstream Rust, and of the oracle's own
-//! rules where the Rust has none. Our library takes no part. How many rows there are of each kind is told on standard error.
+//! Prints the rows that the program `replay` compares this library with: the answers of upstream, and of the oracle's own
+//! rules where upstream has none. This library is not used. How many rows there are of each kind is printed on standard
+//! error.
 
 mod covered;
 mod entries;
@@ -24,8 +25,8 @@ fn main() -> io::Result<()> {
     entries::ask_corners(&mut script, false);
     entries::ask_links(&mut script, false);
     matches::ask(&mut script);
-    // Legacy boards come after all others, look-alikes after them, then cells at one point, then counts, and many codes last, so that
-    // the rows before stay.
+    // Legacy boards come after all others, equal codes after them, then cells at the same position, then counts, and many
+    // codes last, so that the rows before stay.
     parts::ask_layouts(&mut script, true);
     records::ask_marked(&mut script);
     entries::ask_corners(&mut script, true);

@@ -1,4 +1,4 @@
-//! Matches of records with many codes: question 8 is asked of all of them, up to 1,024, and question 22 of those of markers, up to 512.
+//! Matches of records with many codes: check 8 covers all of them, up to 1,024, and check 22 those of markers, up to 512.
 
 use crate::covered::{ALIKE_AT, TOO_LARGE_AT};
 use crate::matches::{ask_all, with_cells, with_places};
@@ -39,7 +39,8 @@ fn with_code(place: usize, code: u64) -> Shot {
     shot
 }
 
-/// A board of 32 by 32 of which the last marker is seen. No two codes are alike. 0 is none of them, as its turns are equal.
+/// A board of 32 by 32 of which the last marker is seen. No two codes are equal up to rotation. 0 is none of them, as its
+/// rotations are equal.
 fn of_largest_board(code_count: usize) -> Shot {
     let mut shot = Shot {
         rows: 32,

@@ -35,14 +35,14 @@ const LOOKED_THROUGH: usize = 4_000;
 /// So many have each number that the records with faults have.
 const OF_EACH_REFUSAL: usize = 3;
 
-/// A list longer than this is not lent.
+/// No output array is longer than this.
 const LONGEST_LIST: usize = 4_704;
 
 /// So many records of each kind are looked at for answers with few markers.
 const ANSWERS: usize = 4;
 const MOST_MARKERS: usize = 6;
 
-/// The other readers are asked about one record in so many.
+/// The other readers get one record in so many.
 const ONE_IN: usize = 8;
 
 /// So many show each wrong count, and have each pair of counts.
@@ -72,7 +72,7 @@ pub fn ask_marked(script: &mut Script) {
     ask_all(script, &chosen);
 }
 
-/// Cells at one point, which only the match refuses, and points that are nearly alike. The readers read both.
+/// Cells at the same position, which only the match refuses, and points that are nearly equal. The readers read both.
 pub fn ask_repeats(script: &mut Script, legacy: bool) {
     for mut shot in small_repeats().into_iter().chain(repeats_of_most_cells()) {
         if legacy {
@@ -114,7 +114,7 @@ pub fn ask_all(script: &mut Script, chosen: &[Given]) {
         let matched = match_record(&given.record, MOST_PLACES);
         ask_text(script, TEXT, text(&matched));
         let read = read(&given.record);
-        // What the rules answer for a legacy board must be what the Rust finds on the board turned by a quarter.
+        // What the rules answer for a legacy board must be what upstream finds on the board rotated by 90°.
         let turned = read.as_ref();
         let turned = turned.and_then(|read| by_turned_rust_and_model(&read.shot));
         if let Some([rust, rules]) = turned {
@@ -137,7 +137,7 @@ fn ask_text(script: &mut Script, kind: Kind, text: String) {
 }
 
 /// Answers that no record has: without a runner-up, which there always is; with a best placement that has no number, of
-/// which no marker is emitted; with numbers as large as their words hold.
+/// which no marker is emitted; with numbers as large as their words allow.
 fn ask_answers(script: &mut Script) {
     let kinds = others(&KINDS).iter();
     let records = kinds.flat_map(|kind| kind.first(ANSWERS));
@@ -185,8 +185,8 @@ fn told(given: &Given) -> Answer {
     matches::told(&match_record(&given.record, given.places))
 }
 
-/// By which records are chosen: the number of the answer. One that has the mark by damage alone counts as refused, as before
-/// bit 4 was the mark (document 02, 2.1), so that the choice stays.
+/// By which records are chosen: the number of the answer. One that has the legacy flag by damage alone counts as refused, as
+/// before bit 4 was the legacy flag (document 02, 2.1), so that the choice stays.
 fn chosen_by(kind: &GivenKind, given: &Given) -> u32 {
     if is_marked(&given.record) && !kind.legacy {
         REFUSED
@@ -219,7 +219,7 @@ fn of_kind(kind: &GivenKind, longest: usize, most: usize) -> impl Iterator<Item 
     let mut is_new = few(OF_EACH_NUMBER);
     let looked_through = kind.first(LOOKED_THROUGH.min(kind.count));
     let fitting = looked_through.filter(move |given| {
-        // Matches tell most.
+        // Matches show most.
         fits(given, longest) && matches!(chosen_by(kind, given), n if n == 0 || is_new(n))
     });
     fitting.take(most)
@@ -245,7 +245,7 @@ fn showing_counts(kind: &GivenKind) -> Vec<Given> {
     showing.collect()
 }
 
-/// Some of them have a table, which question 10 refuses.
+/// Some of them have a table, which check 10 refuses.
 fn with_every_refusal(kinds: &[GivenKind]) -> Vec<Given> {
     let faults = kinds.iter().find(|kind| kind.name == "one fault or two");
     let faults = faults.expect("a kind of this name");
@@ -264,8 +264,8 @@ pub fn with_places(shot: Shot) -> Given {
     }
 }
 
-/// P9 of document 01, a runner-up whose evidence is none: on 2 rows and 3 columns the cells (0, 0) and (2, 1) fit once in turn 0,
-/// which has no marker below the one that is sampled, and once in turn 2, which has marker 2.
+/// P9 of document 01, a runner-up whose evidence is none: on 2 rows and 3 columns the cells (0, 0) and (2, 1) fit once in
+/// rotation 0, which has no marker below the one that is sampled, and once in rotation 2, which has marker 2.
 fn no_evidence_of_the_next() -> Shot {
     let mut shot = Shot::of_document_01();
     shot.cols = 3;
@@ -285,8 +285,8 @@ pub fn with_cells(cells: Vec<Cell>) -> Shot {
     }
 }
 
-/// The record of document 01 with a second cell at the point of its cell, which is (0, 0): each of them sampled or not. Then with
-/// the second cell beside that point, where it is refused by no question before 15.
+/// The record of document 01 with a second cell at the point of its cell, which is (0, 0): each of them sampled or not. Then
+/// with the second cell beside that point, where it is refused by no check before 15.
 fn small_repeats() -> Vec<Shot> {
     let sample = Shot::of_document_01().cells[0].sample.clone();
     let shot = |samples: [bool; 2], [u, v]: [i16; 2]| {
@@ -311,7 +311,7 @@ fn small_repeats() -> Vec<Shot> {
     shots
 }
 
-/// 256 cells that are not sampled: two of them at one point, the first and the last, then two others; last none.
+/// 256 cells that are not sampled: two of them at the same position, the first and the last, then two others; last none.
 fn repeats_of_most_cells() -> [Shot; 3] {
     let points = rectangle([0, 0], [16, 16]).map(|point| point.map(|x| x as i16));
     let cells = points.map(|[u, v]| Cell { u, v, sample: None });
@@ -325,8 +325,8 @@ fn repeats_of_most_cells() -> [Shot; 3] {
     })
 }
 
-/// A cell on every marker of a board of 16 rows and 32 columns. All are black, as the last marker is, which alone is emitted; no margin is too
-/// small. 256 markers of which no two are alike have 4 by 4 bits or more.
+/// A cell on every marker of a board of 16 rows and 32 columns. All are black, as the last marker is, which alone is
+/// emitted; no margin is too small. 256 markers of which no two are equal up to rotation have 4 by 4 bits or more.
 fn most_contributing(legacy: bool) -> Shot {
     let [rows, cols, bits] = [16, 32, 4];
     let mut codes = listed_codes(bits, MOST_CELLS);
@@ -352,8 +352,8 @@ fn most_contributing(legacy: bool) -> Shot {
     if legacy { shot.marked() } else { shot }
 }
 
-/// The record of document 01 with the mark, and its cell on legacy boards of 4 rows and 5 columns and of 3 by 3: they stand
-/// beside P1 to P12. Ten markers of which no two are alike have 3 by 3 bits or more.
+/// The record of document 01 with the legacy flag, and its cell on legacy boards of 4 rows and 5 columns and of 3 by 3: they
+/// are beside P1 to P12. Ten markers of which no two are equal up to rotation have 3 by 3 bits or more.
 fn small_legacy_boards() -> [Shot; 3] {
     let of_size = |[rows, cols]: [u8; 2], bits: u8| {
         let mut shot = Shot::of_document_01().marked();

@@ -1,4 +1,5 @@
-//! Parts of the library that no entry tells by itself: turned codes, layouts, alignments, the built-in table, null scores and weights.
+//! Parts of the library that no entry point shows by itself: rotated codes, layouts, alignments, the built-in table, null
+//! scores and weights.
 
 use crate::kinds::{
     BUILT_IN_TABLE, CELL_WEIGHT, CORNER_ALIGNMENT, Kind, LAYOUT, LEGACY_LAYOUT, NULL_SCORE,
@@ -69,8 +70,8 @@ fn codes(script: &mut Script) {
     }
 }
 
-/// A board of each size, with a telling size of its squares or any up to 100. With the mark, the boards of 2 by 2, of 4 rows
-/// and 5 columns, and of 3 by 3 stand beside P1 to P3 of document 01.
+/// A board of each size, with a special size of its squares or any up to 100. With the legacy flag, the boards of 2 by 2, of
+/// 4 rows and 5 columns, and of 3 by 3 are beside P1 to P3 of document 01.
 pub fn ask_layouts(script: &mut Script, legacy: bool) {
     let (kind, seed) = if legacy {
         (LEGACY_LAYOUT, 32)

@@ -10,7 +10,7 @@ use cases::floats::float_bits;
 use cases::prng::Prng;
 use theirs::{BUILT_IN, Samples, ScoreBoard, read_code, rotate_code};
 
-/// Base and spread of a cell's greys, for a threshold.
+/// Base and spread of a cell's grey levels, for a threshold.
 const GREYS: [fn(u8) -> [u8; 2]; 10] = [
     // any grey
     |_| [0, 255],
@@ -29,7 +29,7 @@ const GREYS: [fn(u8) -> [u8; 2]; 10] = [
     |_| [255, 0],
 ];
 
-/// A row for each of the greys, of every side and border.
+/// A row for each of the grey levels, of every side and border.
 pub fn ask(script: &mut Script) {
     let mut prng = Prng::new(18);
     for bits in SIDES {
@@ -77,7 +77,7 @@ fn grid(places: usize, seed: u32, base: u8, spread: u8) -> Vec<u8> {
     (0..places).map(|_| grey()).collect()
 }
 
-/// A pattern, a random code, or the one that gives, when turned, what the cell shows.
+/// A pattern, a random code, or the one that gives, when rotated, what the cell shows.
 fn any_code(prng: &mut Prng, cell: &Cell, turn: u8) -> u64 {
     match prng.below(3) {
         0 => prng.pick(&patterns(cell.bits)),

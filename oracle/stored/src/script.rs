@@ -1,4 +1,4 @@
-//! The rows of the file in their order: those that build up the two lists, and those that ask.
+//! The rows of the file in their order: those that build up the two lists, and those with an answer.
 
 use crate::kinds::{Kind, MATCH};
 use cases::answer::{Answer, after};
@@ -20,17 +20,17 @@ pub const MOST_CELLS: usize = 256;
 const LONG_RUN_OF_BYTES: usize = 24;
 const LONG_RUN_OF_WORDS: usize = 10;
 
-/// A row that asks, and the answer in it.
+/// A row with an answer, and the answer.
 pub struct Asked {
     pub kind: Kind,
     pub answer: Answer,
-    /// Have the bytes, if they are a record, the mark of a legacy board?
+    /// Have the bytes, if they are a record, the legacy flag?
     pub is_marked: bool,
-    /// Are two cells at one point, of no more than a match may have, if the bytes are a record?
+    /// Are two cells at the same position, of no more than a match may have, if the bytes are a record?
     pub has_repeat: bool,
-    /// What is matched, if the row asks for a match and the bytes are a record.
+    /// What is matched, if the row is a match and the bytes are a record.
     pub shot: Option<Shot>,
-    /// That of place, if the row asks for it.
+    /// That of place, if the row has one.
     pub text: String,
 }
 
@@ -39,7 +39,7 @@ pub struct Script {
     /// The lines of the file.
     pub lines: String,
     pub asked: Vec<Asked>,
-    /// What the matches show of the counts of contributing cells, without the mark of a legacy board and with it.
+    /// What the matches show of the counts of contributing cells, without the legacy flag and with it.
     pub counts: [Shown; 2],
     bytes: Vec<u8>,
     words: Vec<u64>,
@@ -112,7 +112,7 @@ impl Script {
         self.ask_with_digest(kind, arguments, answer, 0);
     }
 
-    /// A row with a lent list of so many places.
+    /// A row with an output array of so many places.
     pub fn ask_with_list(&mut self, kind: Kind, arguments: &[u64], answer: Answer, places: usize) {
         assert!(places <= MOST_PLACES);
         let list = after(before(places), &answer.list);
@@ -161,7 +161,7 @@ fn has_repeat(record: &[u8]) -> bool {
     points.len() < cells.len() && cells.len() <= MOST_CELLS
 }
 
-/// What every list holds before it is asked for.
+/// What every output array has before the call.
 fn before(places: usize) -> Vec<u32> {
     (0..places as u32).map(|i| 7 * i + 3).collect()
 }
@@ -177,7 +177,7 @@ pub fn digest(numbers: impl IntoIterator<Item = impl Into<u64>>) -> u64 {
     })
 }
 
-/// Long runs of one number, and what stands between them; of each, whether it is a run.
+/// Long runs of one number, and what is between them; of each, whether it is a run.
 fn by_long_runs<T: Copy + PartialEq>(list: &[T], long: usize) -> Vec<(bool, Vec<T>)> {
     let mut parts: Vec<(bool, Vec<T>)> = Vec::new();
     for run in list.chunk_by(|a, b| a == b) {

@@ -1,5 +1,5 @@
-//! Prints the likelihood table that our library holds, as the Rust works it out, an entry a line: `literals` for the
-//! source of the library, `patterns` for the bits.
+//! Prints the likelihood table that this library holds, as upstream computes it, an entry a line: `literals` for the source
+//! of the library, `patterns` for the bits.
 
 use std::process::ExitCode;
 use theirs::{BUILT_IN, likelihood_table};

@@ -1,4 +1,4 @@
-//! The layout of a board, from `board.rs`. The Rust knows no legacy board. One with an even row count is the Rust's board of
+//! The layout of a board, from `board.rs`. Upstream has no legacy boards. One with an even row count is upstream's board of
 //! a row more without its top row: below it every square has the other parity.
 
 use calib_targets_aruco::Dictionary;
@@ -6,7 +6,7 @@ use calib_targets_charuco::{CharucoBoard, CharucoBoardSpec};
 use calib_targets_core::Coord;
 use cases::corner_lists::rectangle;
 
-/// As many codes as the largest board has markers. The layout asks only how many there are.
+/// As many codes as the largest board has markers. The layout depends only on their number.
 static CODES: [u64; 528] = [0; 528];
 
 /// What a row that is cut off takes with it; all 0 if none is.
@@ -23,7 +23,7 @@ pub struct Board {
     cut: Cut,
     /// The board corner of each corner id of `board`.
     corners: Vec<[u64; 2]>,
-    /// As many rows as are asked for. An object point is a product in f32, so it cannot be had from a corner a row lower.
+    /// As many rows as the board has. An object point is a product in f32, so it cannot be had from a corner a row lower.
     points: CharucoBoard,
 }
 
@@ -89,7 +89,7 @@ impl Board {
     }
 
     /// Top left, top right, bottom right, bottom left; none where one of them is on the lower rim of the row that is cut
-    /// off. The Rust takes the id as a signed number.
+    /// off. Upstream takes the id as a signed number.
     pub fn surrounding_corners(&self, marker: u32) -> Option<[u64; 4]> {
         let marker = marker.checked_add(self.cut.markers)?;
         let ids = self
@@ -105,11 +105,11 @@ impl Board {
 fn board_of([rows, cols]: [u8; 2], cell_size: f32) -> CharucoBoard {
     let dictionary = Dictionary::new(4, &CODES);
     let spec = CharucoBoardSpec::new(u32::from(rows), u32::from(cols), cell_size, 0.5, dictionary);
-    CharucoBoard::new(spec).expect("a board that the Rust accepts")
+    CharucoBoard::new(spec).expect("a board that upstream accepts")
 }
 
 impl Cut {
-    /// The markers in the top row and the corners below it, as the Rust has them.
+    /// The markers in the top row and the corners below it, as upstream has them.
     fn top_row(board: &CharucoBoard) -> Self {
         let columns = 0..=board.spec().cols as i32;
         let markers = columns
@@ -124,7 +124,7 @@ impl Cut {
     }
 }
 
-/// Undoes the numbering of the corners by asking for the id of every board corner.
+/// Undoes the numbering of the corners by the id of every board corner.
 fn corners_by_id(board: &CharucoBoard) -> Vec<[u64; 2]> {
     let [rows, cols] = [board.spec().rows, board.spec().cols].map(|n| n as i32);
     let mut corners = Vec::new();

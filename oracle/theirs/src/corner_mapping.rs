@@ -1,5 +1,5 @@
-//! `corner_mapping.rs`: corners of a chessboard made corners of the board. Turn and translation in question 18 and
-//! question 14 are added, and the rule for them stands here.
+//! `corner_mapping.rs`: corners of a chessboard made corners of the board. Rotation and translation in check 18 and check 14
+//! are added, and the rule for them is here.
 
 use crate::marker_cells::{labeled_corners, within_limits};
 use crate::refusals::accepted_board;
@@ -23,13 +23,13 @@ pub fn map_charuco_corners(input: &CornerInput) -> Answer {
     Answer::of_results(&corners)
 }
 
-/// Turn and translation of question 18.
+/// Rotation and translation of check 18.
 fn is_in_range(input: &CornerInput) -> bool {
     let range = -FARTHEST_TRANSLATION..=FARTHEST_TRANSLATION;
     input.turn < 4 && input.translation.iter().all(|t| range.contains(t))
 }
 
-/// An input as the Rust takes it.
+/// An input as upstream takes it.
 pub struct MappedOnBoard {
     board: CharucoBoard,
     chessboard: TargetDetection,
@@ -37,7 +37,7 @@ pub struct MappedOnBoard {
 }
 
 impl MappedOnBoard {
-    /// Or the refusal, by a question of the board or by 18.
+    /// Or the refusal, by a check of the board or by 18.
     pub fn of_input(input: &CornerInput) -> Result<Self, Answer> {
         let board = accepted_board(&input.board, input.board.codes())?;
         if !within_limits(&input.lists) || !is_in_range(input) {
@@ -57,7 +57,7 @@ impl MappedOnBoard {
     }
 }
 
-/// The Rust does not give the index; the x of a position is the index.
+/// Upstream does not give the index; the x of a position is the index.
 fn six_words(corner: &LabeledCorner) -> [u32; WORDS_OF_A_CORNER] {
     let id = corner.id.expect("a mapped corner has an id");
     let Coord { u, v } = corner.grid.expect("a mapped corner has a board corner");

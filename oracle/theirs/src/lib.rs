@@ -1,4 +1,4 @@
-//! The answers of the upstream Rust, in the shapes in which both sides are compared.
+//! The answers of upstream, in the shapes in which both sides are compared.
 
 mod board;
 mod corner_mapping;

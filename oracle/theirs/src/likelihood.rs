@@ -1,5 +1,5 @@
-//! The likelihood table: what one bit of a cell adds to a score. `score_matrix.rs` has no such table; it works the
-//! values out for each bit anew. What stands here by document 01 alone is tested against it.
+//! The likelihood table: what one bit of a cell adds to a score. `score_matrix.rs` has no such table; it computes the values
+//! for each bit anew. What is here by document 01 alone is tested against it.
 
 use calib_targets_core::log_sigmoid;
 use cases::cells::Cell;
@@ -10,10 +10,10 @@ const DIFFERENCES: RangeInclusive<i16> = -255..=255;
 
 pub const TABLE_LENGTH: usize = 511;
 
-/// Slope and floor of the table that our library holds; they are upstream's defaults.
+/// Slope and floor of the built-in table of this library; they are upstream's defaults.
 pub const BUILT_IN: [f32; 2] = [36.0, -6.0];
 
-/// Entry d + 255 is for the difference d: the operations of the Rust, in its order.
+/// Entry d + 255 is for the difference d: the operations of upstream, in its order.
 pub fn likelihood_table([slope, floor]: [f32; 2]) -> [f32; TABLE_LENGTH] {
     let slope_over_255 = slope / 255.0;
     let mut table = [0.0; TABLE_LENGTH];
@@ -24,13 +24,13 @@ pub fn likelihood_table([slope, floor]: [f32; 2]) -> [f32; TABLE_LENGTH] {
     table
 }
 
-/// Question 10, which is added: has the table 511 entries, each from -8 to 0?
+/// Check 10, which is added: has the table 511 entries, each from -8 to 0?
 pub fn is_table(entries: &[f32]) -> bool {
     entries.len() == TABLE_LENGTH && entries.iter().all(|entry| (-8.0..=0.0).contains(entry))
 }
 
-/// What each bit of a cell adds to the score of a code that is already turned, by the rule of document 01; for a table of any
-/// origin.
+/// What each bit of a cell adds to the score of a code that is already rotated, by the rule of document 01; for a table of
+/// any origin.
 pub fn entries(table: &[f32; TABLE_LENGTH], cell: &Cell, code: u64) -> impl Iterator<Item = f32> {
     (0..).zip(cell.differences()).map(move |(k, d)| {
         let d = if code >> k & 1 == 1 { d } else { -d };

@@ -1,5 +1,5 @@
-//! `link_check.rs`: reported links of markers and corners held to the board. The Rust gives the violations in the order of
-//! a `HashMap`; the order of document 01, and its questions 19 and 14, which are added, stand here.
+//! `link_check.rs`: reported links of markers and corners checked against the board. Upstream gives the violations in the
+//! order of a `HashMap`; the order of document 01, and its checks 19 and 14, which are added, are here.
 
 mod rules;
 mod turned;
@@ -25,8 +25,8 @@ pub mod kind {
     pub const MISSING: u32 = 5;
 }
 
-/// The violations that the Rust finds, without their order, or the refusal that is expected. The Rust knows no legacy board;
-/// one with an even row count is shown to it turned by a quarter.
+/// The violations that upstream finds, without their order, or the refusal that is expected. Upstream has no legacy boards;
+/// one with an even row count is shown to it rotated by 90°.
 pub fn links_by_rust(input: &LinkInput) -> Result<Vec<Violation>, Answer> {
     passed(input)?;
     let violations = if input.board.legacy_pattern && input.board.rows % 2 == 0 {
@@ -38,9 +38,9 @@ pub fn links_by_rust(input: &LinkInput) -> Result<Vec<Violation>, Answer> {
     Ok(sorted(&violations))
 }
 
-/// Whatever the board's mark.
+/// Whatever the board's legacy flag.
 fn found_by_rust(input: &LinkInput) -> Vec<LinkViolation> {
-    let checked = CheckedOnBoard::of_input(input).expect("it passed the questions");
+    let checked = CheckedOnBoard::of_input(input).expect("it passed the checks");
     checked.violations()
 }
 
@@ -52,7 +52,7 @@ pub fn links_by_rules(input: &LinkInput) -> Answer {
     }
 }
 
-/// The questions of the entry.
+/// The checks of the entry point.
 fn passed(input: &LinkInput) -> Result<(), Answer> {
     accepted_board(&input.board, input.board.codes())?;
     let count = input.links().len();
@@ -84,14 +84,14 @@ fn sorted(violations: &[Violation]) -> Vec<Violation> {
     violations
 }
 
-/// An input as the Rust takes it.
+/// An input as upstream takes it.
 pub struct CheckedOnBoard {
     board: CharucoBoard,
     links: CharucoMarkerCornerLinks,
 }
 
 impl CheckedOnBoard {
-    /// None if a question of the board refuses it.
+    /// None if a check of the board refuses it.
     pub fn of_input(input: &LinkInput) -> Option<Self> {
         let board = accepted_board(&input.board, input.board.codes()).ok()?;
         let links = input.links().iter();
@@ -124,7 +124,7 @@ fn words(violation: &LinkViolation) -> Violation {
             missing = corners;
             kind::MISSING
         }
-        other => panic!("the Rust has a kind that has no number: {other:?}"),
+        other => panic!("upstream has a kind that has no number: {other:?}"),
     };
     let mut words = [0; _];
     words[0] = violation.marker_id;

@@ -1,5 +1,5 @@
-//! `marker_sampling.rs` and `corner_map.rs`: the whole cells between corners. The questions 18, 14 and 20, which the
-//! cells entry asks, are added, and the rule for them stands here.
+//! `marker_sampling.rs` and `corner_map.rs`: the whole cells between corners. The checks 18, 14 and 20, of the cells entry
+//! point are added, and the rule for them is here.
 
 use calib_targets_aruco::MarkerCell;
 use calib_targets_charuco::marker_cells as cells_of_the_rust;
@@ -11,7 +11,7 @@ const MOST_CORNERS: usize = 1024;
 const MOST_INLIERS: usize = 1024;
 const MOST_CELLS: usize = 256;
 
-/// The answer that is expected. The Rust is not asked before the lists have passed question 18: it walks over all cells
+/// The answer that is expected. Upstream is not called before the lists have passed check 18: it walks over all cells
 /// between the outermost points.
 pub fn marker_cells(lists: &CornerLists) -> Answer {
     if !within_limits(lists) {
@@ -28,7 +28,7 @@ pub fn marker_cells(lists: &CornerLists) -> Answer {
     Answer::of_results(&cells)
 }
 
-/// Question 18 without turn and translation. The range binds only corners that have a grid point, scores all corners.
+/// Check 18 without rotation and translation. The range binds only corners that have a grid point, scores all corners.
 pub fn within_limits(lists: &CornerLists) -> bool {
     let in_range = |point: [i32; 2]| point.iter().all(|x| (-FARTHEST..=FARTHEST).contains(x));
     lists.count() <= MOST_CORNERS
@@ -37,7 +37,7 @@ pub fn within_limits(lists: &CornerLists) -> bool {
         && lists.scores.iter().all(|score| score.is_finite())
 }
 
-/// The lists as the Rust takes them.
+/// The lists as upstream takes them.
 pub struct Labeled {
     corners: Vec<LabeledCorner>,
     inliers: Vec<usize>,
@@ -56,7 +56,7 @@ impl Labeled {
     }
 }
 
-/// The Rust knows corners by their positions in a picture; here the x of a position is the index of the corner.
+/// Upstream knows corners by their positions in a picture; here the x of a position is the index of the corner.
 pub fn labeled_corners(lists: &CornerLists) -> Vec<LabeledCorner> {
     let labeled = (0..lists.count()).map(|corner| {
         let mut labeled = LabeledCorner::new(Default::default(), lists.scores[corner]);

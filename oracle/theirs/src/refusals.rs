@@ -1,5 +1,5 @@
-//! Which question a board is refused with. Of the questions 1 to 8 the Rust asks six; 6 and 8 are added, and so is 22, the last
-//! one of a board (document 02, 2.2). The rule for these stands here.
+//! By which check a board is refused. Of the checks 1 to 8 upstream makes six; 6 and 8 are added, and so is 22, the last one
+//! of a board (document 02, 2.2). The rule for these is here.
 
 use calib_targets_aruco::{Dictionary, rotate_code_u64};
 use calib_targets_charuco::{CharucoBoard, CharucoBoardError, CharucoBoardSpec};
@@ -7,12 +7,12 @@ use cases::answer::Answer;
 use cases::boards::BoardArguments;
 use std::collections::HashSet;
 
-/// The Rust allocates a word for each square, so no larger board is shown to it. This changes no answer: a size
-/// above it is at least 2, as question 1 asks, and question 6 refuses it before the markers are counted.
+/// Upstream allocates a word for each square, so no larger board is shown to it. This changes no answer: a size above it is
+/// at least 2, as check 1 requires, and check 6 refuses it before the markers are counted.
 const LARGEST_SHOWN: u32 = 300;
 
-/// A board that passes all questions, or the answer to the first that it does not. The codes may be others than those of
-/// the arguments.
+/// A board that passes all checks, or the answer to the first that it does not. The codes may be others than those of the
+/// arguments.
 pub fn accepted_board(
     asked: &BoardArguments,
     codes: &'static [u64],
@@ -24,7 +24,7 @@ pub fn accepted_board(
     Ok(board)
 }
 
-/// A board that passes the questions 1 to 8. The Rust places boards with markers that are alike, too.
+/// A board that passes the checks 1 to 8. Upstream places boards with codes that are equal up to rotation, too.
 pub fn board_up_to_8(
     asked: &BoardArguments,
     codes: &'static [u64],
@@ -59,11 +59,11 @@ fn answer_for(error: CharucoBoardError) -> Answer {
             words: vec![needed as u32, available as u32],
             ..Answer::refused(7)
         },
-        other => panic!("the Rust has an error that has no number: {other}"),
+        other => panic!("upstream has an error that has no number: {other}"),
     }
 }
 
-/// Question 6.
+/// Check 6.
 fn within_added_limits(asked: &BoardArguments, code_count: usize) -> bool {
     asked.rows <= 32
         && asked.cols <= 32
@@ -72,13 +72,13 @@ fn within_added_limits(asked: &BoardArguments, code_count: usize) -> bool {
         && code_count <= 1024
 }
 
-/// Question 8, of a side from 1 to 8: a code of 8 by 8 bits cannot be too large.
+/// Check 8, of a side from 1 to 8: a code of 8 by 8 bits cannot be too large.
 fn is_too_large(code: u64, bits: u32) -> bool {
     bits < 8 && code >> (bits * bits) != 0
 }
 
-/// Question 22: are two codes of different ids equal after some number of quarter turns? Two are if the least of their turns
-/// is the same. `two_alike_by_pairs` says the same more slowly.
+/// Check 22: are two codes of different ids equal after some number of rotations by 90°? Two are if the least of their
+/// rotations is the same. `two_alike_by_pairs` is the same, slower.
 pub fn two_alike(codes: &[u64], bits: usize) -> bool {
     let mut seen = HashSet::new();
     let least = |code: u64| (0..4).map(|turn| rotate_code_u64(code, bits, turn)).min();

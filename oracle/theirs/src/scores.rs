@@ -11,7 +11,7 @@ pub use calib_targets_charuco::ScoredCells as Scores;
 /// Upstream's default.
 pub const BORDER_THRESHOLD: f32 = 0.5;
 
-/// Cells in the shape that the Rust takes.
+/// Cells in the shape that upstream takes.
 pub struct Samples(Vec<Option<CellSamples>>);
 
 impl Samples {
@@ -45,7 +45,7 @@ impl ScoreBoard {
     fn of_dictionary(dictionary: Dictionary) -> Self {
         let cols = dictionary.codes().len() as u32;
         let spec = CharucoBoardSpec::new(2, cols, 1.0, 0.5, dictionary);
-        Self(CharucoBoard::new(spec).expect("a board that the Rust accepts"))
+        Self(CharucoBoard::new(spec).expect("a board that upstream accepts"))
     }
 
     /// By slope and floor, as a likelihood table is.
@@ -89,7 +89,7 @@ pub fn cell_weight(border_threshold: f32, sampled: bool, fraction: f32) -> f32 {
     scores.weights()[0]
 }
 
-/// The marker that the Rust emits in a cell at a grid point, `turn` being 0 to 3. It reads a cell when it emits a marker,
+/// The marker that upstream emits in a cell at a grid point, `turn` being 0 to 3. It reads a cell when it emits a marker,
 /// and emits one only where its score is good. So the score is that of a black cell and a black marker; the cell comes in
 /// its place when the marker is emitted.
 fn emitted(cell: &Cell, turn: u8, [u, v]: [i32; 2]) -> MarkerDetection {
@@ -109,7 +109,7 @@ pub fn read_code(cell: &Cell) -> u64 {
     emitted(cell, 0, [0, 0]).code
 }
 
-/// The corner of a cell that `turn` quarter turns make its top left one.
+/// The corner of a cell that `turn` rotations by 90° make its top left one.
 pub fn rotate_gc_top_left(turn: u8, point: [i16; 2]) -> [i32; 2] {
     let gc = emitted(&black(1, 1), turn, point.map(i32::from)).gc;
     [gc.u, gc.v]

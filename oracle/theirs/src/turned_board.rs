@@ -1,5 +1,5 @@
-//! A legacy board with an even row count, turned by a quarter: an unmarked board with rows and columns exchanged, which the
-//! Rust knows. Ids are carried over by the squares and board corners that they name on both boards.
+//! A legacy board with an even row count, rotated by 90°: a board without the legacy flag with rows and columns exchanged,
+//! which upstream knows. Ids are carried over by the squares and board corners that they name on both boards.
 
 use crate::board::Board;
 
@@ -47,7 +47,8 @@ impl TurnedBoard {
     }
 }
 
-/// Ids of the marked board and of the turned one, one to one. An id that is unknown on one is the same unknown id on the other.
+/// Ids of the legacy board and of the rotated one, one to one. An id that is unknown on one is the same unknown id on the
+/// other.
 struct Ids {
     carried: Vec<u32>,
     back: Vec<u32>,
@@ -56,7 +57,7 @@ struct Ids {
 impl Ids {
     fn new(count: u64, ids: impl Iterator<Item = Option<u64>>) -> Self {
         let carried: Vec<u32> = ids
-            .map(|id| id.expect("the turned board has one there") as u32)
+            .map(|id| id.expect("the rotated board has one there") as u32)
             .collect();
         assert_eq!(carried.len() as u64, count, "both boards have as many");
         let mut back = vec![u32::MAX; carried.len()];

@@ -5,7 +5,7 @@ use calib_targets_core::{
     Coord, GRID_TRANSFORMS_C4, cell_rect_corners_at, cell_to_corner_alignment,
 };
 
-/// The point after `turn` quarter turns, `turn` being 0 to 3.
+/// The point after `turn` rotations by 90°, `turn` being 0 to 3.
 pub fn turned(turn: u8, [u, v]: [i16; 2]) -> [i32; 2] {
     let point = Coord::new(i32::from(u), i32::from(v));
     let point = GRID_TRANSFORMS_C4[usize::from(turn)].apply(point);
@@ -38,7 +38,7 @@ impl CodeMatcher {
         Self(Matcher::new(dictionary, u8::MAX))
     }
 
-    /// The code, among several and their turns, that differs least from one that was read: id, turn, differing bits.
+    /// The code, among several and their rotations, that differs least from one that was read: id, rotation, differing bits.
     pub fn best(&self, read: u64) -> Option<(u32, u8, u32)> {
         let found = self.0.match_code(read)?;
         Some((found.id, found.rotation, found.hamming.into()))

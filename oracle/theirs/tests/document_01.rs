@@ -1,5 +1,5 @@
-//! The examples that document 01 gives for these modules (P1 to P8, P10, P12), asked of the upstream Rust. They also
-//! hold the stand-ins to that paper, above all the table of quarter turns, which is not in the given upstream text.
+//! The examples that document 01 gives for these modules (P1 to P8, P10, P12), given to upstream. They also check the
+//! stand-ins against that document, above all the table of rotations by 90°, which is not in the given upstream text.
 
 use cases::answer::Answer;
 use cases::link_entry::example;

@@ -1,5 +1,5 @@
-//! The entries, asked of the upstream Rust: that indices come back through its positions, the order of cells and of their
-//! corners, which corner wins, and the order of the questions.
+//! The entry points, given to upstream: that indices come back through its positions, the order of cells and of their
+//! corners, which corner wins, and the order of the checks.
 
 use cases::answer::Answer;
 use cases::boards::board;

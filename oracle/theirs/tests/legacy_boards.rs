@@ -1,4 +1,4 @@
-//! Legacy boards, as they follow from the upstream Rust: small ones by hand, beside P1 to P12, and what document 02 says of all.
+//! Legacy boards, as they follow from upstream: small ones by hand, beside P1 to P12, and what document 02 states of all.
 
 use cases::answer::Answer;
 use cases::layout::{marker_squares, sizes};
@@ -35,7 +35,8 @@ fn corners_around_markers() {
     }
 }
 
-/// Markers by document 02's rule, as many as without the mark; corners as without it; with an odd row count nothing differs.
+/// Markers by document 02's rule, as many as without the legacy flag; corners as without it; with an odd row count nothing
+/// differs.
 #[test]
 fn every_size() {
     for [rows, cols] in sizes() {
@@ -55,8 +56,8 @@ fn every_size() {
     }
 }
 
-/// The board of 2 rows and 3 columns with its markers, and turned by a quarter: the top row becomes the right column, so
-/// that markers 0, 1 and 2 come to the squares (1, 0), (1, 2) and (0, 1).
+/// The board of 2 rows and 3 columns with its markers, and rotated by 90°: the top row becomes the right column, so that
+/// markers 0, 1 and 2 come to the squares (1, 0), (1, 2) and (0, 1).
 ///
 /// ```text
 /// 0 . 1        . 0
@@ -80,7 +81,7 @@ fn a_board_turned() {
     assert_eq!(ids.marker(8), 8);
 }
 
-/// P8's links on the same board with the mark.
+/// P8's links on the same board with the legacy flag.
 #[test]
 fn links() {
     #[rustfmt::skip]

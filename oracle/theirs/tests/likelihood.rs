@@ -1,4 +1,4 @@
-//! The likelihood table and the rule for a score, which are not in the upstream text, held against it.
+//! The likelihood table and the rule for a score, which are not in the upstream text, compared with it.
 
 use cases::cells::{BORDERS, Cell};
 use cases::codes::{SIDES, TURNS, patterns, random_code};

@@ -1,4 +1,4 @@
-//! Question 22 (document 02, 2.2): by hand, and the quick rule against the sentence.
+//! Check 22 (document 02, 2.2): by hand, and the quick rule against the sentence.
 
 use cases::answer::Answer;
 use cases::boards::{BoardArguments, board, random_pair};
@@ -8,7 +8,7 @@ use cases::link_entry::example;
 use cases::prng::Prng;
 use theirs::{links_by_rules, map_charuco_corners, two_alike, two_alike_by_pairs};
 
-/// P4 of document 01: code 1 of side 2 in its turns is 1, 2, 8 and 4.
+/// P4 of document 01: code 1 of side 2 in its rotations is 1, 2, 8 and 4.
 #[test]
 fn by_hand() {
     for rule in [two_alike, two_alike_by_pairs] {
@@ -17,17 +17,17 @@ fn by_hand() {
             assert!(rule(&[turned, 15, 1], 2));
         }
         assert!(!rule(&[1, 15], 2), "the example of document 01");
-        // Each looks the same when it is turned, and none like another.
+        // Each looks the same when it is rotated, and none like another.
         assert!(!rule(&[0, 15], 2));
         assert!(!rule(&[0, 16, 511], 3));
         assert!(rule(&[16, 0, 16], 3));
-        // A mirror image is not a turn.
+        // A mirror image is not a rotation.
         assert!(!rule(&[0b000_001_011, 0b000_100_011], 3));
         assert!(!rule(&[], 4) && !rule(&[7], 4));
     }
 }
 
-/// The quick rule gives what the sentence gives, on lists with a pair that is alike and without one.
+/// The quick rule gives what the sentence gives, on lists with a pair that is equal up to rotation and without one.
 #[test]
 fn the_quick_rule() {
     let mut prng = Prng::new(41);
@@ -79,7 +79,7 @@ fn asked(board: BoardArguments) -> [Answer; 2] {
     ]
 }
 
-/// Code 1 of side 4 in its turns is 1, 8, 2^15 and 2^12.
+/// Code 1 of side 4 in its rotations is 1, 8, 2^15 and 2^12.
 #[test]
 fn boards_in_both_entries() {
     for mark in [false, true] {
@@ -101,7 +101,7 @@ fn questions_in_their_order() {
     let refused = |number| [Answer::refused(number), Answer::refused(number)];
     let alike = with(9, 1);
     assert_eq!(asked(alike), refused(22));
-    // A turn leaves the bit behind by which the code is too large, so that it is alike to code 1.
+    // A rotation leaves the bit behind by which the code is too large, so that it is equal up to rotation to code 1.
     let too_large = 1 << 16 | 1 << 3;
     assert!(two_alike_by_pairs(with(0, too_large).codes(), 4));
     assert_eq!(asked(with(0, too_large)), refused(8));

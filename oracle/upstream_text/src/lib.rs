@@ -10,7 +10,7 @@ use std::{env, fs};
 const VARIABLE: &str = "CALIB_TARGETS_SRC";
 const DEFAULT: &str = "../../shared/docs/src";
 
-/// Features that the upstream text asks about. All stay off, unless a crate here turns one on.
+/// Features that the upstream text tests. All stay off, unless a crate here turns one on.
 const UPSTREAM_FEATURES: &str = r#""diagnostics", "schemars", "tracing""#;
 
 /// Declares each file of a folder below the upstream one as the module that has its name.
@@ -23,8 +23,8 @@ pub fn declare(folder: &str, files: &[&str]) {
     }
 }
 
-/// Declares the `mod.rs` of an upstream folder as the module that has its name. A file of our own stands among its
-/// children, which come from the same folder as `mod.rs`; so the files, and ours under their name, are copied into one.
+/// Declares the `mod.rs` of an upstream folder as the module that has its name. A file of the oracle is among its children,
+/// which come from the same folder as `mod.rs`; so the files, and the oracle's under their name, are copied into one.
 pub fn declare_folder(folder: &str, files: &[&str], ours: &str) {
     begin();
     let upstream = upstream_folder().join(folder);
@@ -73,7 +73,7 @@ fn found(file: &Path) -> Option<PathBuf> {
     Some(file)
 }
 
-/// The text may hold more than is used here.
+/// The text may have more than is used here.
 fn declare_one(named: &Path, file: &Path) {
     let module = named.file_stem().expect(NAMED).display();
     let line =

@@ -1,4 +1,4 @@
--- `alike::none_alike` meets its contract: codes are alike exactly if their least turns are equal. Assumes nothing.
+-- `alike::none_alike` meets its contract: codes are equal up to rotation if and only if their canonical keys are. Assumes nothing.
 use mathlib.Core.Path.{refl, sym, subst, ap, _∙_}
 use mathlib.Core.Bool.{not}
 use Prim.Native.Nat.{ℕ, _≤_}

@@ -1,4 +1,4 @@
--- `alike::put_least` meets its contract. The loop's invariant: the list holds the least turns of the first k codes. Assumes nothing.
+-- `alike::put_least` meets its contract. The loop's invariant: the array holds the canonical keys of the first k codes. Assumes nothing.
 use mathlib.Core.Path.{_≡_, ap, _∙_}
 use Prim.Native.Nat.{_-_, _≤_, _<_}
 use native.Mathlib.Omega.{arith}

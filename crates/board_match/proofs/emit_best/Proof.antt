@@ -28,7 +28,7 @@ module _ (c : tie.Start) where
 abbrev start : tie.Else1 → tie.Start
 start c = c .before .before .before .before .before
 
--- the margin that question 16 let pass
+-- the margin passes question 16
 wide : (c : tie.Else1) → marginPasses (start c .args .inputs .config) (start c .args .selection .margin) ≡ true
 wide c = sym (c .before .margin-passes .ensures) ∙ not-false _ (c .if1 .left)
 

@@ -25,7 +25,7 @@ use Rattle.board_match.proofs.Accurately.{match-accurate}
 use Rattle.board_match.proofs.match_board.Statement.{statement}
 use Rattle.board_match.proofs.match_board.Tie as tie
 
--- the three promises, from the answer and the list
+-- the three contracts, from the result and the output array
 promised : (bytes lent : List ℕ) (r : Matched) (exit : List ℕ) → Small bytes → Gives bytes lent r exit → (r ≡ matchAnswer bytes lent)
     × ((exit ≡ matchList bytes lent) × Accuracy bytes r)
 promised bytes lent r exit small g = (g .answers, (g .leaves, subst (Accuracy bytes) (sym (g .answers)) (match-accurate bytes lent small)))
@@ -54,7 +54,7 @@ whole c = sym (c .before .is-whole .ensures) ∙ not-false _ (c .if1 .left)
 fill-requires : tie.Need-fill-requires
 fill-requires c κs = let e = c .before .before .before .before in (e .before .before .locate .ensures, whole e, refl)
 
--- what is found in a record that is whole
+-- what is computed from a well-formed record
 module _ (c : tie.After-index2) where
   abbrev filled : tie.After-fill
   filled = c .before .before .before

@@ -1,4 +1,4 @@
--- `corner_mapping::alignment_in_range` meets its contract: each test settles the answer or leaves the next. Assumes nothing.
+-- `corner_mapping::alignment_in_range` meets its contract: each test decides the result or leaves it to the next. Assumes nothing.
 use mathlib.Core.Path.{_≡_, sym, ap, ap₂, _∙_}
 use mathlib.Core.Bool.{Bool, true, false, _&&_}
 use lib.Dec.{ltb}

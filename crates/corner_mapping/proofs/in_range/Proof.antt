@@ -7,7 +7,7 @@ use Rattle.corner_mapping.specs.Entry.{alignmentAnswer, cornerRangeAnswe
 use Rattle.corner_mapping.proofs.in_range.Statement.{statement}
 use Rattle.corner_mapping.proofs.in_range.Tie as tie
 
--- by the answer for the corners
+-- by the result for the corners
 answered : (c : tie.After-corners-in-range) (b : Bool) → c .corners-in-range .result ≡ b
     → cornerRangeAnswer (c .before .before .args .scores .now) (c .before .before .args .grid .now) (c .before .before .args .alignment)
     ≡ (b && alignmentAnswer (c .before .before .args .alignment))

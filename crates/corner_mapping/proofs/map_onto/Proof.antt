@@ -31,7 +31,7 @@ returns c =
     refused (from s) (lent s) refusal.CornersOutOfRange
     (asked (from s) (lent s) false _ (sym (c .before .in-range .ensures) ∙ not-true _ (c .if1 .taken)) refl)
 
--- question 18 is answered with yes, and the corners are counted
+-- question 18 passed, and the corners are counted
 module _ (c : tie.After-corner-count) where
   abbrev start : tie.Start
   start = c .before .before .before .before .before
@@ -49,7 +49,7 @@ returns-2 c =
     refused (from s) (lent s) refusal.ListTooShort
     (asked (from s) (lent s) true false (in-range n) (lt-leb (6 * count (from s)) (length (lent s)) (omega (arith, c .if2 .taken, counted n))))
 
--- the list is long enough
+-- the output array is long enough
 module _ (c : tie.Else2) where
   enough : 6 * count (from (start (c .before))) ≤ length (lent (start (c .before)))
   enough = omega (arith, c .if2 .left, counted (c .before))

@@ -1,4 +1,4 @@
--- `emit::emit_expected` meets its contract: by the candidate. Assumes nothing.
+-- `emit::emit_expected` meets its contract: by cases of the candidate. Assumes nothing.
 use mathlib.Core.Path.{_≡_, sym, ap, ap₂, _∙_, subst}
 use mathlib.Core.List.{List, flatMap}
 use Prim.Native.Nat.{ℕ, _+_, _*_, _≤_, _<_}

@@ -1,4 +1,4 @@
--- `emit::emit_markers` meets its contract. The loop's invariant: the words of what the first k cells emit are put. Assumes nothing.
+-- `emit::emit_markers` meets its contract. The loop's invariant: the words of what the first k cells emit are written. Assumes nothing.
 use mathlib.Core.Path.{_≡_, sym, ap, subst, _∙_}
 use mathlib.Core.List.{List, flatMap}
 use Prim.Native.Nat.{ℕ, _+_, _-_, _≤_, _<_}
@@ -36,7 +36,7 @@ module _ (s : tie.Start Inv-loop μ-loop) where
   abbrev lent : List ℕ
   lent = s .args .markers .now
 
-  -- for the markers of all cells
+  -- room for the markers of all cells
   room : 0 + length (flatMap markerWords (upTo here (cellTotal shown))) ≤ length lent
   room = omega (arith, all-words (markers shown (s .args .alignment)), one-per-cell shown (s .args .alignment), s .pre .1)
 
@@ -46,7 +46,6 @@ module _ (s : tie.Start Inv-loop μ-loop) where
 loop-holds : tie.Need-loop-holds Inv-loop μ-loop
 loop-holds c = let s = c .before .before .before in (omega arith, none-to markerWords (here s) (lent s) 0 (cellTotal (shown s)) (room s))
 
--- in the loop
 module _ (c : tie.In-loop Inv-loop μ-loop) where
   abbrev start : tie.Start Inv-loop μ-loop
   start = c .before .before .before .before .before

@@ -1,4 +1,4 @@
--- `floats::from_bits` meets its contract: a pattern of a NaN is the value NaN, and 0.0 / 0.0 is that value. Assumes nothing.
+-- `floats::from_bits` meets its contract: a NaN pattern is the value NaN, and 0.0 / 0.0 is that value. Assumes nothing.
 use mathlib.Core.Path.{_≡_, refl, sym, subst, _∙_}
 use mathlib.Core.Bool.{Bool, true, not}
 use Prim.Native.Nat.{ℕ}

@@ -1,4 +1,4 @@
--- `floats::is_finite` meets its contract: 1.0 / 0.0 is the positive infinity, and only a finite value lies below it and above its negative.
+-- `floats::is_finite` meets its contract: 1.0 / 0.0 is +∞, and only a finite value is below it and above its negative.
 -- Assumes nothing.
 use mathlib.Core.Path.{_≡_, refl, sym}
 use mathlib.Core.Bool.{true, false}

@@ -1,4 +1,4 @@
--- `floats::is_finite_pattern` meets its contract: a pattern is finite where the exponent's field, which is at most 255, is not 255.
+-- `floats::is_finite_pattern` meets its contract: a pattern is finite if the exponent field, which is at most 255, is not 255.
 -- Assumes nothing.
 use mathlib.Core.Path.{_≡_, refl, sym, _∙_}
 use mathlib.Core.Bool.{Bool, true, false, not, cond}

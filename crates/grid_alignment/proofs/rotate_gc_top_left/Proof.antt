@@ -1,4 +1,4 @@
--- `grid_alignment::rotate_gc_top_left` meets its contract: each arm has its clause of `corner`. Assumes nothing.
+-- `grid_alignment::rotate_gc_top_left` meets its contract: each arm is its clause of `corner`. Assumes nothing.
 use mathlib.Core.Path.{_≡_, refl, sym, ap₂, _∙_}
 use Prim.Native.Nat.{_%_}
 use native.Mathlib.Omega.{arith}

@@ -1,4 +1,4 @@
--- `integers::combine` meets its contract: the factors make nothing larger than 2¹⁵, so no word overflows. Assumes nothing.
+-- `integers::combine` meets its contract: the factors keep |a x|, |b y| ≤ 2¹⁵, so no word overflows. Assumes nothing.
 use mathlib.Core.Path.{_≡_, ap₂, sym, subst}
 use Prim.Native.Nat.{_^_, _≤_, _<_}
 use native.Mathlib.Omega.{arith}
@@ -11,7 +11,7 @@ use Rattle.integers.proofs.Words.{word, half, word-is, widened, widened
 use Rattle.integers.proofs.combine.Statement.{statement}
 use Rattle.integers.proofs.combine.Tie as tie
 
--- a factor and a number: their product, and its size
+-- the product of a factor and a number, and its bound
 module _ (a x : ℤ) (fa : SFits w32 a) (h : natAbs a ≤ 1) (fx : SFits w16 x) where
   product : word a *ℤ word (half x) ≡ a *ℤ x
   product = ap₂ _*ℤ_ (toZ-ofZ w32 a fa) (widened x fx)

@@ -15,7 +15,7 @@ use Rattle.integers.proofs.Sums.{Exact, exact-op}
 use Rattle.integers.proofs.distance.Statement.{statement}
 use Rattle.integers.proofs.distance.Tie as tie
 
--- of a number below 0 the opposite is its size, and another number is its own
+-- the absolute value of d by the sign of d
 opposite : (d z : ℤ) → z ≡ pos 0 -ℤ d → ltZ d (pos 0) ≡ true → natAbs d < 2 ^ 31 → T (nonNeg z) × Fits w64 (natAbs z)
 opposite (pos k) z e t h = absurd (omega (arith, ltb-true k 0 t))
 opposite (negsuc k) z e t h = rw e (tt, record { fits = omega (arith, h) })

@@ -1,4 +1,4 @@
--- `integers::word` meets its contract: of a number and its complement, the one that is not negative is cast. Assumes nothing.
+-- `integers::word` meets its contract: of z and its complement, the nonnegative one is cast. Assumes nothing.
 use mathlib.Core.Path.{_≡_, refl, sym, ap, _∙_, subst}
 use mathlib.Core.Bool.{Bool, true, false}
 use Prim.Native.Nat.{ℕ, suc, _^_, _-_, _≤_, _<_}
@@ -13,7 +13,7 @@ use borrow.Author.Tests.{ltb-true}
 use Rattle.integers.proofs.word.Statement.{statement}
 use Rattle.integers.proofs.word.Tie as tie
 
--- what a cast asks
+-- the precondition of a cast
 abbrev Casts : ℤ → Type 0
 Casts y = T (nonNeg y) × Fits w32 (natAbs y)
 
@@ -30,7 +30,7 @@ complement (negsuc k) f e =
     let same : 4294967295 - (4294967296 - suc k) ≡ k = omega (arith, f .sfits) in
     (ap (toZ w32) same ∙ toZ-pos w32 k (f .sfits), omega arith)
 
--- the test reads the number back from its bits
+-- the test on the bits is the test on z
 tested : (z : ℤ) (b : Bool) → SFits w32 z → ltZ (toZ w32 (ofZ w32 z)) (pos 0) ≡ b → ltZ z (pos 0) ≡ b
 tested z b f e = ap (λ (y : ℤ). ltZ y (pos 0)) (sym (toZ-ofZ w32 z f)) ∙ e
 

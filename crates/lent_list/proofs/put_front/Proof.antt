@@ -1,4 +1,4 @@
--- `lent_list::put_front` meets its contract: there is room for all words, or for the first of them. Assumes nothing.
+-- `lent_list::put_front` meets its contract: all words are written, or a prefix of the array's length. Assumes nothing.
 use mathlib.Core.Path.{sym, _∙_}
 use native.Mathlib.Nat.{le-of-lt}
 use native.Mathlib.Omega.{arith}

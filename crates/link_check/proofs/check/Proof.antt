@@ -1,4 +1,4 @@
--- `link_check::check` meets its contract: one pass behind the other, with room for both. Assumes nothing.
+-- `link_check::check` meets its contract: one pass after the other, with room for both. Assumes nothing.
 use mathlib.Core.Path.{_≡_, sym, ap, _∙_}
 use mathlib.Core.List.{List, _++_}
 use Prim.Native.Nat.{ℕ, _+_, _≤_}

@@ -62,7 +62,7 @@ returns-3 c =
     refused (scores s) (grid s) (inliers s) (lent s) refusal.ListTooShort
     (asked (scores s) (grid s) (inliers s) (lent s) true false _ (all-ranged (c .before)) (lt-leb 1536 (length (lent s)) (c .if3 .taken)) refl)
 
--- the list is long enough
+-- the output array is long enough
 module _ (c : tie.Else3) where
   abbrev entry : tie.Start
   entry = start (c .before .before)

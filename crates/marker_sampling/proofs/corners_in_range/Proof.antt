@@ -1,4 +1,4 @@
--- `marker_sampling::corners_in_range` meets its contract: each test settles the answer or leaves the next. Assumes nothing.
+-- `marker_sampling::corners_in_range` meets its contract: each test decides the result or leaves it to the next. Assumes nothing.
 use mathlib.Core.Path.{sym, ap, ap₂, _∙_}
 use mathlib.Core.Bool.{Bool, _&&_}
 use lib.ListN.{length}

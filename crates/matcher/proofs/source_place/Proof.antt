@@ -1,4 +1,4 @@
--- `matcher::source_place` meets its contract: each arm has its clause of `source`. Assumes nothing.
+-- `matcher::source_place` meets its contract: each arm is its clause of `source`. Assumes nothing.
 use mathlib.Core.Path.{_≡_}
 use Prim.Native.Nat.{_%_}
 use native.Mathlib.Omega.{arith}

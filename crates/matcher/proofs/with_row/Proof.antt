@@ -1,4 +1,4 @@
--- `matcher::with_row` meets its contract. The loop's invariant: `sum` has the bits of the rows above and of x places of this row.
+-- `matcher::with_row` meets its contract. The loop's invariant: `sum` has the bits of the rows above and of the first x columns of this row.
 -- Assumes nothing.
 use mathlib.Core.Path.{_≡_, ap, ap₂, sym, subst, _∙_}
 use Prim.Native.Nat.{ℕ, _+_, _-_, _*_, _/_, _%_, _^_, _≤_, _<_}

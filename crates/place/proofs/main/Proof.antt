@@ -1,4 +1,4 @@
--- `place::main` is safe: the text that is printed is a part of its buffer. Assumes nothing.
+-- `place::main` is safe: the printed text is a slice of its buffer. Assumes nothing.
 use mathlib.Core.Path.{sym}
 use lib.Seq.{length-take-le}
 use borrow.Author.Needs.{needs}

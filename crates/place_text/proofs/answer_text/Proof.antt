@@ -1,4 +1,4 @@
--- `place_text::answer_text` meets its contract: the bytes are bytes and the words are words, so that the text has room. Assumes nothing.
+-- `place_text::answer_text` meets its contract: elements are in the range of their types, so that the text fits. Assumes nothing.
 use mathlib.Core.Path.{_≡_, ap, ap₂, subst, _∙_}
 use mathlib.Core.List.{List}
 use Prim.Native.Nat.{ℕ, _^_, _<_, min}

@@ -1,4 +1,4 @@
--- `place_text::format` meets its contract: by the cases of the answer. Assumes nothing.
+-- `place_text::format` meets its contract: by cases of the result. Assumes nothing.
 use mathlib.Core.Path.{sym, ap}
 use borrow.Author.Needs.{needs}
 use Rattle.board_match.specs.declared.Matched.{Matched}

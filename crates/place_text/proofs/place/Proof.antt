@@ -1,4 +1,4 @@
--- `place_text::place` meets its contract: the text of every answer has room. Assumes nothing.
+-- `place_text::place` meets its contract: the text of every result fits. Assumes nothing.
 use mathlib.Core.Path.{_≡_, refl, sym, ap, _∙_}
 use mathlib.Core.Bool.{Bool, true, false}
 use mathlib.Core.List.{List}
@@ -15,7 +15,7 @@ use Rattle.place_text.specs.Place.{placeText}
 use Rattle.place_text.proofs.place.Statement.{statement}
 use Rattle.place_text.proofs.place.Tie as tie
 
--- what lies past the end of the list is not read
+-- bytes past the end of the array are not read
 held : (n : ℕ) (l : List ℕ) → take (min n (length l)) l ≡ take n l
 held n l = go (leb n (length l)) (leb-true n (length l)) (leb-false n (length l))
   where

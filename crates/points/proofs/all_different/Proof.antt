@@ -1,4 +1,4 @@
--- `points::all_different` meets its contract: points with different residues are different. Assumes nothing.
+-- `points::all_different` meets its contract: points with distinct residues are distinct. Assumes nothing.
 use mathlib.Core.Path.{ap}
 use mathlib.Core.Bool.{true}
 use borrow.Author.Needs.{needs}

@@ -1,4 +1,4 @@
--- `points::apart` meets its contract. The loop's invariant: the residues of the first k points are all different, and they are those that were met.
+-- `points::apart` meets its contract. The loop's invariant: `met` flags the residues of the first k points, which are pairwise distinct.
 -- Assumes nothing.
 use mathlib.Core.Path.{_≡_, refl, sym, ap, _∙_}
 use mathlib.Core.Bool.{Bool, true, false, false≢true}
@@ -17,7 +17,7 @@ use Rattle.points.specs.Points.{residueOf, residueIn}
 use Rattle.points.proofs.apart.Statement.{statement}
 use Rattle.points.proofs.apart.Tie as tie
 
--- ---- marks of the words at 0 to k − 1, and of no others
+-- ---- flags of the words at 0 to k − 1, and of no others
 record Marks (word : ℕ → ℕ) (k : ℕ) (met : List Bool) : Type 0 where
   size : length met ≡ 1024
   marked : (i : ℕ) → i < k → getD met (word i) false ≡ true
@@ -32,7 +32,7 @@ no-marks : (word : ℕ → ℕ) → Marks word 0 (replicate 1024 false)
 no-marks word =
     record { size = refl; marked = λ i h. absurd (omega (arith, h)); only = λ q e. absurd (false≢true (sym (unmarked 1024 q) ∙ e)) }
 
--- what is met stays met
+-- a flag stays set
 still-met : (met : List Bool) (at q : ℕ) → getD met q false ≡ true → getD (set met at true) q false ≡ true
 still-met [] at q e = e
 still-met (x ∷ xs) zero zero e = refl

@@ -1,4 +1,4 @@
--- `points::put_points` meets its contract. The loop's invariant: the list holds the first k points. Assumes nothing.
+-- `points::put_points` meets its contract. The loop's invariant: the array holds the first k points. Assumes nothing.
 use mathlib.Core.Path.{_≡_, _∙_}
 use Prim.Native.Nat.{_-_, _≤_}
 use native.Mathlib.Omega.{arith}

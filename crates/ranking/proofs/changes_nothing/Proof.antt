@@ -6,7 +6,7 @@ use Rattle.ranking.specs.Ranking.{keepsPlace}
 use Rattle.ranking.proofs.changes_nothing.Statement.{statement}
 use Rattle.ranking.proofs.changes_nothing.Tie as tie
 
--- the first test decides where it fails
+-- the first test decides if it fails
 with-first : (s t u : Bool) → s ≡ u → s && t ≡ u && t
 with-first s t u e = ap (λ (b : Bool). b && t) e
 

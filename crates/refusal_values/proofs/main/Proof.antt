@@ -1,4 +1,4 @@
--- `refusal_values::main` is safe: what is read and what is printed are parts of their lists. Assumes nothing.
+-- `refusal_values::main` is safe: the bytes read and the printed text are slices of their arrays. Assumes nothing.
 use mathlib.Core.Path.{sym}
 use native.Mathlib.Omega.{arith}
 use lib.Seq.{length-take-le}

@@ -1,4 +1,4 @@
--- `refusal_values::put_values` meets its contract: the words are those of Match's answer and of the header. Assumes nothing.
+-- `refusal_values::put_values` meets its contract: the words are those of Match's result and of the header. Assumes nothing.
 use mathlib.Core.Path.{_≡_, ap₂, subst, _∙_}
 use mathlib.Core.List.{List}
 use Prim.Native.Nat.{ℕ, _≤_}
@@ -11,7 +11,7 @@ use Rattle.refusal_values.specs.Values.{numberIn, valueIn, minimumIn, wo
 use Rattle.refusal_values.proofs.put_values.Statement.{statement}
 use Rattle.refusal_values.proofs.put_values.Tie as tie
 
--- the line of an answer and a header
+-- the line for a result and a header
 abbrev lineOf : Matched → ReadHeader → List ℕ
 lineOf a h = wordsLine (numberIn a) (valueIn a 0) (valueIn a 1) (minimumIn h)
 

@@ -1,4 +1,4 @@
--- `refusal_values::put_words` meets its contract: word by word, and a word of 32 bits has at most ten digits. Assumes nothing.
+-- `refusal_values::put_words` meets its contract: word by word, and a 32-bit word has at most ten digits. Assumes nothing.
 use Prim.Native.Nat.{ℕ, _^_, _≤_, _<_}
 use mathlib.Core.List.{[], _∷_}
 use native.Mathlib.Omega.{arith}

@@ -1,4 +1,4 @@
--- `refusal_values::value_in` meets its contract: by what the answer is. Assumes nothing.
+-- `refusal_values::value_in` meets its contract: by cases of the result. Assumes nothing.
 use mathlib.Core.Path.{sym, ap, _∙_}
 use borrow.Author.Needs.{needs}
 use Rattle.board_match.specs.declared.Matched.{Matched}

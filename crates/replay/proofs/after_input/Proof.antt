@@ -1,4 +1,4 @@
--- `replay::after_input` is safe and ends: the turns fall. Assumes nothing.
+-- `replay::after_input` is safe and terminates: the countdown decreases. Assumes nothing.
 use mathlib.Core.Path.{_≡_}
 use lib.ListN.{length}
 use borrow.Author.Needs.{needs}

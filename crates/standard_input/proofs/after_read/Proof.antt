@@ -1,4 +1,4 @@
--- `standard_input::after_read` meets its contract: two tests tell the three kinds of answers apart. Assumes nothing.
+-- `standard_input::after_read` meets its contract: two tests distinguish the three kinds of results. Assumes nothing.
 use mathlib.Core.Path.{_≡_, refl, sym, ap, subst, _∙_}
 use mathlib.Core.Bool.{Bool, true, false}
 use Prim.Native.Nat.{ℕ, zero, suc, _+_}
@@ -16,7 +16,7 @@ use Rattle.standard_input.specs.Reading.{afterRead}
 use Rattle.standard_input.proofs.after_read.Statement.{statement}
 use Rattle.standard_input.proofs.after_read.Tie as tie
 
--- what the cast asks
+-- preconditions of the cast
 casts : (z : ℤ) → SFits w64 z → ltZ (pos 0) z ≡ true → T (nonNeg z) × Fits w64 (natAbs z)
 casts (pos n) f e = (tt, record { fits = omega (arith, f .sfits) })
 casts (negsuc k) f e = absurd (omega (arith, ltb-true 0 0 e))
@@ -42,7 +42,7 @@ module _ (c : tie.Start) where
   back : toZ w64 (ofZ w64 got) ≡ got
   back = toZ-ofZ w64 got (c .fits .got)
 
-  -- a test reads the number back from its bits
+  -- a test reads the number back from its bit pattern
   tested : (test : ℤ → Bool) (b : Bool) → test (toZ w64 (ofZ w64 got)) ≡ b → test got ≡ b
   tested test b e = ap test (sym back) ∙ e
 

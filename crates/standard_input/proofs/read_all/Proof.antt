@@ -15,7 +15,7 @@ Inv-loop bytes₀ done₀ bytes done = length bytes ≡ length bytes₀ × done 
 abbrev μ-loop : tie.MeasureT-loop
 μ-loop bytes₀ done₀ bytes done = length bytes₀ - done
 
--- a step that read more read at least one byte, and no more than there was room for
+-- a step that read more read at least one byte, within the array
 module _ (c : tie.After-known-told Inv-loop μ-loop) where
   abbrev turn : tie.At-loop Inv-loop μ-loop
   turn = c .before .before .before .before .before .before .before .before

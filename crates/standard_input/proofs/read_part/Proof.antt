@@ -1,5 +1,4 @@
--- `standard_input::read_part` meets its contract: the answer is within the room, and what is read stands after what was there. Assumes
--- nothing.
+-- `standard_input::read_part` meets its contract: the result is within the array, and bytes read before do not change. Assumes nothing.
 use mathlib.Core.Path.{_≡_, sym, ap, subst, _∙_}
 use Prim.Native.Nat.{ℕ, zero, suc, _+_, _-_, _<_, _^_}
 use native.Mathlib.Omega.{arith}

@@ -1,5 +1,5 @@
-//! Boards with two codes that are alike: one of them is the other one's turn. Those of markers are refused by question 22 (document
-//! 02, 2.2), those past the last marker are not.
+//! Boards with two codes that are equal up to rotation: one of them is the other one rotated. Those of markers are refused
+//! by check 22 (document 02, 2.2), those past the last marker are not.
 
 use super::{BoardArguments, board};
 use crate::codes::{SIDES, listed_codes, most_different, patterns, turned_code};
@@ -7,7 +7,7 @@ use crate::entries::BOARD_REFUSALS;
 use crate::floats::GOOD_CELL_SIZES;
 use crate::prng::Prng;
 
-/// The code at the second place is that at the first, turned.
+/// The code at the second place is that at the first, rotated.
 #[derive(Clone, Copy, Debug)]
 pub struct Pair {
     pub places: [usize; 2],
@@ -24,7 +24,7 @@ const PLACES: [Places; 9] = [
     |_, _, _| [0, 1],
     |_, markers, _| [markers / 2 - 1, markers / 2],
     |_, markers, _| [markers - 2, markers - 1],
-    // Any two; if it is one, the code is turned, and alike to none.
+    // Any two; if it is one, the code is rotated, and equal to none.
     |prng, markers, _| prng.two(|prng| prng.place(markers)),
     // The last marker and the code just past it, the first marker and the last code, any marker and any code past the last.
     |_, markers, _| [markers - 1, markers],
@@ -51,8 +51,8 @@ pub fn random_pair(prng: &mut Prng, markers: usize, codes: usize) -> Pair {
     }
 }
 
-/// A board of any side with such a pair, or with a code that its turns keep, and now and then with a fault of the questions 1
-/// to 8. Few of the other codes are alike.
+/// A board of any side with such a pair, or with a code that equals its own rotations, and now and then with a fault of the
+/// checks 1 to 8. Few of the other codes are equal up to rotation.
 pub fn with_look_alikes(prng: &mut Prng) -> BoardArguments {
     let bits = prng.below(u64::from(*SIDES.end())) as u8 + 1;
     let mut board = random_size(prng, bits);
@@ -70,7 +70,8 @@ pub fn with_look_alikes(prng: &mut Prng) -> BoardArguments {
     if prng.one_in(4) {
         prng.pick(&BOARD_REFUSALS)(&mut board);
     } else if prng.one_in(8) {
-        // Too large for question 8. A turn leaves the bit behind, so that the codes are alike after it all the same.
+        // Too large for check 8. A rotation leaves the bit behind, so that the codes are equal up to rotation after it all
+        // the same.
         board.value |= 1u64.checked_shl(board.bits.pow(2)).unwrap_or(0);
     }
     board

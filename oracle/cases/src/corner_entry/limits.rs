@@ -1,4 +1,4 @@
-//! Inputs at the limits of the corner entry's questions and past them, one limit at a time and two at once.
+//! Inputs at the limits of the corner entry point's checks and past them, one limit at a time and two at once.
 
 use super::{CornerInput, FARTHEST_TRANSLATION, words_needed};
 use crate::boards::{BoardArguments, board, changed_boards, with_look_alikes};
@@ -9,7 +9,7 @@ use crate::prng::Prng;
 
 type Change = fn(&mut CornerInput);
 
-/// Past every limit of the entry's own questions.
+/// Past every limit of the entry point's own checks.
 const REFUSALS: [Change; 14] = [
     |input| grow(input, 1025),
     |input| input.lists.grid[1] = FARTHEST + 1,
@@ -27,7 +27,7 @@ const REFUSALS: [Change; 14] = [
     |input| input.lists.places = 0,
 ];
 
-/// Turns that look like good ones when they are cut.
+/// Rotations that look like good ones when they are cut.
 const LONG_TURNS: [u32; 6] = [256, 257, 259, 65_536, (1 << 31) + 1, u32::MAX];
 
 /// Around the farthest one and around that of a grid point, and the ends of the range.
@@ -43,7 +43,7 @@ pub fn pairs_of_refusals() -> Vec<CornerInput> {
     entries::pairs_of_refusals(&small(), |input| &mut input.board, &REFUSALS)
 }
 
-/// Good input with every turn of a byte and some longer ones, and with translations at their limits and past them.
+/// Good input with every rotation of a byte and some longer ones, and with translations at their limits and past them.
 pub fn alignments() -> Vec<CornerInput> {
     let turns = (0..=255).chain(LONG_TURNS);
     let turned = turns.map(|turn| CornerInput { turn, ..small() });
@@ -101,7 +101,8 @@ pub fn on_changed_boards(prng: &mut Prng, count: usize) -> Vec<CornerInput> {
     boards.map(on_board).collect()
 }
 
-/// The small input on boards with codes that are alike, and now and then past a limit of the entry's own questions.
+/// The small input on boards with codes that are equal up to rotation, and now and then past a limit of the entry point's
+/// own checks.
 pub fn on_look_alikes(prng: &mut Prng) -> CornerInput {
     let mut input = on_board(with_look_alikes(prng));
     if prng.one_in(4) {
@@ -113,7 +114,7 @@ pub fn on_look_alikes(prng: &mut Prng) -> CornerInput {
 fn on_board(board: BoardArguments) -> CornerInput {
     changed(&small(), |input| {
         input.board = board;
-        // Boards that are too large must not ask for a list.
+        // Boards that are too large must not need an output array.
         input.lists.places = words_needed(&board).min(6000);
     })
 }

@@ -6,7 +6,7 @@ use crate::floats::{INF, LEAST, MAX, MIN, NAN, SIGNALLING};
 
 type Change = fn(&mut CornerLists);
 
-/// Past every limit of the entry's questions. Which of two is named shows the order of the questions.
+/// Past every limit of the entry point's checks. Which of two is named shows the order of the checks.
 const REFUSALS: [Change; 12] = [
     |lists| grow_corners(lists, 1025),
     |lists| grow_inliers(lists, 1025, 1),
@@ -22,7 +22,7 @@ const REFUSALS: [Change; 12] = [
     |lists| add_rectangle(lists, [-30, 10], [20, 20]),
 ];
 
-/// Telling scores; the last five are not finite.
+/// Special scores; the last five are not finite.
 pub const SCORES: [f32; 10] = [0.0, -0.0, LEAST, MAX, MIN, INF, -INF, NAN, -NAN, SIGNALLING];
 
 pub const LOWEST: i32 = i32::MIN;

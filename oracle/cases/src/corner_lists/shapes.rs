@@ -102,8 +102,8 @@ pub fn traps(prng: &mut Prng) -> Vec<CornerLists> {
     all
 }
 
-/// Cells in the four corners of the range, and a point in each of two. Few, as the Rust walks over everything between,
-/// 8,192 by 8,192 cells, and reserves memory for as many.
+/// Cells in the four corners of the range, and a point in each of two. Few, as upstream walks over everything between, 8,192
+/// by 8,192 cells, and reserves memory for as many.
 pub fn far() -> Vec<CornerLists> {
     let everywhere = ENDS.into_iter().flat_map(|v| ENDS.map(|u| [u, v]));
     vec![

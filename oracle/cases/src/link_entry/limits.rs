@@ -1,4 +1,4 @@
-//! Inputs at the limits of the link entry's questions and past them, one limit at a time and two at once.
+//! Inputs at the limits of the link entry point's checks and past them, one limit at a time and two at once.
 
 use super::random::TWINS;
 use super::{LinkInput, MOST_LINKS, WORDS_FOR_A_LINK, example};
@@ -8,7 +8,7 @@ use crate::prng::Prng;
 
 type Change = fn(&mut LinkInput);
 
-/// Past every limit of the entry's own questions.
+/// Past every limit of the entry point's own checks.
 const REFUSALS: [Change; 4] = [
     |input| grow(input, MOST_LINKS + 1),
     |input| grow(input, 2 * MOST_LINKS),
@@ -24,7 +24,7 @@ pub fn pairs_of_refusals() -> Vec<LinkInput> {
     entries::pairs_of_refusals(&example(true), |input| &mut input.board, &REFUSALS)
 }
 
-/// P8 and inputs that are like it, with lists of every length around the one that is asked for.
+/// P8 and inputs that are like it, with lists of every length around the one that is needed.
 pub fn single_changes() -> Vec<LinkInput> {
     let mut all = Vec::new();
     for all_four in [false, true] {
@@ -75,7 +75,7 @@ pub fn on_changed_boards(prng: &mut Prng, count: usize) -> Vec<LinkInput> {
     inputs.collect()
 }
 
-/// P8 on boards with codes that are alike, and now and then past a limit of the entry's own questions.
+/// P8 on boards with codes that are equal up to rotation, and now and then past a limit of the entry point's own checks.
 pub fn on_look_alikes(prng: &mut Prng) -> LinkInput {
     let mut input = LinkInput {
         board: with_look_alikes(prng),

@@ -6,7 +6,7 @@ use crate::prng::Prng;
 
 const LONG_LIST: usize = 147_500;
 
-/// A marker off the rim of the largest board, marked or not.
+/// A marker off the rim of the largest board, legacy or not.
 const MARKER: u32 = 100;
 
 /// How links are chosen, on a board of 32 rows and columns: link k, where the four corners of each marker are given.
@@ -42,7 +42,7 @@ const SPREADS: [Spread; 8] = [
     ANY_CORNER,
 ];
 
-/// A corner by which 61 × marker + corner is 1,000 modulo 4,096, for each turn another.
+/// A corner by which 61 × marker + corner is 1,000 modulo 4,096, for each rotation another.
 const fn with_key(marker: u32, turn: u32) -> [u32; 2] {
     let corner = (4096 * 61 + 1000 - 61 * marker) % 4096;
     [marker, corner + 4096 * turn]

@@ -1,5 +1,5 @@
-//! How much of the heap is in use: the system's allocator, which counts while it is told to. Otherwise it only looks at a
-//! flag, so that it does not slow down what is timed.
+//! How much of the heap is in use: the system's allocator, which counts while it is switched on. Otherwise it only looks at
+//! a flag, so that it does not slow down what is timed.
 
 use std::alloc::{GlobalAlloc, Layout, System};
 use std::sync::atomic::{AtomicBool, AtomicIsize, Ordering::Relaxed};

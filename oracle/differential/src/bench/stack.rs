@@ -1,5 +1,5 @@
-//! How deep a call goes into the stack: it runs in a thread whose stack is memory of ours, filled with one byte before. What
-//! is not that byte afterwards was touched. The depth of a call that does nothing is taken off.
+//! How deep a call goes into the stack: it runs in a thread whose stack is memory of this program, filled with one byte
+//! before. What is not that byte afterwards was touched. The depth of a call that does nothing is taken off.
 
 use super::Runs;
 use std::alloc::{Layout, alloc, dealloc};

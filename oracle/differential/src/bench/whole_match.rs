@@ -24,7 +24,7 @@ pub struct WholeMatch {
 /// Rows and columns of a board, and bits.
 pub type Board = ([u8; 2], u8);
 
-/// A board of random codes, no two of them alike, of which these squares are seen, a quarter turn off.
+/// A board of random codes, no two of them equal up to rotation, of which these squares are seen, rotated by 90°.
 pub fn seen(([rows, cols], bits): Board, squares: Vec<[i32; 2]>) -> Shot {
     let mut prng = Prng::new(9);
     let markers = usize::from(rows) * usize::from(cols) / 2;
@@ -55,20 +55,20 @@ impl WholeMatch {
         }
     }
 
-    /// How many placements there are, as our answer tells.
+    /// How many placements there are, by our answer.
     pub fn placements(&self) -> u32 {
         let mut words = [0; ANSWER_WORDS];
         self.ours(&mut words, &mut vec![0; self.given.places]);
         words[PLACEMENTS]
     }
 
-    /// From the bytes of the record to the markers in the lent list.
+    /// From the bytes of the record to the markers in the output array.
     #[inline(never)]
     fn ours(&self, answer: &mut [u32; ANSWER_WORDS], lent: &mut [u32]) -> u32 {
         charuco::words::match_board(&self.given.record, lent, answer)
     }
 
-    /// Of the Rust, whose cells and samples are read before, the whole of `match_board`.
+    /// Of upstream, whose cells and samples are read before, the whole of `match_board`.
     #[inline(never)]
     fn theirs(&self, samples: &Samples) -> usize {
         self.matching.count_of_markers(samples)

@@ -1,6 +1,6 @@
-//! How long our library and the upstream Rust take for the whole cells between corners, and how much memory:
-//! `bench_cells`, or `bench_cells ours|theirs|both ROUNDS [CASE]`. Ours asks its questions too, and writes the lent list; of
-//! the Rust it is `build_corner_map` and `build_marker_cells`.
+//! How long this library and upstream take for the whole cells between corners, and how much memory: `bench_cells`, or
+//! `bench_cells ours|theirs|both ROUNDS [CASE]`. This library makes its checks too, and writes the output array; of upstream
+//! it is `build_corner_map` and `build_marker_cells`.
 
 use cases::corner_lists::{CornerLists, far, rectangle};
 use cases::prng::Prng;
@@ -16,7 +16,7 @@ fn main() -> ExitCode {
     let mixed = square.clone().shuffled(&mut Prng::new(20));
     let mut backwards = CornerLists::of_points(rectangle([-512, 7], [512, 2]));
     backwards.inliers.reverse();
-    let refused = "512 by 2 corners, backwards: refused by us as too many cells";
+    let refused = "512 by 2 corners, backwards: this library refuses so many cells";
     let apart = "a cell in each corner of the range, 8,192 apart";
     let inputs = [
         ("17 by 17 corners, in order", square),

@@ -1,6 +1,6 @@
-//! How long our library and the upstream Rust take for the corner entry and the link entry, and how much memory:
-//! `bench_corners_links`, or `bench_corners_links ours|theirs|both ROUNDS [CASE]`. Ours makes the board, asks its questions
-//! and writes the lent list; of the Rust, whose board is made before, it is `map_charuco_corners` or
+//! How long this library and upstream take for the corner entry point and the link entry point, and how much memory:
+//! `bench_corners_links`, or `bench_corners_links ours|theirs|both ROUNDS [CASE]`. This library makes the board and its
+//! checks and writes the output array; of upstream, whose board is made before, it is `map_charuco_corners` or
 //! `validate_marker_corner_links`.
 
 use cases::corner_entry::largest_board;

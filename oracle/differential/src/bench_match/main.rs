@@ -1,5 +1,5 @@
-//! How long our library and the upstream Rust take for a whole match, and how much memory: `bench_match`, or
-//! `bench_match ours|theirs|both ROUNDS [CASE]`.
+//! How long this library and upstream take for a whole match, and how much memory: `bench_match`, or `bench_match
+//! ours|theirs|both ROUNDS [CASE]`.
 
 use cases::corner_lists::rectangle;
 use differential::bench::{Bench, Board, WholeMatch, heap, seen};
@@ -19,10 +19,10 @@ type Size = [i32; 2];
 /// No match has more cells.
 const MOST_CELLS: i32 = 256;
 
-/// The last three are against us. A block as wide as the board has one column or one row of placements in each turn, so that
-/// few scores stand side by side. With 3 by 3 bits what is done once for each score weighs most; there are 140 such codes of which no
-/// two are alike, and 136 markers on 16 rows and 17 columns. Cells that need the whole board have 4 placements, so that reading the
-/// most cells and asking the questions about them weighs most.
+/// The last three are unfavourable to this library. A block as wide as the board has one column or one row of placements in
+/// each rotation, so that few scores are computed side by side. With 3 by 3 bits what is done once for each score weighs
+/// most; there are 140 such codes of which no two are equal up to rotation, and 136 markers on 16 rows and 17 columns. Cells
+/// that need the whole board have 4 placements, so that reading the most cells and making the checks of them weighs most.
 const CASES: [(Board, Size); 11] = [
     (([5, 7], 4), [5, 4]),
     (([12, 9], 4), [5, 10]),

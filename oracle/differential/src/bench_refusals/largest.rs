@@ -1,10 +1,10 @@
-//! For each number the largest record that the question refuses and all before it let pass.
+//! For each number the largest record that fails the check and passes all before it.
 //!
-//! Nothing bounds the number of cells before question 12. So all records up to there but that for 11 have the most bytes that
-//! question 21 allows. They are filled up with cells that are not sampled: these have the fewest bytes, and question 21 goes
-//! over all of them. Settings and a table are given, and codes as far as they are read, since each takes longer than the
-//! cells that have as many bytes. The codes are random ones of 8 by 8 bits, of which no two are alike: question 22 turns 512 of
-//! them, which takes longest for the largest side, and puts the least turns in order.
+//! Nothing bounds the number of cells before check 12. So all records up to there but that for 11 have the most bytes that
+//! check 21 allows. They are filled up with cells that are not sampled: these have the fewest bytes, and check 21 goes over
+//! all of them. Settings and a table are given, and codes as far as they are read, since each takes longer than the cells
+//! that have as many bytes. The codes are random ones of 8 by 8 bits, of which no two are equal up to rotation: check 22
+//! rotates 512 of them, which takes longest for the largest side, and puts the least rotations in order.
 
 use cases::codes::{random_different_codes, turned_code};
 use cases::corner_lists::{FARTHEST, rectangle};
@@ -15,7 +15,7 @@ use records::{Cell, LONGEST, Sample, Shot, TABLE_LENGTH, UNSAMPLED, write};
 
 pub struct Asked {
     pub number: u32,
-    /// What the question refuses.
+    /// What the check refuses.
     pub what: &'static str,
     pub cells: usize,
     pub given: Given,
@@ -36,7 +36,7 @@ impl Asked {
     }
 }
 
-/// In the order of the questions, then a match.
+/// In the order of the checks, then a match.
 pub fn asked() -> Vec<Asked> {
     let up_to_10 = FAULTS.map(|(number, what, codes, fault)| {
         let mut shot = without_cells(codes);
@@ -56,10 +56,10 @@ const ALL: u8 = 15;
 
 const BITS: u8 = 8;
 
-/// The most codes that question 6 lets pass. Question 8 goes over all of them.
+/// The most codes that pass check 6. Check 8 goes over all of them.
 const MOST_CODES: usize = 1024;
 
-/// The most codes that markers have. No question before 8 reads more, nor does 22.
+/// The most codes that markers have. No check before 8 reads more, nor does 22.
 const MARKER_CODES: usize = 512;
 
 const MOST_CELLS: usize = 256;
@@ -117,7 +117,7 @@ fn a_byte_more() -> Asked {
 /// Number, what is refused, how many codes there are, and the fault of the shot.
 type Fault = (u32, &'static str, usize, fn(&mut Shot));
 
-/// Where a question goes over many values, the last one is wrong.
+/// Where a check goes over many values, the last one is wrong.
 const FAULTS: [Fault; 11] = [
     (1, "one column", MARKER_CODES, |shot| shot.cols = 1),
     (2, "cell_size NaN", MARKER_CODES, |shot| {
@@ -138,12 +138,17 @@ const FAULTS: [Fault; 11] = [
         }
         shot.codes[MOST_CODES - 1] = 1 << 49;
     }),
-    (22, "the last two markers alike", MOST_CODES, |shot| {
-        let [.., before, last] = &mut shot.codes[..MARKER_CODES] else {
-            unreachable!("there are two")
-        };
-        *last = turned_code(*before, BITS, 1);
-    }),
+    (
+        22,
+        "the last two codes equal up to rotation",
+        MOST_CODES,
+        |shot| {
+            let [.., before, last] = &mut shot.codes[..MARKER_CODES] else {
+                unreachable!("there are two")
+            };
+            *last = turned_code(*before, BITS, 1);
+        },
+    ),
     (9, "px_per_square NaN", MOST_CODES, |shot| {
         shot.px_per_square = f32::NAN.to_bits();
     }),
@@ -152,21 +157,21 @@ const FAULTS: [Fault; 11] = [
     }),
 ];
 
-/// Only cells could make it longer, as question 6 bounds the codes.
+/// Only cells could make it longer, as check 6 bounds the codes.
 fn no_cell() -> Asked {
     Asked::new(11, "no cell", &without_cells(MOST_CODES))
 }
 
 /// The count is refused at once. That takes longer all the same than 256 cells of which the last lies too far off, since
-/// question 21 goes over more of them.
+/// check 21 goes over more of them.
 fn too_many_cells() -> Asked {
     let shot = filled_up(without_cells(MOST_CODES), LONGEST);
     Asked::new(12, "more than 256 cells", &shot)
 }
 
-/// 256 cells, with grids of 16 by 16 greys, by which the record still has the most bytes. As many are sampled as there is
-/// room for, and they are the last. Their points are different and lie over the whole range, in any order: question 23 takes longer
-/// then than for a block that fits on a board.
+/// 256 cells, with grids of 16 by 16 grey levels, by which the record still has the most bytes. As many are sampled as there
+/// is room for, and they are the last. Their points are different and lie over the whole range, in any order: check 23 takes
+/// longer then than for a block that fits on a board.
 fn most_cells() -> Shot {
     let mut shot = without_cells(0);
     shot.border = 4;
@@ -200,10 +205,10 @@ fn from_23() -> [Asked; 4] {
     if let Some(sample) = odd.samples_mut().last() {
         sample.fraction = f32::NAN.to_bits();
     }
-    let mut short = Asked::new(14, "a list that is a word too short", &shot);
+    let mut short = Asked::new(14, "an output array one word too short", &shot);
     short.given.places -= 1;
     [
-        Asked::new(23, "the last two cells at one point", &twice),
+        Asked::new(23, "the last two cells at the same position", &twice),
         Asked::new(13, "the last fraction NaN", &odd),
         short,
         Asked::new(15, "cells too far apart", &shot),

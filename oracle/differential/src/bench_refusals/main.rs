@@ -1,6 +1,6 @@
-//! How long our library takes to refuse a match: `bench_refusals`. Prints a line for each number, its fields separated by
-//! tabs, for the largest record that the question refuses and those before it let pass; last the largest match, number 0.
-//! Ends with 1 if a number is not the one expected.
+//! How long this library takes to refuse a match: `bench_refusals`. Prints a line for each number, its fields separated by
+//! tabs, for the largest record that fails the check and passes those before it; last the largest match, number 0. Ends with
+//! 1 if a number is not the one expected.
 
 mod largest;
 
@@ -35,13 +35,13 @@ fn side(Asked { given, .. }: &Asked) -> Side<'_> {
     })
 }
 
-/// Is the number as expected, by us and by the oracle?
+/// Is the number as expected, by this library and by the oracle?
 fn agrees(Asked { number, given, .. }: &Asked) -> bool {
     let ours = given.ours()(&mut [0; ANSWER_WORDS], &mut vec![0; given.places]);
     let theirs = given.theirs().number;
     let agrees = [ours, theirs] == [*number; 2];
     if !agrees {
-        eprintln!("{number} is expected, we answer {ours}, the oracle {theirs}");
+        eprintln!("{number} is expected, this library returns {ours}, the oracle {theirs}");
     }
     agrees
 }

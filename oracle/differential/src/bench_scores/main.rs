@@ -1,6 +1,6 @@
-//! How long our library and the upstream Rust take for all scores of a board's cells: `bench_scores`, or
-//! `bench_scores ours|theirs|both ROUNDS [CASE]`. Without a case, the machine's own limits come first. `ours` and `theirs` are
-//! not inlined, so that a profile shows them.
+//! How long this library and upstream take for all scores of a board's cells: `bench_scores`, or `bench_scores
+//! ours|theirs|both ROUNDS [CASE]`. Without a case, the machine's own limits come first. `ours` and `theirs` are not
+//! inlined, so that a profile shows them.
 
 mod limits;
 
@@ -76,7 +76,7 @@ impl Case {
         self.cells.len() * self.codes.len() * 4
     }
 
-    /// Turns the codes once, then asks cell by cell, in the order of the Rust.
+    /// Rotates the codes once, then scores cell by cell, in the order of upstream.
     #[inline(never)]
     fn ours(&self) -> Vec<f32> {
         let mut turned = Vec::with_capacity(self.codes.len() * 4);
@@ -90,7 +90,7 @@ impl Case {
         scores
     }
 
-    /// The whole of `build_score_matrix`, which turns the codes too.
+    /// The whole of `build_score_matrix`, which rotates the codes too.
     #[inline(never)]
     fn theirs(&self) -> Scores {
         self.board.scores(&self.samples, BUILT_IN)

@@ -1,6 +1,6 @@
-//! How the time of a whole match grows with the number of cells, of markers and of placements, for our library and the
-//! upstream Rust: `bench_sizes`. Prints a line for each size, its fields separated by tabs, with the best rounds of both
-//! sides. Ends with 1 if an answer or a list differs.
+//! How the time of a whole match grows with the number of cells, of markers and of placements, for this library and
+//! upstream: `bench_sizes`. Prints a line for each size, its fields separated by tabs, with the best rounds of both sides.
+//! Ends with 1 if an answer or a list differs.
 
 use cases::corner_lists::rectangle;
 use differential::bench::{Board, Case, Side, WholeMatch, best_of_each, seen, warn_of_checks};
@@ -33,7 +33,7 @@ fn sides(case: &WholeMatch) -> [Side<'_>; 2] {
 #[derive(Clone)]
 struct Size {
     series: String,
-    /// Of what the series counts; the placements are told in any case.
+    /// Of what the series counts; the placements are printed in any case.
     number: Option<u32>,
     board: Board,
     squares: Vec<[i32; 2]>,

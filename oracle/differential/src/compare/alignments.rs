@@ -1,4 +1,4 @@
-//! Quarter turns, corner translations and the corners of a cell.
+//! Rotations by 90°, corner translations and the corners of a cell.
 
 use crate::subject::Subject;
 use cases::codes::TURNS;
@@ -23,9 +23,9 @@ pub fn compare() -> Vec<Subject> {
         }
         subject
     };
-    let top_left = "corner that a turn makes top left";
+    let top_left = "corner that a rotation moves to the top left";
     vec![
-        for_each_turn("quarter turn", ours::turned, theirs::turned),
+        for_each_turn("rotated point", ours::turned, theirs::turned),
         for_each_turn(
             "corner translation",
             ours::corner_translation,
@@ -42,9 +42,9 @@ pub fn compare() -> Vec<Subject> {
 
 type OnPoint = fn(u8, [i16; 2]) -> [i32; 2];
 
-/// Telling cells with telling sizes, then every cell with a size of its own.
+/// Special cells with special sizes, then every cell with a size of its own.
 fn cell_corners(points: &[[i16; 2]], prng: &mut Prng) -> Subject {
-    let mut subject = Subject::new("corners of a cell");
+    let mut subject = Subject::new("corners of a cell, bit pattern");
     let mut check = |cell, px: f32| {
         let both = [
             ours::cell_rect_corners(cell, px),

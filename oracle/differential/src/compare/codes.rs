@@ -1,4 +1,4 @@
-//! Turned codes and differing bits.
+//! Rotated codes and Hamming distances.
 
 use crate::subject::Subject;
 use cases::codes::{SIDES, TURNS, patterns, random_code, single_bits};
@@ -14,14 +14,14 @@ const READ_CODES: usize = 500;
 
 pub fn compare() -> Vec<Subject> {
     let mut prng = Prng::new(1);
-    let mut turned = Subject::new("turned code");
+    let mut turned = Subject::new("rotated code, rotations 0 to 3");
     for side in SIDES {
         let random = random_codes(&mut prng, side, RANDOM_CODES);
         let codes = [&patterns(side)[..], &single_bits(side), &random].concat();
         check_turns(&mut turned, &codes, side, TURNS);
     }
-    // The Rust takes a turn above 3 as what is left of it after whole rounds.
-    let mut large_turns = Subject::new("turned code, turns 4 to 255");
+    // Upstream takes a rotation above 3 as what is left of it after whole rounds.
+    let mut large_turns = Subject::new("rotated code, rotations 4 to 255");
     for side in SIDES {
         let codes = random_codes(&mut prng, side, CODES_FOR_LARGE_TURNS);
         check_turns(&mut large_turns, &codes, side, TURNS.end..=u8::MAX);
@@ -51,9 +51,9 @@ fn check_turns(
     }
 }
 
-/// `matcher.rs` counts in the midst of a loop, so the same expression stands here; `best_matches` runs the loop.
+/// `matcher.rs` counts inside a loop, so the same expression is here; `best_matches` runs the loop.
 fn differing_bits(prng: &mut Prng) -> Subject {
-    let mut subject = Subject::new("differing bits");
+    let mut subject = Subject::new("Hamming distance");
     let mut check = |a: u64, b: u64| {
         let [ours, theirs] = [ours::differing_bits(a, b), (a ^ b).count_ones()];
         subject.check(ours, theirs, format_args!("{a:X} and {b:X}"));
@@ -68,9 +68,9 @@ fn differing_bits(prng: &mut Prng) -> Subject {
     subject
 }
 
-/// Our turned codes and counts, put together as the matcher of the Rust does it.
+/// Our rotated codes and counts, put together as the matcher of upstream does it.
 fn best_matches(prng: &mut Prng) -> Subject {
-    let mut subject = Subject::new("best match of a read code");
+    let mut subject = Subject::new("best match of a code");
     for side in SIDES {
         let codes = random_codes(prng, side, DICTIONARY);
         let matcher = CodeMatcher::new(&codes, side);
@@ -83,7 +83,7 @@ fn best_matches(prng: &mut Prng) -> Subject {
     subject
 }
 
-/// The first of the codes and turns with the fewest differing bits.
+/// The first of the codes and rotations with the fewest differing bits.
 fn our_best_match(codes: &[u64], side: u8, read: u64) -> Option<(u32, u8, u32)> {
     let candidates = (0..).zip(codes).flat_map(|(id, &code)| {
         let differing = move |turn| ours::differing_bits(read, ours::rotate_code(code, side, turn));

@@ -1,7 +1,7 @@
-//! The corner entry, the cells entry, and the questions about a board.
+//! The corner entry point, the cells entry point, and the checks of a board.
 
 use crate::entry::compare_all;
-use crate::subject::Subject;
+use crate::subject::{Subject, of_legacy_boards};
 use cases::boards::{BASES, BoardArguments, double_changes, many_changes, single_changes};
 use cases::corner_entry::{self, CornerInput, alignments, full_board, most_corners};
 use cases::corner_lists::{
@@ -9,7 +9,7 @@ use cases::corner_lists::{
 };
 use cases::prng::Prng;
 
-/// The numbers of the corner entry's answers, in the order of its questions.
+/// The numbers that the corner entry point may return, in the order of its checks.
 const CORNERS: [u32; 12] = [0, 1, 2, 3, 4, 5, 6, 7, 8, 22, 18, 14];
 
 const LOOK_ALIKES: usize = 12_000;
@@ -34,15 +34,15 @@ pub fn cells() -> Vec<Subject> {
 
 pub fn corners() -> Vec<Subject> {
     [
-        corners_of("corners", 7, false),
-        corners_of("corners, legacy boards", 37, true),
-        look_alikes("corners, look-alikes", 42, false),
-        look_alikes("corners, look-alikes, legacy boards", 43, true),
+        corners_of(7, false),
+        of_legacy_boards(corners_of(37, true)),
+        look_alikes(42, false),
+        of_legacy_boards(look_alikes(43, true)),
     ]
     .concat()
 }
 
-fn corners_of(name: &'static str, seed: u64, legacy: bool) -> Vec<Subject> {
+fn corners_of(seed: u64, legacy: bool) -> Vec<Subject> {
     let mut prng = Prng::new(seed);
     let groups = [
         alignments(),
@@ -57,34 +57,34 @@ fn corners_of(name: &'static str, seed: u64, legacy: bool) -> Vec<Subject> {
         input.board.legacy_pattern = legacy;
         input
     });
-    compare_all(name, &CORNERS, inputs)
+    compare_all("corners", &CORNERS, inputs)
 }
 
-/// Boards with codes that are alike (document 02, 2.2).
-fn look_alikes(name: &'static str, seed: u64, legacy: bool) -> Vec<Subject> {
+/// Boards with codes that are equal up to rotation (document 02, 2.2).
+fn look_alikes(seed: u64, legacy: bool) -> Vec<Subject> {
     let mut prng = Prng::new(seed);
     let inputs = prng.many(LOOK_ALIKES, corner_entry::on_look_alikes);
     let inputs = inputs.into_iter().map(|mut input| {
         input.board.legacy_pattern = legacy;
         input
     });
-    compare_all(name, &CORNERS, inputs)
+    compare_all("corners, equal codes", &CORNERS, inputs)
 }
 
-/// Which boards are refused, and with which number: the corner entry with no corners, so that no question of the entry itself
-/// refuses them.
+/// Which boards are refused, and with which number: the corner entry point without corners, so that no check of its own
+/// fails.
 pub fn refusals() -> Vec<Subject> {
     let single = BASES.map(single_changes).concat();
     let double = BASES.map(double_changes).concat();
     let many = many_changes(&mut Prng::new(2), 200_000);
-    let unmarked = refusals_of("new board", [single.clone(), double, many].concat());
+    let unmarked = refusals_of([single.clone(), double, many].concat());
     let many = many_changes(&mut Prng::new(32), 60_000);
     let marked = [single, many].concat().into_iter();
     let marked = marked.map(|board| board.with_mark(true)).collect();
-    [unmarked, refusals_of("new legacy board", marked)].concat()
+    [unmarked, of_legacy_boards(refusals_of(marked))].concat()
 }
 
-fn refusals_of(name: &'static str, boards: Vec<BoardArguments>) -> Vec<Subject> {
+fn refusals_of(boards: Vec<BoardArguments>) -> Vec<Subject> {
     let inputs = boards.into_iter().map(CornerInput::without_corners);
-    compare_all(name, &[0, 1, 2, 3, 4, 5, 6, 7, 8, 22], inputs)
+    compare_all("new board", &[0, 1, 2, 3, 4, 5, 6, 7, 8, 22], inputs)
 }

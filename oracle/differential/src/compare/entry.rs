@@ -1,36 +1,34 @@
-//! What is counted for an entry: answers by their numbers, and every word of the list that is lent.
+//! What is counted for an entry point: answers by their numbers, and every word of the output array.
 
 use crate::subject::Subject;
 use cases::answer::{Answer, after, before};
 use differential::entries::Input;
 use std::fmt::Display;
 
-/// More words than any answer has, to see that no other word is written.
+/// More words than any answer has, to check that no other word is written.
 const VALUES: usize = 20;
 
-/// One subject for each number that is expected, so that the run shows how often each came up, and one for the list.
+/// One subject for each expected number, so that the run shows how often each came up, and one for the output array.
 pub struct Entry {
-    name: &'static str,
     numbers: &'static [u32],
     answers: Vec<Subject>,
     lent: Subject,
 }
 
-/// What both sides answer. Of ours, `values` and the lent list are whole.
+/// What both sides answer. Of ours, `values` and the output array are whole.
 pub struct Both {
     pub ours: Answer,
     pub theirs: Answer,
 }
 
 impl Entry {
-    /// The numbers are those of the entry's questions, in their order, and 0.
+    /// The numbers are 0 and those of the checks, in their order.
     pub fn new(name: &'static str, numbers: &'static [u32]) -> Self {
-        let subject = |number| Subject::new(format!("{name}, answer {number}"));
+        let subject = |&number| Subject::of_number(format!("{name}, number and values"), number);
         Self {
-            name,
             numbers,
             answers: numbers.iter().map(subject).collect(),
-            lent: Subject::new(format!("{name}, the whole lent list")),
+            lent: Subject::new(format!("{name}, whole output array")),
         }
     }
 
@@ -59,18 +57,16 @@ impl Entry {
 
     /// A number that never comes up is a failure of the inputs.
     pub fn subjects(self) -> Vec<Subject> {
-        let mut up = Subject::new(format!("{}, answers that come up", self.name));
-        for (number, subject) in self.numbers.iter().zip(&self.answers) {
-            let asked = format_args!("answer {number} comes up");
-            up.check(subject.compared > 0, true, asked);
-        }
         let mut subjects = self.answers;
-        subjects.extend([self.lent, up]);
+        for (number, subject) in self.numbers.iter().zip(&mut subjects) {
+            subject.require(subject.compared, format_args!("number {number}"));
+        }
+        subjects.push(self.lent);
         subjects
     }
 }
 
-/// All inputs of an entry of which nothing else is counted.
+/// All inputs of an entry point for which nothing else is counted.
 pub fn compare_all<I: Input + Display>(
     name: &'static str,
     numbers: &'static [u32],

@@ -1,21 +1,16 @@
-//! The layout of every board from 2 by 2 to 32 by 32, without the mark of a legacy board and with it.
+//! The layout of every board from 2 by 2 to 32 by 32, without the legacy flag and with it.
 
-use crate::subject::{Subject, Subjects};
+use crate::subject::{Subject, Subjects, of_legacy_boards};
 use cases::floats::{GOOD_CELL_SIZES, float_bits};
 use cases::layout::{coordinates, ids, sizes};
 use differential::ours;
 
 pub fn compare() -> Vec<Subject> {
-    let names = [(false, ""), (true, ", legacy board")];
-    let layouts = names.map(|(legacy, name)| compare_all(legacy, name));
-    layouts.concat()
+    [compare_all(false), of_legacy_boards(compare_all(true))].concat()
 }
 
-fn compare_all(legacy: bool, name: &'static str) -> Vec<Subject> {
-    let mut subjects = Named {
-        subjects: Subjects::default(),
-        name,
-    };
+fn compare_all(legacy: bool) -> Vec<Subject> {
+    let mut subjects = Subjects::default();
     for [rows, cols] in sizes() {
         let ours = ours::Board { rows, cols, legacy };
         let theirs = theirs::Board::new(rows, cols, legacy, 1.0);
@@ -25,22 +20,10 @@ fn compare_all(legacy: bool, name: &'static str) -> Vec<Subject> {
             compare_points(&mut subjects, &ours, cell_size);
         }
     }
-    subjects.subjects.0
+    subjects.0
 }
 
-/// Subjects whose names end alike.
-struct Named {
-    subjects: Subjects,
-    name: &'static str,
-}
-
-impl Named {
-    fn of(&mut self, subject: &str) -> &mut Subject {
-        self.subjects.of(&format!("{subject}{}", self.name))
-    }
-}
-
-fn compare_places(subjects: &mut Named, ours: &ours::Board, theirs: &theirs::Board) {
+fn compare_places(subjects: &mut Subjects, ours: &ours::Board, theirs: &theirs::Board) {
     let ours::Board { rows, cols, .. } = *ours;
     for [i, j] in coordinates(rows, cols) {
         let asked = format_args!("{rows} rows, {cols} cols, i {i}, j {j}");
@@ -51,7 +34,7 @@ fn compare_places(subjects: &mut Named, ours: &ours::Board, theirs: &theirs::Boa
     }
 }
 
-fn compare_ids(subjects: &mut Named, ours: &ours::Board, theirs: &theirs::Board) {
+fn compare_ids(subjects: &mut Subjects, ours: &ours::Board, theirs: &theirs::Board) {
     let ours::Board { rows, cols, .. } = *ours;
     let asked = format_args!("{rows} rows, {cols} cols");
     let count = subjects.of("marker count");
@@ -73,10 +56,10 @@ fn compare_ids(subjects: &mut Named, ours: &ours::Board, theirs: &theirs::Board)
 }
 
 /// An id without a point is NaN and NaN.
-fn compare_points(subjects: &mut Named, ours: &ours::Board, cell_size: f32) {
+fn compare_points(subjects: &mut Subjects, ours: &ours::Board, cell_size: f32) {
     let ours::Board { rows, cols, legacy } = *ours;
     let theirs = theirs::Board::new(rows, cols, legacy, cell_size);
-    let points = subjects.of("object point of a corner id");
+    let points = subjects.of("object point of a corner id, bit pattern");
     for id in ids(theirs.corner_count() as u32) {
         let asked = format_args!("{rows} rows, {cols} cols, cell size {cell_size:e}, corner {id}");
         let point = theirs.object_xy(id).unwrap_or([f32::NAN; 2]);

@@ -1,8 +1,8 @@
-//! The link entry: in the order of document 01 against its rules, and without order against the Rust. A legacy board with an
-//! even row count is turned by a quarter for the Rust.
+//! The link entry point: in the order of document 01 against the oracle's rules, and without order against upstream. A legacy
+//! board with an even row count is rotated by 90° for upstream.
 
 use crate::entry::Entry;
-use crate::subject::Subject;
+use crate::subject::{Subject, of_legacy_boards};
 use cases::answer::Answer;
 use cases::link_entry::{
     self, LinkInput, WORDS_OF_A_VIOLATION, most_of_one_link, of_most_links, on_changed_boards,
@@ -17,10 +17,10 @@ pub fn compare() -> Vec<Subject> {
     let look_alikes = |seed: u64| Prng::new(seed).many(LOOK_ALIKES, link_entry::on_look_alikes);
     [
         compare_all("links", false, inputs(8, false)),
-        compare_all("links, legacy boards", true, inputs(38, true)),
-        // Boards with codes that are alike (document 02, 2.2).
-        compare_all("links, look-alikes", false, look_alikes(44)),
-        compare_all("links, look-alikes, legacy boards", true, look_alikes(45)),
+        of_legacy_boards(compare_all("links", true, inputs(38, true))),
+        // Boards with codes that are equal up to rotation (document 02, 2.2).
+        compare_all("links, equal codes", false, look_alikes(44)),
+        of_legacy_boards(compare_all("links, equal codes", true, look_alikes(45))),
     ]
     .concat()
 }
@@ -42,10 +42,10 @@ fn inputs(seed: u64, legacy: bool) -> Vec<LinkInput> {
 /// A kind of violation that never comes up is a failure of the inputs.
 fn compare_all(name: &'static str, legacy: bool, inputs: Vec<LinkInput>) -> Vec<Subject> {
     let mut entry = Entry::new(name, &[0, 1, 2, 3, 4, 5, 6, 7, 8, 22, 19, 14]);
-    let mut against_rust = Subject::new(format!("{name}, without order against the Rust"));
-    let rules_name = format!("{name}, the rules without order against the Rust");
+    let mut against_rust = Subject::new(format!("{name}, without order, against upstream"));
+    let rules_name = format!("{name}, the oracle's rules without order, against upstream");
     let mut against_rules = Subject::new(rules_name);
-    let mut of_kinds = [0; 5];
+    let mut of_kinds = [0u64; 5];
     for mut input in inputs {
         input.board.legacy_pattern = legacy;
         let input = &input;
@@ -58,16 +58,13 @@ fn compare_all(name: &'static str, legacy: bool, inputs: Vec<LinkInput>) -> Vec<
         against_rust.check(&ours, &rust, format_args!("{input}"));
         against_rules.check(&rules, &rust, format_args!("{input}"));
     }
-    let mut up = Subject::new(format!("{name}, kinds that come up, {of_kinds:?} times"));
-    for (kind, count) in (1..).zip(of_kinds) {
-        up.check(count > 0, true, format_args!("kind {kind} comes up"));
-    }
+    let up = Subject::of_cases(format!("{name}, violations by kind"), (1..).zip(of_kinds));
     let mut subjects = entry.subjects();
     subjects.extend([against_rust, against_rules, up]);
     subjects
 }
 
-/// Of our answer what it tells. More violations than there is room for would be a mistake that the answer itself shows.
+/// The written part of our answer. More violations than there is room for would be an error that the answer itself shows.
 fn told(ours: Answer) -> Answer {
     let count = ours.words[0] as usize;
     match ours.number {

@@ -1,5 +1,6 @@
-//! The differential run: asks our library and the upstream Rust the same, and ends with 1 if any answer differs. Names of
-//! groups as arguments restrict it to these.
+//! The differential run: gives this library and upstream the same inputs, and ends with 1 if an answer differs. Names of
+//! groups as arguments restrict it to these. A run of all groups ends with 1 too if `oracle/RESULTS.md` has other counts;
+//! `--write` writes them there.
 
 mod alignments;
 mod codes;
@@ -9,15 +10,20 @@ mod layout;
 mod links;
 mod matches;
 mod records;
+mod results;
 mod scores;
 mod subject;
 
 use std::process::ExitCode;
 use subject::Subject;
 
-/// A group of subjects by its name, in the order of the run.
+/// The block of `oracle/RESULTS.md`.
+const BLOCK: &str = "compare";
+
+/// A group of subjects by its name.
 type Group = (&'static str, fn() -> Vec<Subject>);
 
+/// In the order of the run.
 const GROUPS: [Group; 11] = [
     ("codes", codes::compare),
     ("layout", layout::compare),
@@ -33,25 +39,38 @@ const GROUPS: [Group; 11] = [
 ];
 
 fn main() -> ExitCode {
-    let names: Vec<String> = std::env::args().skip(1).collect();
+    let (options, names): (Vec<String>, Vec<String>) =
+        std::env::args().skip(1).partition(|word| word == "--write");
     let is_known = |name: &String| GROUPS.iter().any(|(known, _)| known == name);
-    if !names.iter().all(is_known) {
-        eprintln!(
-            "usage: compare [GROUP...], of {:?}",
-            GROUPS.map(|(name, _)| name)
-        );
+    let writes = !options.is_empty();
+    if !names.iter().all(is_known) || writes && !names.is_empty() {
+        let known = GROUPS.map(|(name, _)| name);
+        eprintln!("usage: compare [--write | GROUP...], of {known:?}");
         return ExitCode::FAILURE;
     }
     let [mut compared, mut different] = [0; 2];
+    let mut groups = Vec::new();
     for (name, compare) in GROUPS {
         if names.is_empty() || names.iter().any(|asked| asked == name) {
-            for subject in compare() {
+            let subjects = compare();
+            for subject in &subjects {
                 print!("{subject}");
                 compared += subject.compared;
                 different += subject.different;
             }
+            groups.push((name, subjects));
         }
     }
     println!("all: {compared} compared, {different} different");
-    ExitCode::from(u8::from(different != 0))
+    if different != 0 {
+        return ExitCode::FAILURE;
+    }
+    if names.is_empty() {
+        let block = results::block(&groups, compared);
+        if let Err(message) = cases::results::settle(BLOCK, &block, writes) {
+            eprintln!("{message}");
+            return ExitCode::FAILURE;
+        }
+    }
+    ExitCode::SUCCESS
 }

@@ -1,11 +1,11 @@
-//! The match: its answer, every word of the lent list, and what the program `place` prints.
+//! The match: its answer, every word of the output array, and what the program `place` prints.
 
 mod counts;
 mod program;
 mod unknown_to_rust;
 
 use crate::entry::{Both, Entry};
-use crate::subject::{Bytes, Subject};
+use crate::subject::{Bytes, Subject, of_legacy_boards};
 use matches::counts::Shown as ShownCounts;
 use matches::given::{Given, KINDS, Kind, LEGACY_KINDS};
 use matches::{Compared, by_rust_and_model, by_turned_rust_and_model, told};
@@ -15,7 +15,7 @@ use unknown_to_rust::UnknownToRust;
 
 pub use program::compare as compare_program;
 
-/// The numbers of the answers, in the order of the questions; 0 is a match.
+/// The numbers that a match may return, in the order of the checks; 0 is a match.
 #[rustfmt::skip]
 const NUMBERS: [u32; 21] = [
     0, REFUSED, 1, 2, 3, 4, 5, 6, 7, 8, 22, 9, 10, 11, 12, 23, 13, 14, 15, 16, 17,
@@ -23,39 +23,33 @@ const NUMBERS: [u32; 21] = [
 
 pub fn compare() -> Vec<Subject> {
     let mut turned = Turned::default();
-    let mut subjects = compare_kinds("match", &KINDS, &mut turned);
-    let of_legacy = compare_kinds("match, legacy boards", &LEGACY_KINDS, &mut turned);
-    subjects.extend(of_legacy);
-    subjects.extend(turned.subjects());
-    subjects
+    let subjects = compare_kinds(&KINDS, &mut turned);
+    let of_legacy = compare_kinds(&LEGACY_KINDS, &mut turned);
+    let turned = turned.subjects().to_vec();
+    [subjects, of_legacy_boards([of_legacy, turned].concat())].concat()
 }
 
-fn compare_kinds(name: &'static str, kinds: &[Kind], turned: &mut Turned) -> Vec<Subject> {
-    let mut entry = Entry::new(name, &NUMBERS);
-    let mut rules = Subject::new(format!("{name}, the rules against the Rust"));
-    let mut unknown = UnknownToRust::all(name);
-    let mut by_rust = 0;
+fn compare_kinds(kinds: &[Kind], turned: &mut Turned) -> Vec<Subject> {
+    let mut entry = Entry::new("match", &NUMBERS);
+    let mut rules = Subject::new("the oracle's rules against upstream");
+    let mut unknown = UnknownToRust::all();
+    let mut by_rust = 0u64;
     let mut counts = ShownCounts::default();
     let mut subjects = Vec::new();
     for kind in kinds {
-        let mut of_kind = Subject::new(format!("{name}, {}", kind.name));
+        let mut of_kind = 0u64;
         for (place, given) in kind.all().enumerate() {
             let asked = Shown(kind, place, &given);
             let Both { ours, theirs } = entry.compare(&given, &asked);
-            let count = theirs.words.len();
-            of_kind.check(
-                (ours.number, &ours.words[..count]),
-                (theirs.number, &theirs.words[..]),
-                format_args!("{asked}"),
-            );
-            // The rules answer for tables that the Rust cannot take, so they are held to it where it can.
+            of_kind += 1;
+            // The oracle's rules answer for tables that upstream cannot take; where it can, they are compared with it.
             let Some(read) = records::read(&given.record) else {
                 continue;
             };
             counts.add(&read.shot, &theirs);
             if let Some(both) = by_rust_and_model(&read.shot) {
                 let [rust, model] = both.map(|matched| told(&matched));
-                // 14, which asks about the lent list, may still refuse it.
+                // Check 14, of the output array's length, may still fail.
                 by_rust += u64::from(rust.number == 0 && theirs.number == 0);
                 rules.check(model, rust, format_args!("{asked}"));
             }
@@ -67,38 +61,38 @@ fn compare_kinds(name: &'static str, kinds: &[Kind], turned: &mut Turned) -> Vec
                 unknown.check(&read.shot, &asked);
             }
         }
-        subjects.push(of_kind);
+        let of_kind = [("records", of_kind)];
+        subjects.push(Subject::of_cases(format!("kind: {}", kind.title), of_kind));
     }
     subjects.extend(entry.subjects());
     subjects.push(rules);
-    let mut up = Subject::new(format!("{name}, {by_rust} matches by the Rust itself"));
-    up.check(by_rust > 0, true, format_args!("one comes up"));
-    subjects.push(up);
-    subjects.extend(counts::subjects(name, &counts));
+    let by_rust = [("placed", by_rust)];
+    subjects.push(Subject::of_cases("answers of upstream itself", by_rust));
+    subjects.extend(counts::subjects(&counts));
     subjects.extend(unknown.into_iter().flat_map(UnknownToRust::subjects));
     subjects
 }
 
-/// Marked boards that the Rust knows only turned by a quarter.
+/// Legacy boards, which upstream knows only rotated by 90°.
 struct Turned {
-    /// The evidence of every placement, as bits, and its count of contributing cells; and the placements one to one.
+    /// The evidence of every placement, as its bit pattern, and its count of contributing cells; and the placements one to one.
     placements: Subject,
     /// Count of placements, evidence of the best and of the runner-up, margin.
     chosen: Subject,
-    /// Everything that is told, where both choose the same best.
+    /// The whole answer, where both choose the same best.
     answers: Subject,
     count: u64,
-    /// Matches of the same best and runner-up, of which all that is told is compared.
+    /// Matches with the same best and runner-up, which are compared as a whole.
     whole: u64,
 }
 
 impl Default for Turned {
     fn default() -> Self {
-        let subject = |of: &str| Subject::new(format!("marked boards by the Rust, turned: {of}"));
+        let subject = |of: &str| Subject::new(format!("upstream on the rotated board: {of}"));
         Self {
             placements: subject("evidence and contributing cells of every placement"),
             chosen: subject("best, runner-up, margin"),
-            answers: subject("answers of the same best"),
+            answers: subject("whole answer, same best"),
             count: 0,
             whole: 0,
         }
@@ -106,7 +100,7 @@ impl Default for Turned {
 }
 
 impl Turned {
-    /// The rules are compared with the Rust, as elsewhere.
+    /// The oracle's rules are compared with upstream, as elsewhere.
     fn check(&mut self, [rust, model]: [Compared; 2], asked: &Shown) {
         let asked = format_args!("{asked}");
         self.count += rust.placements.len() as u64;
@@ -120,24 +114,25 @@ impl Turned {
     }
 
     fn subjects(self) -> [Subject; 4] {
-        let name = format!(
-            "marked boards by the Rust, turned: {} placements, {} matches of the same best and runner-up",
-            self.count, self.whole
+        let up = Subject::of_cases(
+            "upstream on the rotated board: counts",
+            [
+                ("placements", self.count),
+                ("matches with the same best and runner-up", self.whole),
+            ],
         );
-        let mut up = Subject::new(name);
-        up.check(self.whole > 0, true, format_args!("such matches come up"));
         [self.placements, self.chosen, self.answers, up]
     }
 }
 
-/// The kind of a record and its place in it, by which it can be had again, and its first bytes.
+/// The kind of a record and its place in it, by which it can be made again, and its first bytes.
 pub struct Shown<'a>(pub &'a Kind, pub usize, pub &'a Given);
 
 impl Display for Shown<'_> {
     fn fmt(&self, f: &mut Formatter) -> fmt::Result {
         let Self(kind, place, Given { record, places }) = self;
         let of = if kind.legacy { " of legacy boards" } else { "" };
-        write!(f, "{}{of}, record {place}, {places} places, ", kind.name)?;
+        write!(f, "{}{of}, record {place}, {places} places, ", kind.title)?;
         write!(f, "{}", Bytes(record))
     }
 }

@@ -1,8 +1,8 @@
-//! Shot records: telling ones, good ones of many shapes, damaged ones, and bytes of no meaning.
+//! Shot records: special ones, good ones of many shapes, damaged ones, and bytes of no meaning.
 
 mod fields;
 
-use crate::subject::{Subject, Subjects};
+use crate::subject::{Subject, Subjects, of_legacy_boards};
 use cases::prng::Prng;
 use fields::Extent::{self, All, Few};
 use records::telling::{Telling, telling, telling_marked};
@@ -16,7 +16,7 @@ const RANDOM_SHOTS: usize = 1_500;
 const DAMAGED_SHOTS: usize = 40;
 const RANDOM_BYTES: usize = 10_000;
 
-/// Bits and border, by which the side is too large for 8 bits, or the number of greys for 16.
+/// Bits and border, by which the side is too large for 8 bits, or the number of grey levels for 16.
 const LARGE_SIDES: [[u8; 2]; 9] = [
     [255, 255],
     [0, 128],
@@ -29,17 +29,17 @@ const LARGE_SIDES: [[u8; 2]; 9] = [
     [128, 64],
 ];
 
-/// The mark adds no field, so that every record may have it.
+/// The legacy flag adds no field, so that every record may have it.
 pub fn compare() -> Vec<Subject> {
     let mut subjects = Subjects::default();
     for (record, extent) in all(telling(), &mut Prng::new(6)) {
-        fields::compare(&mut subjects, "record", &record, extent);
+        fields::compare(&mut subjects, &record, extent);
     }
+    let mut of_legacy = Subjects::default();
     for (record, extent) in all(telling_marked(), &mut Prng::new(36)) {
-        let record = damage::marked(record);
-        fields::compare(&mut subjects, "record with the mark", &record, extent);
+        fields::compare(&mut of_legacy, &damage::marked(record), extent);
     }
-    subjects.0
+    [subjects.0, of_legacy_boards(of_legacy.0)].concat()
 }
 
 fn all(telling: Vec<Telling>, prng: &mut Prng) -> impl Iterator<Item = Asked> {
@@ -53,7 +53,7 @@ fn all(telling: Vec<Telling>, prng: &mut Prng) -> impl Iterator<Item = Asked> {
         .chain(damaged.map(with_few))
 }
 
-/// A record, and how much of it is asked for.
+/// A record, and how much of it is read.
 type Asked = (Vec<u8>, Extent);
 
 fn record(prng: &mut Prng, shape: Shape) -> Vec<u8> {
@@ -92,7 +92,7 @@ fn good(prng: &mut Prng) -> Vec<Asked> {
     all
 }
 
-/// Of a size that a record can have: 300 cells of 10 by 10 greys fill half of it.
+/// Of a size that a record can have: 300 cells of 10 by 10 grey levels fill half of it.
 fn any_shape(prng: &mut Prng) -> Shape {
     let cells = prng.pick(&[3, 10, 40, 300]);
     let bits = if cells == 300 { 7 } else { 10 };
@@ -122,14 +122,14 @@ fn at_the_limits(prng: &mut Prng) -> Vec<Asked> {
     for sides in LARGE_SIDES {
         large_side(prng, &mut all, sides);
     }
-    // One sampled cell just fits: 255 × 255 greys.
+    // One sampled cell just fits: 255 × 255 grey levels.
     for sides in [[255, 0], [1, 127], [253, 1]] {
         all.push((record(prng, Shape::new(7, sides, [1, 1], 4)), All));
     }
     all
 }
 
-/// Cells that are not sampled pass with any side. One that is sampled has side × side greys, and no other number.
+/// Cells that are not sampled pass with any side. One that is sampled has side × side grey levels, and no other number.
 fn large_side(prng: &mut Prng, all: &mut Vec<Asked>, [bits, border]: [u8; 2]) {
     let side = usize::from(bits) + 2 * usize::from(border);
     let cut_side = side % 256;

@@ -1,4 +1,4 @@
-//! The scores of sampled cells, and what belongs to them: the built-in likelihood table, question 10, weights.
+//! The scores of sampled cells, and what belongs to them: the built-in likelihood table, check 10, weights.
 
 use crate::subject::{Subject, Subjects};
 use cases::cells::{BORDERS, Cell, PATTERNS, THRESHOLDS};
@@ -23,7 +23,7 @@ pub fn compare() -> Vec<Subject> {
     subjects
 }
 
-/// Places past the table, some of which look like places in it when their upper part is dropped. They hold NaN.
+/// Places past the table, some of which look like places in it when their upper part is dropped. Their value is NaN.
 const PAST_THE_TABLE: [usize; 7] = [
     TABLE_LENGTH,
     512,
@@ -35,7 +35,7 @@ const PAST_THE_TABLE: [usize; 7] = [
 ];
 
 fn built_in_table() -> Subject {
-    let mut subject = Subject::new("entry of the built-in table");
+    let mut subject = Subject::new("entry of the built-in table, bit pattern");
     let table = likelihood_table(BUILT_IN);
     for i in (0..TABLE_LENGTH).chain(PAST_THE_TABLE) {
         let theirs = table.get(i).copied().unwrap_or(f32::NAN);
@@ -46,7 +46,7 @@ fn built_in_table() -> Subject {
 
 /// Tables by slope and floor, lists of other lengths, and a good table with one odd entry.
 fn tables() -> Subject {
-    let mut subject = Subject::new("is a table (question 10)");
+    let mut subject = Subject::new("is a table (check 10)");
     let mut check = |entries: &[f32], asked: String| {
         let [ours, theirs] = [scores::is_table(entries), is_table(entries)];
         subject.check(ours, theirs, format_args!("{asked}"));
@@ -71,7 +71,7 @@ fn tables() -> Subject {
 }
 
 fn weights(prng: &mut Prng) -> Subject {
-    let mut subject = Subject::new("weight of a cell");
+    let mut subject = Subject::new("weight of a cell, bit pattern");
     let mut check = |threshold: f32, sampled, fraction: f32| {
         let ours = scores::cell_weight(threshold, sampled, fraction);
         let theirs = theirs::cell_weight(threshold, sampled, fraction);
@@ -98,7 +98,7 @@ fn of_cells(prng: &mut Prng) -> Vec<Subject> {
     let random_tables = prng.many(RANDOM_TABLES, random_table);
     for bits in SIDES {
         let [ours, theirs] = [scores::null_score(bits), theirs::null_score(bits)];
-        let null_scores = subjects.of("null score");
+        let null_scores = subjects.of("null score, bit pattern");
         null_scores.check_float(ours, theirs, format_args!("side {bits}"));
         for border in BORDERS {
             let group = Group::new(prng, bits, border);
@@ -114,7 +114,7 @@ fn of_cells(prng: &mut Prng) -> Vec<Subject> {
     subjects.0
 }
 
-/// Any entries that a table may have: unlike those by a formula, hardly two are alike.
+/// Any entries that a table may have: unlike those by a formula, hardly two are equal.
 fn random_table(prng: &mut Prng) -> [f32; TABLE_LENGTH] {
     [(); TABLE_LENGTH].map(|()| prng.below(1 << 24) as f32 / (1 << 21) as f32 - 8.0)
 }
@@ -124,7 +124,7 @@ struct Group {
     bits: u8,
     cells: Vec<Cell>,
     codes: Vec<u64>,
-    /// Code by code, of each code the four turns.
+    /// Code by code, of each code the four rotations.
     turned: Vec<u64>,
 }
 
@@ -145,7 +145,7 @@ impl Group {
     }
 }
 
-/// Every pattern with every telling threshold, random cells, and cells that show one of the codes.
+/// Every pattern with every special threshold, random cells, and cells that show one of the codes.
 fn cells(prng: &mut Prng, size: [u8; 2], codes: &[u64]) -> Vec<Cell> {
     let mut cells = Vec::new();
     for threshold in THRESHOLDS {
@@ -157,7 +157,7 @@ fn cells(prng: &mut Prng, size: [u8; 2], codes: &[u64]) -> Vec<Cell> {
 }
 
 fn compare_read_codes(subjects: &mut Subjects, group: &Group) {
-    let read_codes = subjects.of("read code");
+    let read_codes = subjects.of("code read from a cell");
     for cell in &group.cells {
         let [ours, theirs] = [scores::read_code(cell), theirs::read_code(cell)];
         read_codes.check(ours, theirs, format_args!("{cell:?}"));
@@ -179,20 +179,20 @@ fn compare_with_the_rust(subjects: &mut Subjects, group: &Group, slope_and_floor
             let asked =
                 format_args!("slope and floor {slope_and_floor:?}, code {code:X}, {cell:?}");
             let score = theirs.of_cell(place)[i];
-            let one = subjects.of("score of a cell and a code");
+            let one = subjects.of("score of a cell and a rotated code, bit pattern");
             one.check_float(scores::score(&table, cell, code), score, asked);
-            let all = subjects.of("score of a cell, all codes at once");
+            let all = subjects.of("the same, all codes of a cell in one call");
             all.check_float(at_once[i], score, asked);
             let evidence = theirs.evidence(place, i as u32 / 4, (i % 4) as u8);
-            let of_cell = subjects.of("evidence of a cell");
+            let of_cell = subjects.of("evidence of a cell, bit pattern");
             of_cell.check_float(scores::evidence(score, group.bits), evidence, asked);
         }
     }
 }
 
-/// The Rust takes no table that is not by its formula, so the rule of document 01 answers.
+/// Upstream takes no table that is not by its formula, so the rule of document 01 answers.
 fn compare_with_the_rule(subjects: &mut Subjects, group: &Group, table: &[f32; TABLE_LENGTH]) {
-    let by_rule = subjects.of("score by the rule, random table");
+    let by_rule = subjects.of("score by the oracle's rule, random table");
     let mut at_once = vec![0.0; group.turned.len()];
     for cell in &group.cells {
         scores::cell_scores(table, cell, &group.turned, &mut at_once);

@@ -44,14 +44,14 @@ unsafe extern "C" {
     ) -> u64;
 }
 
-// SAFETY, below: each pointer and the length behind it are those of one slice. The functions only read them, but for
-// `out`, which is lent to them alone.
+// SAFETY, below: each pointer and the length behind it are those of one slice. The functions only read them, but for `out`,
+// which no other function uses meanwhile.
 
 pub fn is_table(entries: &[f32]) -> bool {
     unsafe { oracle_is_table(entries.as_ptr(), entries.len()) == 1 }
 }
 
-/// The code is already turned.
+/// The code is already rotated.
 pub fn score(table: &[f32; 511], cell: &Cell, code: u64) -> f32 {
     unsafe {
         oracle_score(
@@ -66,7 +66,7 @@ pub fn score(table: &[f32; 511], cell: &Cell, code: u64) -> f32 {
     }
 }
 
-/// A score for each code, which is already turned.
+/// A score for each code, which is already rotated.
 pub fn cell_scores(table: &[f32; 511], cell: &Cell, codes: &[u64], out: &mut [f32]) {
     assert_eq!(codes.len(), out.len());
     unsafe {

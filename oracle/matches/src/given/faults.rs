@@ -1,4 +1,4 @@
-//! Good shots with one fault or two, so that every question is answered with no and the order of the questions shows.
+//! Good shots with one fault or two, so that every check fails once and the order of the checks shows.
 
 use super::Given;
 use super::numbers::odd_entries;
@@ -19,7 +19,7 @@ struct Faulty {
 
 type Fault = fn(&mut Prng, &mut Faulty);
 
-/// By the number of the question, in the order in which they are asked, but for 23, which has a kind of its own (`repeats.rs`).
+/// By the number of the check, in the order in which they are made, but for 23, which has a kind of its own (`repeats.rs`).
 const FAULTS: [Fault; 19] = [
     |_, faulty| faulty.is_broken = true,
     |prng, Faulty { shot, .. }| {
@@ -120,13 +120,13 @@ const FAULTS: [Fault; 19] = [
 
 const BAD_FRACTIONS: [f32; 8] = [-LEAST, -0.5, ABOVE_1, 2.0, MAX, INF, -INF, NAN];
 
-/// One fault, or two of which the later question goes unasked.
+/// One fault, or two of which the later check is not reached.
 pub fn given(prng: &mut Prng, legacy: bool) -> Given {
     let shot = Scene::random(prng, legacy).shot(prng, Look::Clear);
     with_faults(prng, shot, 2)
 }
 
-/// So many faults of any questions.
+/// So many faults of any checks.
 pub fn with_faults(prng: &mut Prng, shot: Shot, count: usize) -> Given {
     let mut faulty = Faulty {
         shot,
@@ -157,7 +157,7 @@ impl Faulty {
     }
 }
 
-/// A spare bit or the mark, a byte less, a byte more.
+/// A spare bit or the legacy flag, a byte less, a byte more.
 fn broken(prng: &mut Prng, record: &mut Vec<u8>) {
     match prng.below(3) {
         0 => record[0] |= prng.pick(&settings::WITHOUT_FIELD),

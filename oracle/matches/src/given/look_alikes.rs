@@ -1,4 +1,5 @@
-//! Boards with codes that are alike (document 02, 2.2). Those of markers are refused by 22, though the Rust places them.
+//! Boards with codes that are equal up to rotation (document 02, 2.2). Those of markers are refused by 22, though upstream
+//! places them.
 
 use super::Given;
 use super::faults::with_faults;
@@ -22,7 +23,7 @@ const CHANGES: [Change; 7] = [
     any_codes,
 ];
 
-/// Half of the time with a minimum margin that no margin is below, a quarter of the time with one fault more, of any question.
+/// Half of the time with a minimum margin that no margin is below, a quarter of the time with one fault more, of any check.
 pub fn given(prng: &mut Prng, legacy: bool) -> Given {
     let mut shot = Scene::random(prng, legacy).any_shot(prng);
     prng.pick(&CHANGES)(prng, &mut shot);
@@ -33,7 +34,7 @@ pub fn given(prng: &mut Prng, legacy: bool) -> Given {
     with_faults(prng, shot, faults)
 }
 
-/// One code becomes the turn of another. Both are of markers, or one of them or both are past the last marker.
+/// One code becomes the rotation of another. Both are of markers, or one of them or both are past the last marker.
 fn pair(prng: &mut Prng, shot: &mut Shot) {
     let more = prng.pick(&[0, 1, 2, 6]);
     let bits = shot.bits;
@@ -48,7 +49,7 @@ fn equal_codes(_: &mut Prng, shot: &mut Shot) {
     shot.codes.fill(first);
 }
 
-/// No bit, every bit, or one of the checkers. Small boards may have no two that are alike.
+/// No bit, every bit, or one of the checkers. Small boards may have no two that are equal up to rotation.
 fn codes_that_turns_keep(prng: &mut Prng, shot: &mut Shot) {
     let patterns = patterns(shot.bits);
     shot.codes = shot.codes.iter().map(|_| prng.pick(&patterns)).collect();
@@ -59,7 +60,7 @@ fn two_codes(prng: &mut Prng, shot: &mut Shot) {
     shot.codes = shot.codes.iter().map(|_| prng.pick(&two)).collect();
 }
 
-/// Of small sides some are alike by chance.
+/// Of small sides some are equal up to rotation by chance.
 fn any_codes(prng: &mut Prng, shot: &mut Shot) {
     let bits = shot.bits;
     shot.codes = prng.many(shot.codes.len(), |prng| random_code(prng, bits));

@@ -1,5 +1,5 @@
-//! Boards with many codes, of which question 8 is asked of all, up to 1,024, and 22 of those of markers, up to 512: one code may be
-//! too large, or two may be alike.
+//! Boards with many codes, all of which check 8 covers, up to 1,024, and 22 those of markers, up to 512: one code may be too
+//! large, or two may be equal up to rotation.
 
 use super::Given;
 use super::faults::with_faults;
@@ -11,7 +11,7 @@ use records::Shot;
 
 const MOST_CODES: usize = 1024;
 
-/// Half of the boards have as many markers as there may be. A quarter of the shots has one fault more, of any question.
+/// Half of the boards have as many markers as there may be. A quarter of the shots has one fault more, of any check.
 pub fn given(prng: &mut Prng, legacy: bool) -> Given {
     let any_size = prng.two(|prng| 2 + prng.below(31) as u8);
     let size = prng.pick(&[[32, 32], [32, 32], [2, 2], any_size]);

@@ -1,4 +1,4 @@
-//! Shots with telling numbers: weights, tables and settings.
+//! Shots with special numbers: weights, tables and settings.
 
 use super::scene::{Look, Scene};
 use crate::questions::{FORMULAS, match_shot};
@@ -100,7 +100,7 @@ pub fn odd_floats(prng: &mut Prng, legacy: bool) -> Shot {
     shot
 }
 
-/// The Rust answers for these.
+/// Upstream answers for these.
 pub fn table_by_formula(prng: &mut Prng, legacy: bool) -> Shot {
     let mut shot = any_settings(prng, legacy);
     shot.map |= settings::TABLE;
@@ -108,7 +108,7 @@ pub fn table_by_formula(prng: &mut Prng, legacy: bool) -> Shot {
     shot
 }
 
-/// Any table that question 10 lets pass. The rules answer for most of these.
+/// Any table that passes check 10. The rules answer for most of these.
 pub fn any_table(prng: &mut Prng, legacy: bool) -> Shot {
     let mut shot = any_settings(prng, legacy);
     shot.map |= settings::TABLE;
@@ -146,7 +146,7 @@ fn random_table(prng: &mut Prng) -> [f32; TABLE_LENGTH] {
     table
 }
 
-/// Odd entries that question 10 lets pass, and those that it refuses.
+/// Odd entries that pass check 10, and those that fail it.
 pub fn odd_entries() -> [Vec<f32>; 2] {
     let is_entry = |entry: &f32| (-8.0..=0.0).contains(entry);
     let (good, bad) = ODD_ENTRIES.into_iter().partition(is_entry);

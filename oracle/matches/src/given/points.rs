@@ -1,4 +1,4 @@
-//! The points of a shot's cells, by which no two are filed at one unless that is meant.
+//! The points of a shot's cells, of which no two are equal unless that is meant.
 
 use cases::corner_lists::rectangle;
 use records::{Cell, Shot};
@@ -7,7 +7,7 @@ pub fn is_free(shot: &Shot, [u, v]: [i16; 2]) -> bool {
     shot.cells.iter().all(|cell| [cell.u, cell.v] != [u, v])
 }
 
-/// Of the cells at one point the first stays.
+/// Of the cells at the same position the first stays.
 pub fn keep_first(shot: &mut Shot) {
     let all = std::mem::take(&mut shot.cells);
     for cell in all {

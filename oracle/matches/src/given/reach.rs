@@ -52,7 +52,7 @@ fn along_the_rim(prng: &mut Prng, legacy: bool) -> Shot {
     shot
 }
 
-/// As wide or as high as the board, or by one more; a board that is not square may take them in two turns only.
+/// As wide or as high as the board, or by one more; a board that is not square may take them in two rotations only.
 fn just_fitting(prng: &mut Prng, legacy: bool) -> Shot {
     let mut scene = any_board(prng, legacy);
     let [cols, rows] = [scene.cols, scene.rows].map(i32::from);

@@ -1,5 +1,5 @@
-//! Cells at one point (document 02, 2.3), which are refused by 23 though the Rust places them; and points that are nearly alike,
-//! which are not.
+//! Cells at the same position (document 02, 2.3), which are refused by 23 though upstream places them; and points that are
+//! nearly equal, which are not.
 
 use super::Given;
 use super::faults::with_faults;
@@ -14,7 +14,7 @@ const MOST_CELLS: usize = 256;
 
 type Change = fn(&mut Prng, &mut Shot);
 
-/// One cell filed once more comes up most.
+/// One repeated cell comes up most.
 const CHANGES: [Change; 9] = [
     side_by_side,
     side_by_side,
@@ -27,7 +27,7 @@ const CHANGES: [Change; 9] = [
     all_at_one_point,
 ];
 
-/// Half of the time with a minimum margin that no margin is below, a quarter of the time with one fault more, of any question.
+/// Half of the time with a minimum margin that no margin is below, a quarter of the time with one fault more, of any check.
 pub fn given(prng: &mut Prng, legacy: bool) -> Given {
     let mut shot;
     if prng.one_in(200) {

@@ -1,4 +1,4 @@
-//! A board of which some squares are seen, under a turn and a translation: the true placement of the shot made from it.
+//! A board of which some squares are seen, under a rotation and a translation: the true placement of the shot made from it.
 
 use crate::model::turned_point;
 use cases::cells::Cell as Grid;
@@ -27,7 +27,7 @@ pub struct Scene {
 #[derive(Clone, Copy, Debug)]
 pub enum Look {
     Clear,
-    /// Some bits in doubt, some cells unsampled or of random greys, fractions of any size.
+    /// Some bits in doubt, some cells unsampled or of random grey levels, fractions of any size.
     Noisy,
     Random,
 }
@@ -46,8 +46,8 @@ impl Scene {
         Self::of_board(prng, size, legacy).with_part_seen(prng)
     }
 
-    /// Nothing of it is seen yet. Most codes are of 2 to 5 bits a side, as far as the side has so many that no two markers are
-    /// alike; those past the last marker are any.
+    /// Nothing of it is seen yet. Most codes are of 2 to 5 bits a side, as far as the side has so many that no two markers
+    /// are equal up to rotation; those past the last marker are any.
     pub fn of_board(prng: &mut Prng, [rows, cols]: [u8; 2], legacy: bool) -> Self {
         let markers = markers_of(rows, cols);
         let mut sides = vec![1, 2, 2, 3, 3, 4, 4, 4, 5, 6, 7, 8];
@@ -88,7 +88,7 @@ impl Scene {
         self
     }
 
-    /// The cell from which the turn and the translation make the square.
+    /// The cell from which the rotation and the translation make the square.
     pub fn point(&self, [i, j]: [i32; 2]) -> [i16; 2] {
         let [tx, ty] = self.translation;
         let back = (4 - self.turn) % 4;

@@ -1,5 +1,5 @@
-//! Shots in which placements tie: grids or cells that are alike, markers that look the same when they are turned. No two markers
-//! are alike; codes past the last marker may be like any.
+//! Shots in which placements tie: equal grids or cells, markers that look the same when they are rotated. No two markers are
+//! equal up to rotation; codes past the last marker may be like any.
 
 use super::points::free_in_frame;
 use super::scene::{Look, Scene, markers_of};
@@ -11,7 +11,7 @@ use records::{Cell, Sample, Shot};
 
 type Change = fn(&mut Prng, &mut Shot);
 
-/// What makes placements alike.
+/// What makes placements equal.
 const CHANGES: [Change; 10] = [
     unused_codes,
     a_code_that_turns_keep,
@@ -25,7 +25,7 @@ const CHANGES: [Change; 10] = [
     any_margin,
 ];
 
-/// One change or two, half of the time with a minimum margin that lets a tie pass.
+/// One change or two, half of the time with a minimum margin that a tie passes.
 pub fn shot(prng: &mut Prng, legacy: bool) -> Shot {
     let mut shot = Scene::random(prng, legacy).any_shot(prng);
     for _ in 0..1 + prng.below(2) {
@@ -61,7 +61,7 @@ fn a_code_that_turns_keep(prng: &mut Prng, shot: &mut Shot) {
     }
 }
 
-/// Every cell shows a checker, no bit or every bit, so that turns of one marker tie.
+/// Every cell shows a checker, no bit or every bit, so that rotations of one marker tie.
 fn cells_that_turns_keep(prng: &mut Prng, shot: &mut Shot) {
     let [bits, border] = [shot.bits, shot.border];
     let code = prng.pick(&patterns(bits));
@@ -117,7 +117,7 @@ fn copied_cells(prng: &mut Prng, shot: &mut Shot) {
     }
 }
 
-/// Boards of 2 by 2, 2 by 3, 3 by 2 and 3 by 3 squares, on which most placements are alike.
+/// Boards of 2 by 2, 2 by 3, 3 by 2 and 3 by 3 squares, on which most placements are equal.
 pub fn tiny_board(prng: &mut Prng, legacy: bool) -> Shot {
     let size = prng.pick(&[[2, 2], [2, 3], [3, 2], [3, 3]]);
     let scene = Scene::of_board(prng, size, legacy).with_part_seen(prng);

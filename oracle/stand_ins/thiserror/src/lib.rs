@@ -1,6 +1,6 @@
 //! Stand-in for thiserror: a derive for enums that writes `Display`, `Error`, and `From` where a variant has `#[from]`.
 //!
-//! The texts in `#[error(..)]` are passed over: an error shows itself as `Debug` does, and no answer depends on it.
+//! The texts in `#[error(..)]` are ignored: an error shows itself as `Debug` does, and no answer depends on it.
 
 use proc_macro::{Delimiter, Group, TokenStream, TokenTree};
 

@@ -1,4 +1,4 @@
-//! The rules of document 01 for links, sentence by sentence, with their order. No function of the Rust takes part.
+//! The rules of document 01 for links, sentence by sentence, with their order. No function of upstream takes part.
 
 use super::{Violation, kind};
 use cases::link_entry::{LinkInput, four_of_square, marker_squares};
@@ -34,8 +34,8 @@ pub fn violations(input: &LinkInput) -> Vec<Violation> {
     all
 }
 
-/// Each repeated corner after its first, in link order; then, if all four are asked for, one entry of missing corners, if
-/// any is missing, in the order of the four.
+/// Each repeated corner after its first, in link order; then, if all four are required, one entry of missing corners, if any
+/// is missing, in the order of the four.
 fn of_marker(links: &[[u32; 2]], marker: u32, four: [u32; 4], all_four: bool) -> Vec<Violation> {
     let mut all = Vec::new();
     for (place, link) in links.iter().enumerate() {

@@ -1,4 +1,4 @@
-//! The violations on a legacy board with an even row count, as the Rust finds them on the board turned by a quarter.
+//! The violations on a legacy board with an even row count, as upstream finds them on the board rotated by 90°.
 
 use super::found_by_rust;
 use crate::turned_board::TurnedBoard;
@@ -6,7 +6,7 @@ use calib_targets_charuco::{LinkViolation, LinkViolationKind};
 use cases::boards::BoardArguments;
 use cases::link_entry::LinkInput;
 
-/// Of an input that passes the questions.
+/// Of an input that passes the checks.
 pub fn violations(input: &LinkInput) -> Vec<LinkViolation> {
     let BoardArguments { rows, cols, .. } = input.board;
     let ids = TurnedBoard::new(rows as u8, cols as u8);
@@ -35,7 +35,7 @@ fn carry_back(ids: &TurnedBoard, violation: &mut LinkViolation) {
     let corner = |id: u32| ids.corner_back(id);
     violation.marker_id = ids.marker_back(violation.marker_id);
     violation.reported_corner_id = violation.reported_corner_id.map(corner);
-    // What is top right on the turned board was top left.
+    // What is top right on the rotated board was top left.
     violation.expected =
         violation
             .expected

@@ -6,7 +6,7 @@ use std::cell::RefCell;
 
 #[derive(Clone, Debug)]
 pub struct CellSamples {
-    /// The greys row by row, `cells_per_side` to a row.
+    /// The grey levels row by row, `cells_per_side` to a row.
     pub mean_grid: Vec<u8>,
     pub otsu_threshold: u8,
     pub border_black_fraction: f32,
@@ -84,7 +84,7 @@ impl ScanDecodeConfig {
     }
 }
 
-/// Corners that are no image positions: they say which of the given cells it is.
+/// Corners that are no image positions: they are the index of the given cell.
 pub fn corners_of_place(place: usize) -> [Point2<f32>; 4] {
     [Point2::new(place as f32, 0.0); 4]
 }
@@ -93,7 +93,7 @@ pub const fn place_of_corners(corners: &[Point2<f32>; 4]) -> usize {
     corners[0].x as usize
 }
 
-/// There is no picture here: these are the samples given for the place that the cell's corners tell. They are moved, not
+/// There is no picture here: these are the samples given for the place that the cell's corners have. They are moved, not
 /// copied, so each cell can be sampled once.
 pub fn sample_cell(
     _image: &GrayImageView<'_>,

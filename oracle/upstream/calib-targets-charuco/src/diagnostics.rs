@@ -27,12 +27,12 @@ impl BoardMatchDiagnostics {
         Some(Self { matrix })
     }
 
-    /// Cell by cell, in each cell marker by marker, of each marker the four turns.
+    /// Cell by cell, in each cell marker by marker, of each marker the four rotations.
     pub fn all(&self) -> &[f32] {
         &self.matrix.scores
     }
 
-    /// Marker by marker, of each marker the four turns.
+    /// Marker by marker, of each marker the four rotations.
     pub fn of_cell(&self, cell: usize) -> &[f32] {
         let count = self.matrix.num_markers * 4;
         &self.matrix.scores[cell * count..][..count]
@@ -51,8 +51,8 @@ impl BoardMatchDiagnostics {
         self.matrix.evidence(cell, marker, turn)
     }
 
-    /// Makes the scores of this turn those of turn 0 and takes away all others: their placements are minus infinity, so that one
-    /// of turn 0 that comes before them is the best.
+    /// Makes the scores of this rotation those of rotation 0 and takes away all others: their placements are minus infinity,
+    /// so that one of rotation 0 that comes before them is the best.
     pub fn keep_as_turn_0(&mut self, turn: u8) {
         for of_marker in self.matrix.scores.chunks_exact_mut(4) {
             of_marker.swap(0, turn.into());
@@ -86,7 +86,7 @@ impl BoardMatchDiagnostics {
     }
 }
 
-/// The whole of `match_board_core`, with all that it tells its sink.
+/// The whole of `match_board_core`, with all that it reports to its sink.
 pub(crate) fn match_board_diag(
     board: &CharucoBoard,
     cells: &[MarkerCell],

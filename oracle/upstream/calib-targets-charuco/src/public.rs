@@ -56,7 +56,7 @@ pub enum Gate {
     NoMarkers,
 }
 
-/// What the matcher tells of its search.
+/// What the matcher reports of its search.
 #[derive(Clone, Copy, Debug)]
 pub struct Selected {
     pub best: DiagHypothesis,

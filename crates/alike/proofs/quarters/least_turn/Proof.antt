@@ -1,4 +1,4 @@
--- `alike::quarters::least_turn` meets its contract: each turn moves the quarters on. Assumes nothing.
+-- `alike::quarters::least_turn` meets its contract: each turn rotates the quarters by one. Assumes nothing.
 use mathlib.Core.Path.{_≡_, sym, ap, ap₂, subst, _∙_}
 use Prim.Native.Nat.{ℕ, _*_, _^_, _≤_, _<_, min}
 use native.Mathlib.Nat.{mul-le-mul}

@@ -1,4 +1,4 @@
--- `alike::quarters::sources` meets its contract. The loop's invariant: the list holds the sources of the first k bits. Assumes nothing.
+-- `alike::quarters::sources` meets its contract. The loop's invariant: the array holds the sources of the first k bits. Assumes nothing.
 use mathlib.Core.Path.{_≡_, refl, _∙_}
 use Prim.Native.Nat.{_-_, _≤_, _<_}
 use native.Mathlib.Omega.{arith}

@@ -1,4 +1,4 @@
--- `board::Board::parity` meets its contract: that of a marked board is its row count's. Assumes nothing.
+-- `board::Board::parity` meets its contract: that of a legacy board is its row count's. Assumes nothing.
 use mathlib.Core.Path.{_≡_, refl}
 use mathlib.Core.Bool.{cond}
 use Prim.Native.Nat.{ℕ, zero, suc, _%_, _<_}

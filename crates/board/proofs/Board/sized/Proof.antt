@@ -13,7 +13,7 @@ use Rattle.board.proofs.Asked.{InRange, in-range}
 use Rattle.board.proofs.Board.sized.Statement.{statement}
 use Rattle.board.proofs.Board.sized.Tie as tie
 
--- ---- the questions that were answered with yes
+-- ---- the questions that passed
 yes1 : (c : tie.Else1) → sizeAnswer (c .before .before .args .spec .rows) (c .before .before .args .spec .cols) ≡ true
 yes1 c = sym (c .before .size .ensures) ∙ not-false _ (c .if1 .left)
 
@@ -63,7 +63,7 @@ board-of-requires c κs = let r = ranged c in (r .rows, r .cols, r .bits, r .bor
 cast-available : tie.Need-cast-available
 cast-available c = omega (arith, ranged (c .before .before) .codes)
 
--- the board is the specification's, and so is its count of markers
+-- the board and its number of markers are the specification's
 module _ (c : tie.After-marker-count) where
   abbrev before7 : tie.Else6
   before7 = c .before .before
@@ -77,7 +77,7 @@ module _ (c : tie.After-marker-count) where
   needed : c .marker-count .result ≡ count
   needed = c .marker-count .ensures ∙ ap markerTotal (c .before .board-of .ensures)
 
--- ---- the answers
+-- ---- the results
 returns : tie.Need-returns
 unfolding askedOfSize
 returns c = rw (sym (c .before .size .ensures) ∙ not-true _ (c .if1 .taken))

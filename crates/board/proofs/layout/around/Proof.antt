@@ -20,7 +20,7 @@ returns-3 c = let x = c .before .before .before .args in sym (rim-right (x .rows
 returns-4 : tie.Need-returns-4
 returns-4 c = let x = c .before .before .before .before .args in sym (rim-bottom (x .rows) (x .cols) (x .i) (x .j) (omega (arith, c .if4 .taken)))
 
--- no number comes near the end of a word
+-- no number overflows
 small : (c : tie.Else4) → let x = c .before .before .before .before .args in
     (x .j - 1) * (x .cols - 1) + (x .i - 1) + (x .cols - 1) + 1 ≤ 65536 + 512
 small c =

@@ -19,7 +19,7 @@ unfolding clipped
 below n (pos k) h = absurd (omega (arith, ltb-true k 0 h))
 below n (negsuc k) h = refl
 
--- from 0 up a number is its size
+-- a nonnegative number is its absolute value
 from-zero : (x : ℤ) → SFits w32 x → ltZ x (pos 0) ≡ false → T (nonNeg x) × Fits w32 (natAbs x)
 from-zero (pos k) f h = (tt, record { fits = omega (arith, f .sfits) })
 from-zero (negsuc k) f h = let z : _≡_ {A = ℕ} 0 1 = cc in absurd (omega arith)

@@ -25,7 +25,7 @@ returns c = sym (unnumbered (holdsMarker _) _ _ _ _ (λ a b y. omega (arith, c .
 returns-2 : tie.Need-returns-2
 returns-2 c = sym (unnumbered (holdsMarker _) _ _ _ _ (λ a b y. omega (arith, c .if2 .taken)))
 
--- a square of the board, by the answer to whether it holds a marker
+-- a square of the board, by whether it has a marker
 on : (c : tie.After-holds-marker) (t : Bool) → c .holds-marker .result ≡ t
     → numberAt (holdsMarker (start c .args .parity)) (start c .args .cols) (start c .args .rows) (start c .args .i) (start c .args .j) ≡ numberIf t (half c)
 on c t e =

@@ -1,4 +1,4 @@
--- `board::questions::codes` meets its contract. The loop's invariant: the answer for the codes from k on is the answer for all.
+-- `board::questions::codes` meets its contract. The loop's invariant: the result for the codes from k on is the result for all.
 -- Assumes nothing.
 use mathlib.Core.Path.{_≡_, refl, sym, ap, _∙_}
 use mathlib.Core.Bool.{Bool, true, false, _&&_}

@@ -6,7 +6,7 @@ use Rattle.board.specs.Questions.{markerSizeAnswer}
 use Rattle.board.proofs.questions.marker_size_rel.Statement.{statement}
 use Rattle.board.proofs.questions.marker_size_rel.Tie as tie
 
--- by the first answer
+-- by the first result
 first : (c : tie.After-cell-size) (b : Bool) → c .cell-size .result ≡ b
     → (b && le (c .before .args .x) (ofBits binary32 0x3F800000)) ≡ markerSizeAnswer (c .before .args .x)
 first c b e = ap (λ (a : Bool). a && le (c .before .args .x) (ofBits binary32 0x3F800000)) (sym e ∙ c .cell-size .ensures)

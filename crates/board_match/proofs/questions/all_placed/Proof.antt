@@ -33,11 +33,11 @@ u-requires c κs = omega (arith, c .loop-test .taken, c .before .before .pre)
 v-requires : tie.Need-v-requires Inv-loop μ-loop
 v-requires c κs = let i = c .before in omega (arith, i .loop-test .taken, i .before .before .pre)
 
--- a coordinate goes through its bits
+-- a coordinate is read back from its bit pattern
 read : (z x : ℤ) → mag z < 2 ^ 15 → z ≡ x → half z ≡ x
 read z x h e = toZ-ofZ w16 z (record { sfits = h }) ∙ e
 
--- the answer for cell k
+-- the result for cell k
 module _ (c : tie.After-point Inv-loop μ-loop) where
   abbrev l : tie.At-loop Inv-loop μ-loop
   l = c .before .before .before .before

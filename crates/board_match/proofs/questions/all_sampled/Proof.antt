@@ -24,7 +24,7 @@ loop-holds c = (omega arith, none-tested (test c))
 border-requires : tie.Need-border-requires Inv-loop μ-loop
 border-requires c κs = omega (arith, c .loop-test .taken, c .before .before .pre)
 
--- the answer for cell k
+-- the result for cell k
 module _ (c : tie.After-sample Inv-loop μ-loop) where
   abbrev l : tie.At-loop Inv-loop μ-loop
   l = c .before .before .before

@@ -1,4 +1,4 @@
--- `board_match::questions::fraction` meets its contract: its bounds are 0 and 1, by their bits. Assumes nothing.
+-- `board_match::questions::fraction` meets its contract: its bounds are 0 and 1, as bit patterns. Assumes nothing.
 use mathlib.Core.Path.{_≡_, refl, sym, ap, _∙_}
 use mathlib.Core.Bool.{Bool, _&&_}
 use lib.Ieee.{Float, binary32, ofBits, ofFields, odd, le}
@@ -15,7 +15,7 @@ one-is : ofBits binary32 0x3F800000 ≡ unity
 unfolding ofBits ofFields odd
 one-is = refl
 
--- by the outcome of the first test
+-- by cases of the first test
 first : (x : Float) (b : Bool) → le (ofBits binary32 0) x ≡ b → (b && le x (ofBits binary32 0x3F800000)) ≡ fractionAnswer x
 first x b e =
     ap (λ (a : Bool). a && le x (ofBits binary32 0x3F800000)) (sym e ∙ ap (λ (y : Float). le y x) zero-is)

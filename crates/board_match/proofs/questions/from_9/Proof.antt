@@ -1,4 +1,4 @@
--- `board_match::questions::from_9` meets its contract: the questions in order, each yes leaving the rest. Assumes nothing.
+-- `board_match::questions::from_9` meets its contract: the questions in order, the rest after each that passes. Assumes nothing.
 use mathlib.Core.Path.{_≡_, sym, ap, _∙_}
 use mathlib.Core.Bool.{Bool, true, false, _&&_}
 use Prim.Native.Nat.{ℕ, _*_}

@@ -8,7 +8,7 @@ use Rattle.integers.specs.Distance.{isWithin}
 use Rattle.board_match.proofs.questions.point.Statement.{statement}
 use Rattle.board_match.proofs.questions.point.Tie as tie
 
--- by the first answer
+-- by cases of the first result
 first-no : (a b : Bool) → a ≡ false → false ≡ (a && b)
 first-no a b e = sym (ap (λ (x : Bool). x && b) e)
 

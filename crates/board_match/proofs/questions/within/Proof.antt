@@ -1,4 +1,4 @@
--- `board_match::questions::within` meets its contract: the tests on the bits are the tests on the number. Assumes nothing.
+-- `board_match::questions::within` meets its contract: comparing the bit patterns compares the numbers. Assumes nothing.
 use mathlib.Core.Path.{_≡_, sym, ap, _∙_}
 use mathlib.Core.Bool.{Bool, _&&_}
 use lib.IntN.{ℤ, pos, negsuc}
@@ -10,7 +10,7 @@ use Rattle.integers.specs.Distance.{isWithin}
 use Rattle.board_match.proofs.questions.within.Statement.{statement}
 use Rattle.board_match.proofs.questions.within.Tie as tie
 
--- by the outcome of the first test on the bits
+-- by cases of the first test on the bit pattern
 first : (z y : ℤ) (b : Bool) → y ≡ z → leZ (negsuc 4095) y ≡ b → isWithin 4096 z ≡ (b && leZ z (pos 4096))
 first z y b e t = ap (λ (d : Bool). d && leZ z (pos 4096)) (sym (ap (leZ (negsuc 4095)) e) ∙ t)
 

@@ -1,4 +1,4 @@
--- `charuco::values::value_count` meets its contract: by its two tests. Assumes nothing.
+-- `charuco::values::value_count` meets its contract: by cases of its two tests. Assumes nothing.
 use mathlib.Core.Path.{_≡_, refl, sym, ap₂}
 use mathlib.Core.Bool.{Bool, cond}
 use Prim.Native.Nat.{ℕ}
@@ -8,7 +8,7 @@ use Rattle.charuco.specs.Answers.{valueCount}
 use Rattle.charuco.proofs.values.value_count.Statement.{statement}
 use Rattle.charuco.proofs.values.value_count.Tie as tie
 
--- as the tests come out
+-- by cases of the tests
 counted : (n : ℕ) {a b : Bool} → eqb n 7 ≡ a → eqb n 16 ≡ b → cond a 2 (cond b 1 0) ≡ valueCount n
 counted n ea eb = sym (ap₂ (λ (x y : Bool). cond x 2 (cond y 1 0)) ea eb)
 

@@ -16,7 +16,7 @@ use Rattle.corner_mapping.proofs.Choices.{stored-below, chosen-same, ch
 use Rattle.corner_mapping.proofs.choice.choose_next.Statement.{statement}
 use Rattle.corner_mapping.proofs.choice.choose_next.Tie as tie
 
--- what is asked of the calls
+-- the preconditions of the calls
 module _ (x : Input) (r : InputInRange x) (k : ℕ) (l : k < length (x .scores)) where
   near : NearCorner (x .grid) k
   near e = both-within 4096 (corners (x .scores) (x .grid)) (length (x .scores)) k l (r .all-placed) e

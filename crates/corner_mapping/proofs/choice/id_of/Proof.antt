@@ -1,4 +1,4 @@
--- `corner_mapping::choice::id_of` meets its contract: the words of the grid point are read as they stand, as they lie in range. Assumes nothing.
+-- `corner_mapping::choice::id_of` meets its contract: the words of the grid point are in range, so casts keep them. Assumes nothing.
 use mathlib.Core.Path.{_≡_, sym, ap, ap₂, subst, _∙_}
 use mathlib.Core.Bool.{true}
 use mathlib.Core.List.{List}

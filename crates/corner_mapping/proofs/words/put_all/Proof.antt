@@ -1,4 +1,4 @@
--- `corner_mapping::words::put_all` meets its contract. The loop's invariant: the results of the ids so far are put. Assumes nothing.
+-- `corner_mapping::words::put_all` meets its contract. The loop's invariant: the results of the ids so far are written. Assumes nothing.
 use mathlib.Core.Path.{_≡_, subst}
 use mathlib.Core.List.{List}
 use Prim.Native.Nat.{ℕ, _+_, _-_, _≤_, _<_}

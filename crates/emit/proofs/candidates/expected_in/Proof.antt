@@ -1,4 +1,4 @@
--- `emit::candidates::expected_in` meets its contract: by what the index has of the cell, and by the marker on its square. Assumes nothing.
+-- `emit::candidates::expected_in` meets its contract: from the cell's entry in the index and the marker on its square. Assumes nothing.
 use mathlib.Core.Path.{_≡_, refl, sym, ap, ap₂, _∙_}
 use mathlib.Core.List.{List}
 use Prim.Native.Nat.{ℕ, _<_}

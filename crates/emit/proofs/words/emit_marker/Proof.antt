@@ -1,4 +1,4 @@
--- `emit::words::emit_marker` meets its contract: by its two tests. Assumes nothing.
+-- `emit::words::emit_marker` meets its contract: by cases of its two tests. Assumes nothing.
 use mathlib.Core.Path.{_≡_, sym, ap, ap₂, _∙_}
 use mathlib.Core.Bool.{Bool, true, false, _&&_, cond, and-false}
 use mathlib.Core.List.{List, [], _∷_, flatMap, append-nil}
@@ -18,7 +18,7 @@ use Rattle.emit.specs.Candidates.{markerFrom, emittedFrom}
 use Rattle.emit.proofs.words.emit_marker.Statement.{statement}
 use Rattle.emit.proofs.words.emit_marker.Tie as tie
 
--- the words of what is emitted, by the two tests
+-- the words of what is emitted, by cases of the two tests
 abbrev told-by : Bool → Bool → Marker → List ℕ
 told-by a b m = flatMap markerWords (cond (a && b) (m ∷ []) [])
 
@@ -70,7 +70,7 @@ returns-2 c =
     put-as (no-words (heavy s) (evident s) (marker s) (ap (λ (t : Bool). heavy s && t) e ∙ and-false (heavy s)))
     (nothing-put (s .args .markers .now) (s .args .at))
 
--- behind both tests
+-- after both tests
 module _ (c : tie.Else2) where
   abbrev first : tie.Start
   first = start (c .before)

@@ -1,4 +1,4 @@
--- `emit::words::marker_words` meets its contract: word by word, from what each call gives. Assumes nothing.
+-- `emit::words::marker_words` meets its contract: word by word, from what each call returns. Assumes nothing.
 use mathlib.Core.Path.{_≡_, ap, ap₂, _∙_}
 use mathlib.Core.List.{List, [], _∷_}
 use Prim.Native.Nat.{ℕ, _/_, _%_, _^_}

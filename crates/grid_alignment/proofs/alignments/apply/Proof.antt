@@ -1,4 +1,4 @@
--- `grid_alignment::alignments::apply` meets its contract: a turned point is as small as the point, so the sums fit.
+-- `grid_alignment::alignments::apply` meets its contract: a turn keeps the bound on the coordinates, so the sums fit.
 -- Assumes nothing.
 use mathlib.Core.Path.{_≡_, refl, ap₂, _∙_}
 use Prim.Native.Nat.{_^_, _≤_}

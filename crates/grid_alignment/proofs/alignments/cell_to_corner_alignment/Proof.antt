@@ -1,5 +1,5 @@
--- `grid_alignment::alignments::cell_to_corner_alignment` meets its contract: the minima of the entries are the least point of
--- the turned unit square, and it is small. Assumes nothing.
+-- `grid_alignment::alignments::cell_to_corner_alignment` meets its contract: the minima of the entries are the minimum corner of
+-- the turned unit square, which is small. Assumes nothing.
 use mathlib.Core.Path.{_≡_, refl, ap, _∙_}
 use Prim.Native.Nat.{_^_, _≤_}
 use native.Mathlib.Omega.{arith}

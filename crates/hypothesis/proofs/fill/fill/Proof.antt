@@ -45,7 +45,6 @@ module _ (c : tie.Start Inv-loop μ-loop) where
   all : t .inputs .fields .«cell_count» ≡ cellTotal (shot bytes)
   all = ready-count bytes (t .inputs) index ready
 
--- in the loop
 module _ (c : tie.In-loop Inv-loop μ-loop) where
   abbrev start : tie.Start Inv-loop μ-loop
   start = c .before .before .before .before
@@ -62,7 +61,7 @@ counted-requires c κs =
     let near = near-point (bytes x) (t x .inputs) (index x) (ready x) (k c) (inside c) in
     (near .0, near .1, turning x .near .0, turning x .near .1, few (bytes x) (t x .inputs) (index x) (ready x) (k c) (inside c))
 
--- the cell as the sums take it
+-- the cell as input of the sums
 module _ (c : tie.After-counted Inv-loop μ-loop) where
   abbrev l : tie.In-loop Inv-loop μ-loop
   l = c .before

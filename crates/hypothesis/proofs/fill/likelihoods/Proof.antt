@@ -53,7 +53,7 @@ threshold-requires c κs =
     let x = start e in
     few (bytes e) (x .args .inputs) (x .args .index .now) (ready e) (k e) (x .pre .2)
 
--- what is looked up of the cell is its sample
+-- the looked-up fields are the cell's sample
 module _ (c : tie.After-threshold) where
   abbrev e : tie.Else1
   e = c .before .before .before

@@ -1,4 +1,4 @@
--- `hypothesis::fill::with_counted` meets its contract: of two squares side by side one holds a marker. Assumes nothing.
+-- `hypothesis::fill::with_counted` meets its contract: of two adjacent squares one holds a marker. Assumes nothing.
 use mathlib.Core.Path.{_≡_, sym, ap, ap₂, _∙_}
 use mathlib.Core.Bool.{Bool, true, false, not}
 use Prim.Native.Nat.{ℕ, _+_}

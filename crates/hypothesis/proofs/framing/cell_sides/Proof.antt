@@ -37,7 +37,7 @@ module _ (c : tie.Start Inv-loop μ-loop) where
   v-at : (k : ℕ) → k < cellTotal s → vIn (c .args .index .now) k ≡ vs s k
   v-at = v-is (c .args .bytes .now) (c .args .inputs) (c .args .index .now) (c .pre)
 
--- a coordinate that was looked up is the cell's
+-- a looked-up coordinate is the cell's
 looked-up : (z x : ℤ) → mag z < 2 ^ 15 → z ≡ x → half z ≡ x
 looked-up z x h e = toZ-ofZ w16 z (record { sfits = h }) ∙ e
 
@@ -51,7 +51,6 @@ loop-holds c =
       first-extremes (vs (s x)) (half (v .result)) (looked-up (v .result) _ (v .ok) (v .ensures ∙ v-at x 0 (x .pre .passed .some-cell))),
     )
 
--- in the loop
 module _ (c : tie.In-loop Inv-loop μ-loop) where
   abbrev start : tie.Start Inv-loop μ-loop
   start = c .before .before .before .before .before

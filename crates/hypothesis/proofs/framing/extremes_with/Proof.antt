@@ -1,4 +1,4 @@
--- `hypothesis::framing::extremes_with` meets its contract: the tests on the bits are the tests on the numbers. Assumes nothing.
+-- `hypothesis::framing::extremes_with` meets its contract: comparing the bit patterns compares the numbers. Assumes nothing.
 use mathlib.Core.Path.{_≡_, refl, ap, _∙_}
 use mathlib.Core.Bool.{true, false}
 use mathlib.Core.Logic.{⊎-elim}

@@ -1,4 +1,4 @@
--- `hypothesis::framing::frame` meets its contract: a turn makes no coordinate larger, so the distances are small. Assumes nothing.
+-- `hypothesis::framing::frame` meets its contract: a rotation makes no coordinate larger, so the distances are small. Assumes nothing.
 use mathlib.Core.Path.{_≡_, ap, ap₂, _∙_}
 use Prim.Native.Nat.{ℕ, _+_, _^_, _≤_, _<_}
 use native.Mathlib.Omega.{arith}
@@ -17,7 +17,7 @@ use Rattle.hypothesis.specs.Extremes.{frameBetween}
 use Rattle.hypothesis.proofs.framing.frame.Statement.{statement}
 use Rattle.hypothesis.proofs.framing.frame.Tie as tie
 
--- p is a turned corner, read back from the words that hold it
+-- p is a rotated corner, read back from its words
 record Corner (p q : Coord) : Type 0 where
   u : word (p .u) ≡ q .u
   v : word (p .v) ≡ q .v
@@ -35,7 +35,7 @@ corner r x y p fx fy e =
     let v : word (p .v) ≡ q .v = word-is (q .v) (ap (λ (z : Coord). z .v) is) (omega (arith, small .1)) in
     record { u = u; v = v; near-u = rw u (small .0); near-v = rw v (small .1) }
 
--- the distance of two of them, and one more
+-- the distance of two of them, plus one
 fits : (x y : ℤ) (n : ℕ) → natAbs x ≤ 2 ^ 15 → natAbs y ≤ 2 ^ 15 → n ≡ natAbs (x -ℤ y) → Fits w64 (n + 1)
 fits x y n h k e = record { fits = omega (arith, abs-sub x y) }
 

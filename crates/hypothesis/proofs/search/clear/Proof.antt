@@ -1,4 +1,4 @@
--- `hypothesis::search::clear` meets its contract. The loop's invariant: the first k sums are nought. Assumes nothing.
+-- `hypothesis::search::clear` meets its contract. The loop's invariant: the first k sums are 0. Assumes nothing.
 use mathlib.Core.Path.{refl}
 use Prim.Native.Nat.{ℕ, _-_, _≤_, _<_}
 use native.Mathlib.Omega.{arith}

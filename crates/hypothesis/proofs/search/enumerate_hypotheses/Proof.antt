@@ -14,7 +14,7 @@ use Rattle.hypothesis.proofs.Best.{BestPlaced, best-placed}
 use Rattle.hypothesis.proofs.search.enumerate_hypotheses.Statement.{statement}
 use Rattle.hypothesis.proofs.search.enumerate_hypotheses.Tie as tie
 
--- the ranking that was found, of a shot that passed
+-- the ranking of a shot that passed
 module _ (c : tie.After-search) where
   abbrev start : tie.Start
   start = c .before .before

@@ -1,5 +1,5 @@
--- `hypothesis::search::search_turn` meets its contract: a turn whose frame does not fit the board has no placement, and of the others the sums
--- give the evidence. Assumes nothing.
+-- `hypothesis::search::search_turn` meets its contract: a turn whose frame does not fit on the board has no placement; for the others the sums are
+-- the evidence. Assumes nothing.
 use mathlib.Core.Path.{_≡_, refl, sym, ap, subst, _∙_}
 use Prim.Native.Nat.{ℕ, _*_, _≤_, _<_}
 use native.Mathlib.Nat.{mul-zero, zero-mul, mul-le-mul}

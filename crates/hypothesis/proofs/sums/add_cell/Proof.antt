@@ -18,7 +18,6 @@ Inv-loop sums₀ cell across down likelihoods sources codes at₀ sums at = OnMa
 abbrev μ-loop : tie.MeasureT-loop
 μ-loop sums₀ cell across down likelihoods sources codes at₀ sums at = 63 * across - order at
 
--- the scores of the cell
 abbrev scores : (c : tie.Start Inv-loop μ-loop) → ℕ → Float
 scores c = let x = c .args in codeScore (x .cell .board .bits) (x .likelihoods .now) (x .sources .now) (x .codes .now)
 

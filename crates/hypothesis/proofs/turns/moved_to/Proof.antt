@@ -18,7 +18,7 @@ with r x y e n = record { alignment = record { turn = r; tx = x; ty = y }; evide
 same : (r : ℕ) (x y p q : ℤ) (e f : Evidence) (m n : ℕ) → x ≡ p → y ≡ q → e ≡ f → m ≡ n → with r x y e m ≡ with r p q f n
 same r x y p q e f m n a b c d = cc
 
--- a translation, read back from the word that holds it, by the word that holds the least coordinate
+-- a translation is read back from its word, where the least coordinate is read from one
 reads : (n : ℕ) (least x : ℤ) → n < 32 → natAbs least ≤ 8192 → x ≡ pos n -ℤ word least → word x ≡ pos n -ℤ least
 reads n least x h k e =
     word-is (pos n -ℤ least) (e ∙ ap (λ (z : ℤ). pos n -ℤ z) (word-is least refl (omega (arith, k)))) (omega (arith, h, k, abs-sub (pos n) least))

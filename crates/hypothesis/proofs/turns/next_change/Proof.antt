@@ -1,4 +1,4 @@
--- `hypothesis::turns::next_change` meets its contract. The loop's invariant: it passes over the placements before row `b`. Assumes nothing.
+-- `hypothesis::turns::next_change` meets its contract. The loop's invariant: the placements before row `b` change nothing. Assumes nothing.
 use mathlib.Core.Path.{sym, _∙_}
 use Prim.Native.Nat.{_+_, _-_, _<_}
 use native.Mathlib.Omega.{arith}

@@ -1,5 +1,5 @@
--- `hypothesis::turns::rank_column` meets its contract. The loop's invariant: `held` has best and runner-up of the ranking after the placements
--- above row `b`. Assumes nothing.
+-- `hypothesis::turns::rank_column` meets its contract. The loop's invariant: `held` has best and runner-up of the ranking of the placements above row
+-- `b`. Assumes nothing.
 use mathlib.Core.Path.{ap, subst}
 use Prim.Native.Nat.{ℕ, _+_, _-_, _≤_, _<_}
 use native.Mathlib.Nat.{le-antisymm}
@@ -32,7 +32,6 @@ loop-holds c =
     let k = s .args .ranking in
     (e .1, omega arith, e .2 k (s .args .frame) (s .args .turn) (held-none k (row s)))
 
--- in the loop
 module _ (c : tie.In-loop Inv-loop μ-loop) where
   abbrev start : tie.Start Inv-loop μ-loop
   start = c .before .before .before

@@ -18,7 +18,7 @@ Inv-loop sums contributing frame turn across down held₀ a₀ held a = (a ≤ a
 abbrev μ-loop : tie.MeasureT-loop
 μ-loop sums contributing frame turn across down held₀ a₀ held a = across - a
 
--- the placements of the turn, by their move and in order
+-- the placements of the turn, from their moves and in order
 module _ (c : tie.Start Inv-loop μ-loop) where
   abbrev by-move : ℕ → ℕ → Hypothesis
   by-move = let x = c .args in movedTo (x .sums .now) (x .contributing) (x .frame) (x .turn) (x .down)
@@ -29,7 +29,6 @@ module _ (c : tie.Start Inv-loop μ-loop) where
 loop-holds : tie.Need-loop-holds Inv-loop μ-loop
 loop-holds c = (omega arith, ranked-none (c .args .ranking) (in-order c) ∙ ap (rankedTo (c .args .ranking) (in-order c)) (omega arith))
 
--- in the loop
 module _ (c : tie.In-loop Inv-loop μ-loop) where
   abbrev start : tie.Start Inv-loop μ-loop
   start = c .before .before

@@ -1,4 +1,4 @@
--- `link_check::chains::found_before` meets its contract. The loop's invariant: no link before j is one that is looked for, and j has
+-- `link_check::chains::found_before` meets its contract. The loop's invariant: no link before j has the marker and the corner, and j has
 -- their key. Assumes nothing.
 use mathlib.Core.Path.{sym, subst, _∙_}
 use mathlib.Core.Bool.{Bool}
@@ -18,7 +18,7 @@ abbrev μ-loop : tie.MeasureT-loop
 μ-loop links n weight chain marker corner end j₀ j = end - j
 
 module _ (s : tie.Start Inv-loop μ-loop) where
-  -- a walk along the chain, as far as the function's arguments say
+  -- the chain followed, for the function's arguments
   abbrev Walk : ℕ → ℕ → Type 0
   Walk i j = Walked (s .args .weight) (s .args .links .now) (s .args .n) (s .args .marker) (s .args .corner) i j
 

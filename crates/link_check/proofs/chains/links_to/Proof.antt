@@ -1,5 +1,5 @@
--- `link_check::chains::links_to` meets its contract: corners are compared where the marker is the same and the weight is not 0. Assumes
--- nothing.
+-- `link_check::chains::links_to` meets its contract: corners are compared if the marker is the same and the weight is not 0.
+-- Assumes nothing.
 use mathlib.Core.Path.{_≡_, refl, sym, ap, _∙_}
 use mathlib.Core.Bool.{Bool, true, false, _&&_}
 use mathlib.Core.List.{List}
@@ -12,7 +12,7 @@ use Rattle.link_check.specs.Chains.{linksTo}
 use Rattle.link_check.proofs.chains.links_to.Statement.{statement}
 use Rattle.link_check.proofs.chains.links_to.Tie as tie
 
--- a is the marker that was read
+-- a is the marker of link j
 module _ (links : List ℕ) (m c j a : ℕ) (read : a ≡ linkMarker links j) where
   other : (w : ℕ) → (a ≡ m → ⊥) → false ≡ linksTo w links m c j
   other w d = by w (ne-eqb (linkMarker links j) m (λ q. d (read ∙ q)))

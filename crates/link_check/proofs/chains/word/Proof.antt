@@ -1,4 +1,4 @@
--- `link_check::chains::word` meets its contract: past the list stands the default. Assumes nothing.
+-- `link_check::chains::word` meets its contract: past the end the result is the default. Assumes nothing.
 use mathlib.Core.Path.{sym}
 use lib.ListN.{List·getD-eq-default}
 use borrow.Author.Needs.{needs}

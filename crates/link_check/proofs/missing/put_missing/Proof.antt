@@ -26,7 +26,7 @@ module _ (m : ℕ) (four : List ℕ) where
   some-missing [] asked e d = absurd (d refl)
   some-missing (c ∷ cs) asked e d = rw e
 
--- where all four are asked for
+-- if the mode requires all four
 module _ (c : tie.After-missing-from) where
   abbrev start : tie.Start
   start = c .before .before .before .before .before

@@ -1,5 +1,5 @@
--- `link_check::passes::put_marker_entries` meets its contract. The loop's invariant: the entries of the markers that the first k links
--- name are written. Assumes nothing.
+-- `link_check::passes::put_marker_entries` meets its contract. The loop's invariant: the violations of the markers of the first k links
+-- are written. Assumes nothing.
 use mathlib.Core.Path.{_≡_, subst}
 use mathlib.Core.List.{List}
 use Prim.Native.Nat.{ℕ, _-_, _≤_, _<_}

@@ -39,7 +39,7 @@ returns c =
     let s = c .before .before .before .before in
     none s (rw (sym (c .before .is-first .ensures) ∙ not-true _ (c .if1 .taken)))
 
--- the entries where the link is the first of its marker
+-- the violations if the link is the first of its marker
 module _ (c : tie.After-expectation) where
   abbrev start : tie.Start
   start = c .before .before .before .before .before .before

@@ -1,4 +1,4 @@
--- `link_check::passes::put_own_entries` meets its contract. The loop's invariant: the own entries of the first k links are written.
+-- `link_check::passes::put_own_entries` meets its contract. The loop's invariant: the own violations of the first k links are written.
 -- Assumes nothing.
 use mathlib.Core.Path.{_≡_, ap₂, subst}
 use mathlib.Core.List.{List}

@@ -30,7 +30,7 @@ returns-2 c =
     let x = r .before .before .before .before .before .before .args in
     rw (sym (r .is-repeated .ensures) ∙ not-true _ (c .if2 .taken), and-false) (nothing-put (x .violations .now) (x .at))
 
--- behind both tests
+-- after both tests
 module _ (c : tie.After-corner-of) where
   abbrev start : tie.Start
   start = c .before .before .before .before .before .before .before .before

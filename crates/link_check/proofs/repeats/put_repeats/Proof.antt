@@ -1,4 +1,4 @@
--- `link_check::repeats::put_repeats` meets its contract. The loop's invariant: the entries of the links before k are written, and k has
+-- `link_check::repeats::put_repeats` meets its contract. The loop's invariant: the violations of the links before k are written, and k has
 -- the marker's key. Assumes nothing.
 use mathlib.Core.Path.{_≡_, sym, subst}
 use mathlib.Core.List.{List}

@@ -1,4 +1,4 @@
--- `link_check::words::put_violation` meets its contract: its words are put. Assumes nothing.
+-- `link_check::words::put_violation` meets its contract: its words are written. Assumes nothing.
 use mathlib.Core.Path.{ap}
 use Prim.Native.Nat.{ℕ}
 use borrow.Author.Needs.{needs}

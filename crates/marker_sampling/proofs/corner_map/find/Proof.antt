@@ -1,4 +1,4 @@
--- `marker_sampling::corner_map::find` meets its contract: no inlier stands past the range. Assumes nothing.
+-- `marker_sampling::corner_map::find` meets its contract: no inlier is out of range. Assumes nothing.
 use mathlib.Core.Path.{sym, ap}
 use native.Mathlib.Omega.{arith}
 use borrow.Author.Needs.{needs}

@@ -1,4 +1,4 @@
--- `marker_sampling::corner_map::key_of` meets its contract: an index that is passed over stands nowhere, and another at its key.
+-- `marker_sampling::corner_map::key_of` meets its contract: a skipped index is at no point, and any other at that of its key.
 -- Assumes nothing.
 use mathlib.Core.Path.{_≡_, sym, ap, _∙_}
 use mathlib.Core.Bool.{Bool, true, false}

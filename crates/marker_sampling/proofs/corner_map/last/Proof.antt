@@ -1,4 +1,4 @@
--- `marker_sampling::corner_map::last` meets its contract: the words with the key stand between the two places that are found, and the last
+-- `marker_sampling::corner_map::last` meets its contract: the words with the key are between the two indices found, and the last
 -- of them is the last inlier's. Assumes nothing.
 use mathlib.Core.Path.{sym, ap, _∙_}
 use mathlib.Core.List.{List}

@@ -1,4 +1,4 @@
--- `marker_sampling::corner_map::next` meets its contract: the word behind those below a key has the next key. Assumes nothing.
+-- `marker_sampling::corner_map::next` meets its contract: the word after those below a key has the next key. Assumes nothing.
 use borrow.Author.Needs.{needs}
 use Rattle.marker_sampling.proofs.Searched.{next-key, no-key}
 use Rattle.marker_sampling.proofs.corner_map.next.Statement.{statement}

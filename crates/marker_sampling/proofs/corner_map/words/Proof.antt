@@ -1,4 +1,4 @@
--- `marker_sampling::corner_map::words` meets its contract. The loop's invariant: the words of the first i inliers stand in their order.
+-- `marker_sampling::corner_map::words` meets its contract. The loop's invariant: the words of the first i inliers are in input order.
 -- Assumes nothing.
 use mathlib.Core.Path.{_≡_, refl, _∙_}
 use Prim.Native.Nat.{ℕ, _+_, _-_, _*_, _^_, _≤_, _<_}

@@ -1,4 +1,4 @@
--- `marker_sampling::questions::all_finite` meets its contract. The loop's invariant: the answer for the scores from k on is the answer
+-- `marker_sampling::questions::all_finite` meets its contract. The loop's invariant: the result for the scores from k on is the result
 -- for all. Assumes nothing.
 use mathlib.Core.Path.{_≡_, refl, sym, ap, _∙_}
 use mathlib.Core.Bool.{Bool, true, false, _&&_}
@@ -21,7 +21,7 @@ Inv-loop scores k₀ k = (k ≤ length scores) × (finiteScores (drop k scores) 
 abbrev μ-loop : tie.MeasureT-loop
 μ-loop scores k₀ k = length scores - k
 
--- the answer at one score
+-- the result at one score
 here : (scores : List Float) (k : ℕ) (b : Bool) → k < length scores → finite (getD scores k nan) ≡ b
     → finiteScores (drop k scores) ≡ (b && finiteScores (drop (k + 1) scores))
 here scores k b l e = rw (drop-cons scores k nan l, add-one, e)

@@ -1,4 +1,4 @@
--- `marker_sampling::questions::all_placed` meets its contract. The loop's invariant: the first k corners lie in range. Assumes nothing.
+-- `marker_sampling::questions::all_placed` meets its contract. The loop's invariant: the first k corners are in range. Assumes nothing.
 use mathlib.Core.Path.{_≡_, sym}
 use mathlib.Core.Bool.{Bool, true}
 use Prim.Native.Nat.{ℕ, _-_, _≤_}

@@ -1,4 +1,4 @@
--- `marker_sampling::questions::placed` meets its contract: each test settles the answer or leaves the next. Assumes nothing.
+-- `marker_sampling::questions::placed` meets its contract: each test decides the result or leaves it to the next. Assumes nothing.
 use mathlib.Core.Path.{_≡_, sym, ap, ap₂, _∙_}
 use mathlib.Core.Bool.{Bool, true, not, _&&_, _||_}
 use borrow.Author.Needs.{needs}

@@ -15,7 +15,7 @@ use Rattle.integers.specs.Distance.{isWithin}
 use Rattle.marker_sampling.proofs.questions.within.Statement.{statement}
 use Rattle.marker_sampling.proofs.questions.within.Tie as tie
 
--- the limit and its negative are read back
+-- the limit and its negative are decoded from their words
 module _ (m : ℕ) (h : m < 65536) where
   most : word (pos m) ≡ pos m
   most = word-is (pos m) refl (omega arith)

@@ -1,4 +1,4 @@
--- `marker_sampling::questions::word` meets its contract: past the list stands the default. Assumes nothing.
+-- `marker_sampling::questions::word` meets its contract: past the end the result is the default. Assumes nothing.
 use mathlib.Core.Path.{sym}
 use lib.ListN.{List·getD-eq-default}
 use lib.IntN.{pos}

@@ -1,4 +1,4 @@
--- `marker_sampling::walk::cell_at` meets its contract: the corners of the point at a key are the points a column and a row on.
+-- `marker_sampling::walk::cell_at` meets its contract: the corners of the point at a key are one column and one row further.
 -- Assumes nothing.
 use mathlib.Core.Path.{_≡_, sym, ap, _∙_, subst}
 use mathlib.Core.List.{List, [], _∷_}
@@ -33,7 +33,7 @@ find-requires-3 : tie.Need-find-requires-3
 find-requires-3 c κs =
     (c .before .before .before .before .pre .0, still-below (omega arith) (c .find2 .ensures .1))
 
--- the index that a search has found at a corner
+-- the index that a search found at a corner
 at-corner : (a : Corners) (inliers : List ℕ) {z : ℤ} {p : Coord} (q : Coord) → mag z < 2 ^ 31 → z ≡ indexOrMinusOne (holder a inliers p) → p ≡ q
     → word z ≡ indexOrMinusOne (holder a inliers q)
 at-corner a inliers {z} q h e f = read-back z h ∙ e ∙ ap (λ (p : Coord). indexOrMinusOne (holder a inliers p)) f

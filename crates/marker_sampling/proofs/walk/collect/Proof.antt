@@ -1,5 +1,5 @@
 -- `marker_sampling::walk::collect` meets its contract. The loop's invariant: the results are those of the places before the key, and no
--- search starts behind what it looks for. Assumes nothing.
+-- search starts after its target. Assumes nothing.
 use mathlib.Core.Path.{_≡_, sym, ap, _∙_}
 use mathlib.Core.List.{List}
 use Prim.Native.Nat.{ℕ, _+_, _-_, _*_, _≤_}

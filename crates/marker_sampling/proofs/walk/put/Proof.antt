@@ -1,4 +1,4 @@
--- `marker_sampling::walk::put` meets its contract: a whole cell among the first 256 is put behind those before it. Assumes nothing.
+-- `marker_sampling::walk::put` meets its contract: a whole cell among the first 256 is appended to those before it. Assumes nothing.
 use mathlib.Core.Path.{_≡_, refl, sym, ap, _∙_}
 use mathlib.Core.Bool.{Bool, true, false, cond}
 use mathlib.Core.List.{List, []}

@@ -1,4 +1,4 @@
--- `marker_sampling::walk::whole` meets its contract: each test settles the answer or leaves the next. Assumes nothing.
+-- `marker_sampling::walk::whole` meets its contract: each test decides the result or leaves it to the next. Assumes nothing.
 use mathlib.Core.Path.{_≡_, sym, ap, ap₂, _∙_}
 use mathlib.Core.Bool.{Bool, true, false, not, _&&_}
 use mathlib.Core.List.{List}
@@ -24,7 +24,7 @@ returns c =
     let cell = c .before .before .args .cell .now in
     sym (ap (λ (b : Bool). b && (present cell 3 && (present cell 4 && present cell 5))) (tested cell 2 true (c .before .if12 .given) (c .if1 .taken)))
 
--- what the tests that were passed leave
+-- what the passed tests imply
 module _ (c : tie.Else1) where
   abbrev cell : List ℤ
   cell = c .before .before .args .cell .now

@@ -1,4 +1,4 @@
--- `oracle_exports::scores::fill_scores` meets its contract. The loop's invariant: the first i places are written. Assumes nothing.
+-- `oracle_exports::scores::fill_scores` meets its contract. The loop's invariant: the first i elements are written. Assumes nothing.
 use mathlib.Core.Path.{_≡_, refl, _∙_}
 use mathlib.Core.List.{List}
 use Prim.Native.Nat.{ℕ, _+_, _-_, _*_, _≤_, _<_}
@@ -23,7 +23,7 @@ Inv-loop likelihoods bits codes out₀ i₀ out i =
 abbrev μ-loop : tie.MeasureT-loop
 μ-loop likelihoods bits codes out₀ i₀ out i = length codes - i
 
--- one place more
+-- one more element
 next : (out : List Float) (f : ℕ → Float) (i : ℕ) (x : Float) → i < length out → x ≡ f i → ((j : ℕ) → j < i → getD out j nan ≡ f j) → (j : ℕ)
     → j < i + 1 → getD (set out i x) j nan ≡ f j
 next out f i x h e before =

@@ -1,4 +1,4 @@
--- `place_text::lines::put_next` meets its contract: by the cases of the runner-up. Assumes nothing.
+-- `place_text::lines::put_next` meets its contract: by cases of the runner-up. Assumes nothing.
 use mathlib.Core.Path.{sym, ap}
 use borrow.Author.Needs.{needs}
 use Rattle.place_text.specs.Text.{nextLine}

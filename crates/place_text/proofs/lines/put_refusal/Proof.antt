@@ -1,4 +1,4 @@
--- `place_text::lines::put_refusal` meets its contract: by whether the number is 16. Assumes nothing.
+-- `place_text::lines::put_refusal` meets its contract: by cases of whether the number is 16. Assumes nothing.
 use mathlib.Core.Path.{_≡_, sym, ap, ap₂, _∙_}
 use mathlib.Core.Bool.{Bool, cond}
 use mathlib.Core.List.{List, [], _∷_}
@@ -14,7 +14,7 @@ use Rattle.place_text.proofs.Printing.{then, said}
 use Rattle.place_text.proofs.lines.put_refusal.Statement.{statement}
 use Rattle.place_text.proofs.lines.put_refusal.Tie as tie
 
--- by the outcome of the test
+-- by cases of the test
 abbrev printed : Refusal → Bool → List ℕ
 printed r b = line the-refused (decimal (numberOf r) ∷ cond b (hex8 (getD (valuesOf r) 0 0) ∷ []) [])
 

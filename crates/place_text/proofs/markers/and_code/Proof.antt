@@ -1,4 +1,4 @@
--- `place_text::markers::and_code` meets its contract: word 7 in front of word 6. Assumes nothing.
+-- `place_text::markers::and_code` meets its contract: word 7 before word 6. Assumes nothing.
 use mathlib.Core.Path.{ap₂}
 use mathlib.Core.List.{_∷_, _++_}
 use Prim.Native.Nat.{ℕ}

@@ -1,4 +1,4 @@
--- `place_text::markers::put_markers` meets its contract. The loop's invariant: the lines of the first k markers are put. Assumes nothing.
+-- `place_text::markers::put_markers` meets its contract. The loop's invariant: the lines of the first k markers are written. Assumes nothing.
 use mathlib.Core.Path.{_≡_, ap}
 use Prim.Native.Nat.{_-_, _≤_}
 use native.Mathlib.Numerals.{add-one}

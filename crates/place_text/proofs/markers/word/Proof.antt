@@ -1,4 +1,4 @@
--- `place_text::markers::word` meets its contract: what is not read lies past the list. Assumes nothing.
+-- `place_text::markers::word` meets its contract: words that are not read are past the array. Assumes nothing.
 use mathlib.Core.Path.{sym}
 use Prim.Native.Nat.{_+_, _*_}
 use native.Mathlib.Omega.{arith}

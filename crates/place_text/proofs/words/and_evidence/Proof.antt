@@ -1,4 +1,4 @@
--- `place_text::words::and_evidence` meets its contract: by the cases of the evidence. Assumes nothing.
+-- `place_text::words::and_evidence` meets its contract: by cases of the evidence. Assumes nothing.
 use mathlib.Core.Path.{sym, ap, _∙_}
 use mathlib.Core.List.{_∷_}
 use Prim.Native.Nat.{ℕ}

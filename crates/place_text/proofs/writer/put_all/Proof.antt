@@ -1,4 +1,4 @@
--- `place_text::writer::put_all` meets its contract. The loop's invariant: the first i bytes are put. Assumes nothing.
+-- `place_text::writer::put_all` meets its contract. The loop's invariant: the first i bytes are written. Assumes nothing.
 use Prim.Native.Nat.{_-_, _≤_}
 use native.Mathlib.Numerals.{add-one}
 use lib.ListN.{length, take}

@@ -1,5 +1,4 @@
--- `place_text::writer::put_signed` meets its contract: of a number and its complement, the one that is not negative is put. Assumes
--- nothing.
+-- `place_text::writer::put_signed` meets its contract: of a number and its complement, the nonnegative one is written. Assumes nothing.
 use mathlib.Core.Path.{_≡_, refl, sym, ap, _∙_, subst}
 use mathlib.Core.Bool.{Bool, true, false}
 use mathlib.Core.List.{_∷_}
@@ -19,7 +18,7 @@ use Rattle.place_text.proofs.Printing.{then, said}
 use Rattle.place_text.proofs.writer.put_signed.Statement.{statement}
 use Rattle.place_text.proofs.writer.put_signed.Tie as tie
 
--- what a cast asks
+-- preconditions of a cast
 abbrev Casts : ℤ → Type 0
 Casts y = T (nonNeg y) × Fits w64 (natAbs y)
 
@@ -42,7 +41,7 @@ minus (pos n) f e = absurd (omega (arith, ltb-true n 0 e))
 minus (negsuc k) f e =
     ap (λ (y : ℤ). 45 ∷ decimal (natAbs y + 1)) (complement-is (negsuc k) f e) ∙ ap (λ (n : ℕ). 45 ∷ decimal n) (add-one k)
 
--- of another
+-- of a nonnegative number
 other-casts : (z : ℤ) → SFits w32 z → ltZ z (pos 0) ≡ false → Casts z
 other-casts (pos n) f e = small n (f .sfits)
 other-casts (negsuc k) f e = let w : _≡_ {A = ℕ} 0 1 = cc in absurd (omega arith)
@@ -51,7 +50,7 @@ plain : (z : ℤ) → ltZ z (pos 0) ≡ false → decimal (natAbs z) ≡ signedD
 plain (pos n) e = refl
 plain (negsuc k) e = let w : _≡_ {A = ℕ} 0 1 = cc in absurd (omega arith)
 
--- the test reads the number back from its bits
+-- the test reads the number back from its bit pattern
 tested : (z : ℤ) (b : Bool) → SFits w32 z → ltZ (toZ w32 (ofZ w32 z)) (pos 0) ≡ b → ltZ z (pos 0) ≡ b
 tested z b f e = ap (λ (y : ℤ). ltZ y (pos 0)) (sym (toZ-ofZ w32 z f)) ∙ e
 

@@ -10,7 +10,7 @@ use Rattle.place_text.proofs.Printing.{then, said}
 use Rattle.place_text.proofs.writer.put_signed_word.Statement.{statement}
 use Rattle.place_text.proofs.writer.put_signed_word.Tie as tie
 
--- by the outcome of the test
+-- by cases of the test
 abbrev either : ℕ → Bool → List ℕ
 either n b = cond b (decimal n) (45 ∷ decimal (4294967296 - n))
 

@@ -1,4 +1,4 @@
--- `refusal::Refusal::value` meets its contract: two refusals give values, and the others are told by their tags. Assumes nothing.
+-- `refusal::Refusal::value` meets its contract: two errors have values, and the others are recognised by their tags. Assumes nothing.
 use mathlib.Core.Path.{_≡_, refl, sym, ap, ap₂, _∙_}
 use mathlib.Core.List.{List, [], _∷_}
 use Prim.Native.Nat.{ℕ, zero, suc}
@@ -15,6 +15,7 @@ use Rattle.refusal.proofs.Refusal.value.Statement.{statement}
 use Rattle.refusal.proofs.Refusal.value.Tie as tie
 
 -- the tags of the refusals that give nothing
+-- BEGIN generated nothing
 abbrev silent : List ℕ
 silent = 0 ∷ 1 ∷ 2 ∷ 3 ∷ 4 ∷ 5 ∷ 7 ∷ 8 ∷ 9 ∷ 10 ∷ 11 ∷ 12 ∷ 13 ∷ 14 ∷ 16 ∷ 17 ∷ 18 ∷ 19 ∷ 20 ∷ 21 ∷ 22 ∷ []
 
@@ -25,7 +26,7 @@ nothing refusal.InvalidMarkerSizeRel h = refl
 nothing refusal.InvalidBorderBits h = refl
 nothing refusal.EmptyDictionary h = refl
 nothing refusal.BoardOutOfRange h = refl
-nothing (refusal.NotEnoughDictionaryCodes n a) h = absurd (miss silent 6 tt h)
+nothing (refusal.NotEnoughDictionaryCodes needed available) h = absurd (miss silent 6 tt h)
 nothing refusal.CodeOutOfRange h = refl
 nothing refusal.SettingsNotFinite h = refl
 nothing refusal.InvalidTable h = refl
@@ -34,7 +35,7 @@ nothing refusal.CellsOutOfRange h = refl
 nothing refusal.InvalidSample h = refl
 nothing refusal.ListTooShort h = refl
 nothing refusal.TranslationWindow h = refl
-nothing (refusal.Margin m) h = absurd (miss silent 15 tt h)
+nothing (refusal.Margin margin) h = absurd (miss silent 15 tt h)
 nothing refusal.NoMarkers h = refl
 nothing refusal.CornersOutOfRange h = refl
 nothing refusal.TooManyLinks h = refl
@@ -42,6 +43,8 @@ nothing refusal.TooManyCells h = refl
 nothing refusal.InvalidRecord h = refl
 nothing refusal.CodesAlike h = refl
 nothing refusal.RepeatedPoint h = refl
+
+-- END generated nothing
 
 -- past the last value
 past-two : (a b k : ℕ) → (k ≡ 0 → ⊥) → (k ≡ 1 → ⊥) → 0 ≡ getD (a ∷ b ∷ []) k 0
@@ -53,7 +56,7 @@ past-one : (a k : ℕ) → (k ≡ 0 → ⊥) → 0 ≡ getD (a ∷ []) k 0
 past-one a zero n = absurd (n refl)
 past-one a (suc k) n = refl
 
--- the value at a place, as refusal and place are known
+-- value k, once error and k are known
 abbrev at : Refusal → ℕ → ℕ
 at r k = getD (valuesOf r) k 0
 

@@ -1,4 +1,4 @@
--- `replay::entries::of_part` is safe and ends. Assumes nothing.
+-- `replay::entries::of_part` is safe and terminates. Assumes nothing.
 use Prim.Native.Nat.{_-_, _≤_}
 use borrow.Author.Needs.{needs}
 use Rattle.replay.proofs.entries.of_part.Statement.{statement}

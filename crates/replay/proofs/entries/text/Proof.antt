@@ -1,4 +1,4 @@
--- `replay::entries::text` is safe: the text is a part of its buffer. Assumes nothing.
+-- `replay::entries::text` is safe: the text is a slice of its buffer. Assumes nothing.
 use mathlib.Core.Path.{sym}
 use lib.Seq.{length-take-le}
 use borrow.Author.Needs.{needs}

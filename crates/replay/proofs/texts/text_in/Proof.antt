@@ -1,4 +1,4 @@
--- `replay::texts::text_in` is safe: the text is a part of its list. Assumes nothing.
+-- `replay::texts::text_in` is safe: the text is a slice of its array. Assumes nothing.
 use native.Mathlib.Omega.{arith}
 use mathlib.Core.Path.{sym}
 use lib.Seq.{length-take-le}

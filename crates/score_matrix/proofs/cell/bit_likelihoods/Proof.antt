@@ -1,5 +1,5 @@
--- `score_matrix::cell::bit_likelihoods` meets its contract. The loop's invariant: the list holds what the bits of the first y rows add,
--- and past them what was lent. Assumes nothing.
+-- `score_matrix::cell::bit_likelihoods` meets its contract. The loop's invariant: the array holds the log-likelihoods of the first y rows,
+-- and is unchanged past them. Assumes nothing.
 use mathlib.Core.Path.{_≡_, refl, _∙_}
 use Prim.Native.Nat.{_-_, _*_, _≤_}
 use native.Mathlib.Nat.{zero-mul}

@@ -1,5 +1,5 @@
--- `score_matrix::cell::row_likelihoods` meets its contract. The loop's invariant: the list holds what the bits before bit x of the row add,
--- and past them what was lent.
+-- `score_matrix::cell::row_likelihoods` meets its contract. The loop's invariant: the array holds the log-likelihoods of the bits before bit x
+-- of the row, and is unchanged past them.
 -- Assumes nothing.
 use mathlib.Core.Path.{_≡_, refl, sym, ap, _∙_}
 use mathlib.Core.List.{List}
@@ -31,7 +31,7 @@ abbrev μ-loop : tie.MeasureT-loop
 grid-index-requires : tie.Need-grid-index-requires Inv-loop μ-loop
 grid-index-requires c κs = let s = c .before in (s .pre .0 .0, omega (arith, s .fits .border .fits), omega (arith, s .pre .0 .1), s .pre .0 .1)
 
--- where the row starts is below 64
+-- the row starts below 64
 row : (c : tie.After-grid-index Inv-loop μ-loop) → c .before .before .args .y * c .before .before .args .bits < 64
 row c = let s = c .before .before in omega (arith, digits-lt (s .pre .0 .1) (s .pre .0 .1), area (s .args .bits) (s .pre .0 .0))
 
@@ -70,7 +70,7 @@ module _ (c : tie.In-loop Inv-loop μ-loop) where
   at : 2 * (start .args .y * start .args .bits) + 2 * c .before .loop .x ≡ 2 * k
   at = omega arith
 
--- after both parts are looked up
+-- after both entries are read
 module _ (c : tie.After-entry2 Inv-loop μ-loop) where
   abbrev loop : tie.In-loop Inv-loop μ-loop
   loop = c .before .before .before

@@ -1,4 +1,4 @@
--- `score_matrix::cell::sum` meets its contract. The loop's invariant: `total` is the sum of the first k bits' parts, and `rest` has the bits from k on.
+-- `score_matrix::cell::sum` meets its contract. The loop's invariant: `total` is the sum of the first k terms, and `rest` has the bits from k on.
 -- Assumes nothing.
 use mathlib.Core.Path.{_≡_, refl, sym, ap, ap₂, _∙_}
 use Prim.Native.Nat.{ℕ, _+_, _-_, _*_, _/_, _%_, _^_, _≤_, _<_}

@@ -1,4 +1,4 @@
--- `score_matrix::table::built_in_table` meets its contract: the 511 numbers have the bits of the definition. Assumes nothing.
+-- `score_matrix::table::built_in_table` meets its contract: the 511 numbers have the bit patterns of the definition. Assumes nothing.
 use mathlib.Core.Path.{refl}
 use lib.Ieee.{ofBits}
 use Rattle.score_matrix.specs.Table.{patterns, builtIn}

@@ -1,4 +1,4 @@
--- `score_matrix::table::is_table` meets its contract. The loop's invariant: the answer for the entries from i on is the answer for all.
+-- `score_matrix::table::is_table` meets its contract. The loop's invariant: the result for the entries from i on is the result for all.
 -- Assumes nothing.
 use mathlib.Core.Path.{_≡_, refl, sym, ap, ap₂, _∙_}
 use mathlib.Core.Bool.{Bool, true, false, _&&_}
@@ -22,7 +22,7 @@ Inv-loop table i₀ i = (i ≤ length table) × (eqb (length table) 511 ≡ true
 abbrev μ-loop : tie.MeasureT-loop
 μ-loop table i₀ i = length table - i
 
--- the answer at one entry
+-- the result at one entry
 here : (table : List Float) (i : ℕ) (b : Bool) → i < length table → entryInRange (getD table i nan) ≡ b
     → entriesInRange (drop i table) ≡ (b && entriesInRange (drop (i + 1) table))
 here table i b l e = rw (drop-cons table i nan l, add-one, e)
@@ -34,7 +34,7 @@ returns c = ap (λ (b : Bool). b && entriesInRange (c .before .before .args .tab
 loop-holds : tie.Need-loop-holds Inv-loop μ-loop
 loop-holds c = (omega arith, eq-eqb (length (c .before .before .args .table .now)) 511 (c .if1 .left), refl)
 
--- in the loop, after the test of an entry
+-- in the loop, after the check of an entry
 module _ (c : tie.After-ranged Inv-loop μ-loop) (b : Bool) where
   abbrev loop : tie.At-loop Inv-loop μ-loop
   loop = c .before .before .before

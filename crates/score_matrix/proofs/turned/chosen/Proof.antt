@@ -12,7 +12,7 @@ use Rattle.score_matrix.specs.Likelihoods.{byBit}
 use Rattle.score_matrix.proofs.turned.chosen.Statement.{statement}
 use Rattle.score_matrix.proofs.turned.chosen.Tie as tie
 
--- of a number, a mask of one bit leaves that bit
+-- a mask of one bit selects that bit
 masked : (a one s : ℕ) → one ≡ 2 ^ s → bitAnd a one ≡ bit a s * 2 ^ s
 masked a one s e = ap (bitAnd a) (omega (arith, e, pow-succ' 2 s, ap (λ (n : ℕ). 2 ^ n) (one-add s))) ∙ and-high a 1 s
 

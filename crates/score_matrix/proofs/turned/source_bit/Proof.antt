@@ -9,7 +9,7 @@ use Rattle.score_matrix.proofs.Places.{area}
 use Rattle.score_matrix.proofs.turned.source_bit.Statement.{statement}
 use Rattle.score_matrix.proofs.turned.source_bit.Tie as tie
 
--- the place that was found is in the code, and its bit is one of 64
+-- the source place is in the code, and its bit is one of 64
 module _ (c : tie.After-source-place) where
   found : Inside (c .before .args .n) (c .source-place .result)
   found =

@@ -1,5 +1,5 @@
--- `score_matrix::turned::source_bits` meets its contract. The loop's invariant: the list holds the sources of the first k bits, and `p` is the place of
--- the next. Assumes nothing.
+-- `score_matrix::turned::source_bits` meets its contract. The loop's invariant: the array holds the sources of the first k bits, and `p` is the
+-- place of the next. Assumes nothing.
 use mathlib.Core.Path.{_≡_, refl, ap, _∙_}
 use Prim.Native.Nat.{ℕ, _-_, _≤_}
 use native.Mathlib.Omega.{arith}

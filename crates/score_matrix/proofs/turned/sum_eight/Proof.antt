@@ -1,4 +1,4 @@
--- `score_matrix::turned::sum_eight` meets its contract. The loop's invariant: each score is the sum of the first k bits' parts of its code.
+-- `score_matrix::turned::sum_eight` meets its contract. The loop's invariant: each score is the sum of the first k terms of its code.
 -- Assumes nothing.
 use mathlib.Core.Path.{_≡_, refl, sym, ap, ap₂, _∙_}
 use mathlib.Core.List.{List}
@@ -40,13 +40,13 @@ add-bit-requires c κs =
     let l = lent .before .before .before in
     (l .before .pre .1 (l .loop .k) (lent .before .before .loop-test .taken), l .loop .inv .1, lent .add-bit-arg .given .0)
 
--- what a bit adds is what it picks
+-- `byBit` is an element of the list
 by-bit : (l : List Float) (k b : ℕ) → b < 2 → byBit b (getD l (2 * k) nan) (getD l (2 * k + 1) nan) ≡ getD l (2 * k + b) nan
 by-bit l k zero h = ap (λ (i : ℕ). getD l i nan) (sym (add-zero (2 * k)))
 by-bit l k (suc zero) h = refl
 by-bit l k (suc (suc b)) h = absurd (omega arith)
 
--- a sum of k parts and one more
+-- a sum of k terms and one more
 more : (l : List Float) (sources : List ℕ) (code k : ℕ) (total next : Float) → total ≡ sumTo (pickedFrom l sources code) k
     → next ≡ add binary32 total (byBit (bit code (getD sources k 0)) (getD l (2 * k) nan) (getD l (2 * k + 1) nan))
     → next ≡ sumTo (pickedFrom l sources code) (k + 1)

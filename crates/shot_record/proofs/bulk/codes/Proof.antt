@@ -1,4 +1,4 @@
--- `shot_record::bulk::codes` meets its contract. The loop's invariant: the first k places have their codes, and the others 0. Assumes nothing.
+-- `shot_record::bulk::codes` meets its contract. The loop's invariant: the first k elements are their codes, the others 0. Assumes nothing.
 use mathlib.Core.Path.{_≡_, refl, sym, ap, _∙_}
 use Prim.Native.Nat.{ℕ, suc, _-_, _≤_, _<_}
 use native.Mathlib.Omega.{arith, not-le}
@@ -37,7 +37,7 @@ module _ (l : tie.At-loop Inv-loop μ-loop) where
   f : Found (l .before .before .before .args .f) bytes
   f = found _ bytes (l .before .before .before .pre .0)
 
-  -- from the loop's count on there is no code
+  -- there is no code from the loop's count on
   past : (i : ℕ) → l .before .at-most .result ≤ i → i < 512 → code-of bytes i ≡ 0
   past i b h =
       let none = not-le (suc i) _ (λ less. absurd (omega (arith, l .before .at-most .ensures .1 i h less))) in

@@ -97,7 +97,7 @@ sample-place-requires c κs =
     let start = ap (λ (w : Cursor). w .start) (c .seek .ensures) in
     (walk c, omega (arith, start, lies c, is-whole (at c) .size))
 
--- where the sample starts
+-- the offset of the sample
 place : (c : tie.After-sample-place) → c .sample-place .result ≡ samplePlace (bytes (at (c .before))) (k (at (c .before)))
 place c = let x = at (c .before) in c .sample-place .ensures ∙ ap (λ (w : Cursor). samplePlace (bytes x) (w .cell)) (c .before .seek .ensures)
 

@@ -25,7 +25,7 @@ module _ (c : tie.After-shared-slice-known) where
   f : Found (c .before .args .f) bytes
   f = found (c .before .args .f) bytes (c .before .pre)
 
--- each question, answered with yes
+-- each check passes
 short : (c : tie.Else1) → leb (length (bytes (c .before))) 65535 ≡ true
 short c = le-leb (length (bytes (c .before))) 65535 (c .if1 .left)
 
@@ -39,7 +39,7 @@ is-clear-requires c κs =
     let x = c .before .before .before in
     (omega (arith, f x .cell-map-at, map-reach (bytes x) (small x)), omega (arith, f x .cell-count, count-reach (bytes x) (small x)))
 
--- the spare bits of the cell map
+-- the unused bits of the cell map
 map-answer : (c : tie.After-is-clear) → c .is-clear .result ≡ ltb (cellMap (bytes (c .before .before .before .before)))
     (2 ^ cellCount (bytes (c .before .before .before .before)))
 unfolding cellMap

@@ -1,4 +1,4 @@
--- `shot_record::cells::seek` meets its contract. The loop's invariant: the walk is at a cell up to k. Assumes nothing.
+-- `shot_record::cells::seek` meets its contract. The loop's invariant: the iteration is at a cell up to k. Assumes nothing.
 use mathlib.Core.Path.{_≡_, ap, _∙_}
 use Prim.Native.Nat.{_+_, _-_, _≤_}
 use native.Mathlib.Omega.{arith}
@@ -24,7 +24,6 @@ next-requires c κs =
     let x = l .before .before .before in
     (x .pre .0, l .loop .inv .1, omega (arith, x .pre .1, c .if1 .taken))
 
--- one cell further
 further : (c : tie.After-next Inv-loop μ-loop) → c .next .result .cell ≡ c .before .before .before .loop .c .cell + 1
 further c = ap (λ (d : Cursor). d .cell) (c .next .ensures)
 

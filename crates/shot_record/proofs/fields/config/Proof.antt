@@ -31,7 +31,7 @@ setting-requires-3 c κs =
     let x = c .before .before .before .before .before in
     omega (arith, f x .threshold-at, head-reach (bytes x))
 
--- a setting, by the map's bit and its place as they were found
+-- a setting, from its flag and its offset as they were found
 value : (bytes : List ℕ) (k default b m map p at : ℕ) → b ≡ bit m k → m ≡ map → p ≡ at
     → ofPattern (setting b (number 4 p bytes) default) ≡ ofPattern (setting (bit map k) (number 4 at bytes) default)
 value bytes k default b m map p at e h g = cc

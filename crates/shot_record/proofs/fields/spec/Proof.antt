@@ -22,7 +22,7 @@ module _ (c : tie.After-shared-slice-known) where
   reach : c .before .args .f .«rows_at» ≤ 2057
   reach = omega (arith, f .rows-at, head-reach bytes)
 
--- the specification by the map byte and the place of the rows
+-- the specification from the map byte and the offset of the rows
 abbrev specAt : ℕ → ℕ → List ℕ → CharucoBoardSpec
 specAt map at bytes =
     record {

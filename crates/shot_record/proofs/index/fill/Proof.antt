@@ -1,5 +1,5 @@
--- `shot_record::index::fill` meets its contract. The loop's invariant: the index has the words of the cells before that of the walk,
--- and the places behind all cells have the words that they had. Assumes nothing.
+-- `shot_record::index::fill` meets its contract. The loop's invariant: the index has the words of the cells before the cursor, and the elements after
+-- all cells are unchanged. Assumes nothing.
 use mathlib.Core.Path.{_≡_, refl, ap, _∙_}
 use mathlib.Core.Logic.{_⊎_, inl, inr}
 use Prim.Native.Nat.{ℕ, _+_, _-_, _*_, _≤_, _<_}
@@ -25,7 +25,7 @@ pub record Words (bytes index : List ℕ) (k : ℕ) : Type 0 where
   pub fraction : fractionIn index k ≡ getD (wordsOf bytes k) 1 0
   pub grid : gridIn index k ≡ getD (wordsOf bytes k) 2 0
 
--- an index with the words of a further cell
+-- an index with the words of one more cell
 module _ (bytes index words : List ℕ) (k : ℕ) (inside : k < 256) (size : length index ≡ 768)
     (e : words ≡ wordsOf bytes k) where
   abbrev one : List ℕ
@@ -119,7 +119,6 @@ put-requires c κs = let i = c .before .before .before in (low i .1, loop i .loo
 next-requires : tie.Need-next-requires Inv-loop μ-loop
 next-requires c κs = walk (c .before .before .before .before)
 
--- one cell further
 further : (c : tie.After-next Inv-loop μ-loop) → c .next .result .cell ≡ k (c .before .before .before .before .before) + 1
 further c = ap (λ (d : Cursor). d .cell) (c .next .ensures)
 

@@ -39,7 +39,7 @@ module _ (c : tie.Start) where
   entry : Entry bytes index k
   entry = c .pre .0 .1 k inside (c .pre .2)
 
--- a cell without words of a sample is not sampled
+-- a cell whose third word is 0 is not sampled
 unmarked : (b word at : ℕ) → ((b ≡ 0 → ⊥) → word / 256 ≡ gridFrom at) → word ≡ 0 → b ≡ 0
 unmarked zero word at h e = refl
 unmarked (suc b) word at h e = absurd (omega (arith, h (λ z. absurd (omega arith)), e))

@@ -59,7 +59,7 @@ sample-place-requires c κs =
     let x = start (here c) in
     (x .pre .0, omega (arith, lies c, walk-start (bytes (here c)) (x .args .f) (x .args .c) (x .pre .0)))
 
--- its place is that of a byte of the record
+-- its offset is inside the record
 near : (c : tie.After-sample-place) → gridFrom (c .sample-place .result) ≤ 65535
 near c = omega (arith, c .sample-place .ensures, lies (c .before))
 

@@ -22,7 +22,7 @@ module _ (c : tie.Then1) where
       let known = c .before .shared-slice-known .given in
       (known at .fits, known (at + 1) .fits, known (at + 2) .fits, known (at + 3) .fits)
 
--- by its two halves
+-- from its two halves
 four : (bytes : List ℕ) (at : ℕ)
     → byte at bytes + byte (at + 1) bytes * 256 + byte (at + 2) bytes * 65536 + byte (at + 3) bytes * 16777216 ≡ number 4 at bytes
 four bytes at =

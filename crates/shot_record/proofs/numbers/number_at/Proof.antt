@@ -24,7 +24,7 @@ loop-holds c =
     let none : x .n - x .n ≡ 0 = omega arith in
     (omega arith, rw none refl, rw none (lit< tt))
 
--- a byte in front
+-- one more byte before the others
 grown : (bytes : List ℕ) (at n k x : ℕ) → 0 < k → k ≤ n → x ≡ number (n - k) (at + k) bytes
     → x * 256 + byte (at + (k - 1)) bytes ≡ number (n - (k - 1)) (at + (k - 1)) bytes
 unfolding number
@@ -41,7 +41,6 @@ below n k x b h l s t =
 small : (n k x : ℕ) → 0 < k → k ≤ n → n ≤ 8 → x < 2 ^ (8 * (n - k)) → x < 2 ^ 56
 small n k x h l s t = lt-of-lt-of-le t (pow-mono {j = 56} (omega arith))
 
--- in the loop
 bounded : (c : tie.In-loop Inv-loop μ-loop) → c .before .loop .x < 2 ^ 56
 bounded c =
     let s = c .before in

@@ -1,4 +1,4 @@
--- `shot_record::questions::board` meets its contract: the questions up to 7, then 8 and 22. Assumes nothing.
+-- `shot_record::questions::board` meets its contract: questions 1 to 7, then 8 and 22. Assumes nothing.
 use mathlib.Core.Path.{_≡_, sym, ap, ap₂, _∙_}
 use mathlib.Core.Bool.{not}
 use mathlib.Core.List.{List}
@@ -38,7 +38,7 @@ module _ (c : tie.After-sized) where
       let count = found (x .args .f) bytes (x .pre .0) .code-count ∙ sym (length-list (λ (k : ℕ). number 8 (codesAt bytes + 8 * k) bytes) (codeCount bytes)) in
       c .sized .ensures ∙ ap₂ sizedBoard (c .before .spec .ensures) count
 
--- the board that passed the questions up to 7
+-- the board that passed questions 1 to 7
 module _ (c : tie.After-sized2) where
   abbrev board : Board
   board = c .sized2 .given .0 .0
@@ -60,7 +60,7 @@ judged-requires c κs =
     let a = m .before .before in
     sized-bits (spec a) (length (codes a)) (board m) (sym (board-made m))
 
--- the first 512 codes have all that markers use
+-- the first 512 codes include all that markers use
 apart : (c : tie.After-sized2) (first : List ℕ) → first ≡ firstCodes (shot (bytes (c .before .before)))
     → not (twoAlike (board c .bits) first (min (markerTotal (board c)) 512)) ≡ apartAnswer (board c) (codes (c .before .before))
 apart c first e =

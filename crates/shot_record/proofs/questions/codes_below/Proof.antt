@@ -1,5 +1,5 @@
--- `shot_record::questions::codes_below` meets its contract. The loop's invariant: the answer for the codes from k on is the answer for all.
--- Assumes nothing.
+-- `shot_record::questions::codes_below` meets its contract. The loop's invariant: the result for the codes from k on is the result for all. Assumes
+-- nothing.
 use mathlib.Core.Path.{_≡_, refl, ap, sym, _∙_}
 use mathlib.Core.Bool.{Bool, true, false, _&&_}
 use Prim.Native.Nat.{ℕ, _+_, _-_, _≤_}
@@ -27,7 +27,7 @@ abbrev μ-loop : tie.MeasureT-loop
 loop-holds : tie.Need-loop-holds Inv-loop μ-loop
 loop-holds c = (omega arith, refl)
 
--- how many codes there are
+-- the number of codes
 module _ (c : tie.At-loop Inv-loop μ-loop) where
   abbrev x : tie.Start Inv-loop μ-loop
   x = c .before .before

@@ -1,4 +1,4 @@
--- `stored_rows::answers::of_bytes` is safe and ends. Assumes nothing.
+-- `stored_rows::answers::of_bytes` is safe and terminates. Assumes nothing.
 use Prim.Native.Nat.{_-_}
 use lib.ListN.{length}
 use borrow.Author.Needs.{needs}

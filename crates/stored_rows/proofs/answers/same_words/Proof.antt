@@ -1,4 +1,4 @@
--- `stored_rows::answers::same_words` is safe and ends. Assumes nothing.
+-- `stored_rows::answers::same_words` is safe and terminates. Assumes nothing.
 use Prim.Native.Nat.{_-_}
 use borrow.Author.Needs.{needs}
 use Rattle.stored_rows.proofs.answers.same_words.Statement.{statement}

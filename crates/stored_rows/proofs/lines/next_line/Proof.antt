@@ -1,4 +1,4 @@
--- `stored_rows::lines::next_line` is safe and ends: the turns fall. Assumes nothing.
+-- `stored_rows::lines::next_line` is safe and terminates: the countdown decreases. Assumes nothing.
 use borrow.Author.Needs.{needs}
 use Rattle.stored_rows.proofs.lines.next_line.Statement.{statement}
 use Rattle.stored_rows.proofs.lines.next_line.Tie as tie

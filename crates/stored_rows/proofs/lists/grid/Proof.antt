@@ -1,4 +1,4 @@
--- `stored_rows::lists::grid` is safe and ends, with a list of that length. Assumes nothing.
+-- `stored_rows::lists::grid` is safe and terminates, with an array of that length. Assumes nothing.
 use mathlib.Core.Path.{_≡_, sym, _∙_}
 use Prim.Native.Nat.{ℕ, _-_, _≤_}
 use lib.ListN.{length, length-set}

@@ -1,4 +1,4 @@
--- `stored_rows::lists::put_codes` is safe and ends. Assumes nothing.
+-- `stored_rows::lists::put_codes` is safe and terminates. Assumes nothing.
 use mathlib.Core.Path.{_≡_}
 use Prim.Native.Nat.{_-_}
 use lib.ListN.{length}

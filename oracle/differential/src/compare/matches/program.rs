@@ -1,7 +1,7 @@
 //! The program `place`: a record on its standard input, and every byte that it prints.
 
 use super::Shown;
-use crate::subject::Subject;
+use crate::subject::{Subject, of_legacy_boards};
 use matches::given::{Given, KINDS, Kind, LEGACY_KINDS};
 use matches::{MOST_PLACES, match_record, text};
 use std::env;
@@ -15,18 +15,15 @@ const DEFAULT: &str = "../target/bin/place";
 /// Records of each kind, as far as there are so many.
 const OF_EACH_KIND: usize = 160;
 
-/// The program has places enough for every record that is not refused before.
+/// The program's output array is long enough for every record that passes the checks before 14.
 pub fn compare() -> Vec<Subject> {
-    let kinds = [
-        ("program place", &KINDS),
-        ("program place, legacy boards", &LEGACY_KINDS),
-    ];
-    kinds.map(|(name, kinds)| compare_kinds(name, kinds)).into()
+    let [unmarked, legacy] = [&KINDS, &LEGACY_KINDS].map(|kinds| vec![compare_kinds(kinds)]);
+    [unmarked, of_legacy_boards(legacy)].concat()
 }
 
-fn compare_kinds(name: &str, kinds: &[Kind]) -> Subject {
+fn compare_kinds(kinds: &[Kind]) -> Subject {
     let program = env::var_os(VARIABLE).unwrap_or_else(|| DEFAULT.into());
-    let mut subject = Subject::new(name);
+    let mut subject = Subject::new("output of `place`");
     for kind in kinds {
         for (place, given) in kind.first(OF_EACH_KIND).enumerate() {
             let matched = match_record(&given.record, MOST_PLACES);

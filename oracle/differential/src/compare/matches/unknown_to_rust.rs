@@ -1,5 +1,5 @@
-//! Shots that our library refuses by a question that the Rust does not ask, 22 or 23. No question before it does, and the Rust
-//! places them or refuses them by a question that it asks of a match.
+//! Shots that this library refuses by check 22 or 23, which upstream lacks. They pass all checks before it, and upstream
+//! places them or refuses them by one of its own checks of a match.
 
 use super::Shown;
 use crate::subject::Subject;
@@ -7,42 +7,33 @@ use matches::{Matched, by_rust_without_22, by_rust_without_23, told};
 use records::Shot;
 
 pub struct UnknownToRust {
-    name: &'static str,
     pub number: u32,
     by_rust: fn(&Shot) -> Option<Matched>,
-    /// What the Rust may answer, 0 for a match, and how often it does.
-    answers: Vec<(u32, usize)>,
+    /// What upstream may return, 0 for a match, and how often it does.
+    answers: Vec<(u32, u64)>,
     passed: Subject,
 }
 
 impl UnknownToRust {
-    /// For each of the questions.
-    pub fn all(name: &'static str) -> [Self; 2] {
+    /// For each of the two checks.
+    pub fn all() -> [Self; 2] {
         [
-            Self::new(name, 22, by_rust_without_22, &[0, 11, 15, 16, 17]),
-            // There are two cells, so that 11 is out of the question.
-            Self::new(name, 23, by_rust_without_23, &[0, 15, 16, 17]),
+            Self::new(22, by_rust_without_22, &[0, 11, 15, 16, 17]),
+            // There are two cells, so check 11 passes.
+            Self::new(23, by_rust_without_23, &[0, 15, 16, 17]),
         ]
     }
 
-    fn new(
-        name: &'static str,
-        number: u32,
-        by_rust: fn(&Shot) -> Option<Matched>,
-        answers: &[u32],
-    ) -> Self {
+    fn new(number: u32, by_rust: fn(&Shot) -> Option<Matched>, answers: &[u32]) -> Self {
         Self {
-            name,
             number,
             by_rust,
             answers: answers.iter().map(|&answer| (answer, 0)).collect(),
-            passed: Subject::new(format!(
-                "{name}, refused {number}, and by no question before it"
-            )),
+            passed: Subject::new(format!("refused {number}: passes all checks before it")),
         }
     }
 
-    /// Shots that a later question up to 14 would refuse besides are passed over.
+    /// Shots that also fail a later check up to 14 are skipped.
     pub fn check(&mut self, shot: &Shot, asked: &Shown) {
         let Some(matched) = (self.by_rust)(shot) else {
             return;
@@ -59,17 +50,9 @@ impl UnknownToRust {
         }
     }
 
-    /// An answer of the Rust that never comes up is a failure of the inputs.
+    /// An answer of upstream that never comes up is a failure of the inputs.
     pub fn subjects(self) -> [Subject; 2] {
-        let counts = self.answers.iter();
-        let counts: Vec<String> = counts.map(|(n, count)| format!("{n}: {count}")).collect();
-        let (name, number, counts) = (self.name, self.number, counts.join(", "));
-        let mut up = Subject::new(format!(
-            "{name}, refused {number}, answers of the Rust ({counts})"
-        ));
-        for (answer, count) in self.answers {
-            up.check(count > 0, true, format_args!("answer {answer} comes up"));
-        }
-        [self.passed, up]
+        let name = format!("refused {}: upstream returns", self.number);
+        [self.passed, Subject::of_cases(name, self.answers)]
     }
 }

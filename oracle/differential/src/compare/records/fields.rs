@@ -1,4 +1,4 @@
-//! Everything that a reader says of one record.
+//! Everything that the readers return for one record.
 
 use crate::subject::{Bytes, Subject, Subjects};
 use cases::answer::{Answer, after, before};
@@ -6,10 +6,10 @@ use charuco::words;
 use records::{REFUSED, Read, TABLE_LENGTH, told};
 use std::fmt::Arguments;
 
-/// Words of the longest list that is lent for values.
+/// Words of the longest output array.
 const LENT: usize = 15;
 
-/// How many places of a list are asked for.
+/// How many places of a list are read.
 #[derive(Clone, Copy)]
 pub enum Extent {
     /// Both ends, past the end, and a few between.
@@ -17,20 +17,19 @@ pub enum Extent {
     All,
 }
 
-/// The names of the subjects begin with `of`.
-pub fn compare(subjects: &mut Subjects, of: &str, record: &[u8], extent: Extent) {
+pub fn compare(subjects: &mut Subjects, record: &[u8], extent: Extent) {
     let read = records::read(record);
     let read = read.as_ref();
     let (name, number) = match read {
-        Some(_) => ("that is read", 0),
-        None => ("that is refused", REFUSED),
+        Some(_) => ("record that is read", 0),
+        None => ("record that is refused", REFUSED),
     };
     let shown = Bytes(record);
     let ours = words::read_header(record, &mut []);
-    let numbers = subjects.of(&format!("{of} {name}"));
+    let numbers = subjects.of(name);
     numbers.check(ours, number, format_args!("number of {shown}"));
     check(
-        subjects.of(&format!("{of}, header")),
+        subjects.of("header"),
         format_args!("{shown}"),
         |values| words::read_header(record, values),
         &told::header(read),
@@ -51,7 +50,7 @@ pub fn compare(subjects: &mut Subjects, of: &str, record: &[u8], extent: Extent)
         ("grid of a cell", &cells, words::grid, told::grid),
     ];
     for (name, places, ours, theirs) in readers {
-        let subject = subjects.of(&format!("{of}, {name}"));
+        let subject = subjects.of(name);
         for &k in places {
             let asked = format_args!("place {k} of {shown}");
             check(
@@ -62,7 +61,7 @@ pub fn compare(subjects: &mut Subjects, of: &str, record: &[u8], extent: Extent)
             );
         }
     }
-    let all_greys = subjects.of(&format!("{of}, greys of a cell"));
+    let all_greys = subjects.of("grey levels of a cell");
     for &k in &cells {
         let ours = charuco::grid(record, k).unwrap_or_default();
         all_greys.check(
@@ -76,7 +75,7 @@ pub fn compare(subjects: &mut Subjects, of: &str, record: &[u8], extent: Extent)
 type Ours = fn(&[u8], usize, &mut [u32]) -> u32;
 type Theirs = fn(Option<&Read>, usize) -> Answer;
 
-/// With lists of every length: as many of the words are told as there is room for.
+/// With output arrays of every length: as many words are written as there is room for.
 fn check(
     subject: &mut Subject,
     asked: Arguments,
@@ -89,7 +88,7 @@ fn check(
     subject.check(ours.collect::<Vec<_>>(), theirs.collect::<Vec<_>>(), asked);
 }
 
-/// Places to ask for in a list of so many. Past the end are also such that look like the first when cut.
+/// Places to read in a list of so many. Past the end are also some that equal the first if they are truncated.
 fn places(count: usize, extent: Extent) -> Vec<usize> {
     let mut places = match extent {
         Extent::All => (0..count).collect(),

@@ -1,9 +1,10 @@
-//! The accuracy rule: no reported evidence of a placed shot is farther than N × (N + 67) / 65,536 from the exact one, on boards
-//! with the mark of a legacy board and without it. Works out both for every placement of many shots, then looks for bad shots.
-//! Ends with 1 if one breaks the rule.
+//! The accuracy rule: the rounding error of the reported evidence of a placed shot is at most N × (N + 67) / 65,536, with the
+//! legacy flag and without it. Computes both for every placement of many shots, then searches for bad shots. Ends with 1 if one
+//! breaks the rule, or if `oracle/RESULTS.md` has other figures; `--write` writes them there.
 
 mod search;
 
+use cases::results::{self, number, table};
 use matches::exact::{self, Worst};
 use matches::given::{KINDS, Kind, LEGACY_KINDS};
 use matches::match_record;
@@ -38,16 +39,79 @@ impl Class {
     }
 }
 
+/// The block of `oracle/RESULTS.md`.
+const BLOCK: &str = "exact";
+
 fn main() -> ExitCode {
-    let broken = of_many_shots("random shots", &KINDS)
-        + of_many_shots("random shots of legacy boards", &LEGACY_KINDS)
-        + of_bad_shots("search", false)
-        + of_bad_shots("search, on a legacy board", true);
+    let words: Vec<String> = std::env::args().skip(1).collect();
+    let writes = match &words.iter().map(String::as_str).collect::<Vec<_>>()[..] {
+        [] => false,
+        ["--write"] => true,
+        _ => {
+            eprintln!("usage: exact [--write]");
+            return ExitCode::FAILURE;
+        }
+    };
+    let random = [&KINDS, &LEGACY_KINDS].map(|kinds| of_many_shots(kinds));
+    let searched = [false, true].map(of_bad_shots);
+    let random_broken = random.as_flattened().iter().map(|class| class.broken);
+    let searched_broken = searched.as_flattened().iter().map(|found| found.broken);
+    let broken = random_broken.chain(searched_broken).sum::<usize>();
+    let block = block(&random, &searched);
+    print!("{block}");
     println!("shots that break the rule: {broken}");
-    ExitCode::from(u8::from(broken != 0))
+    if broken != 0 {
+        return ExitCode::FAILURE;
+    }
+    if let Err(message) = results::settle(BLOCK, &block, writes) {
+        eprintln!("{message}");
+        return ExitCode::FAILURE;
+    }
+    ExitCode::SUCCESS
 }
 
-fn of_many_shots(name: &str, kinds: &[Kind]) -> usize {
+/// The tables of a run in which no shot breaks the rule.
+fn block(random: &[[Class; CLASSES.len()]; 2], searched: &[[Found; SEARCHED.len()]; 2]) -> String {
+    let rows: Vec<Vec<String>> = (CLASSES.into_iter().enumerate())
+        .map(|(place, last)| {
+            let of = |class: Class| {
+                let [shots, placements] = [class.shots, class.placements];
+                let counts = [shots, placements].map(|count| number(count as u64));
+                [&counts[..], &[share(class.ratio)]].concat()
+            };
+            let [one, legacy] = [random[0][place], random[1][place]].map(of);
+            [vec![format!("up to {last}")], one, legacy].concat()
+        })
+        .collect();
+    let heads = [
+        "cells",
+        "shots placed",
+        "placements",
+        "worst",
+        "legacy boards: shots placed",
+        "placements",
+        "worst",
+    ];
+    let mut text = format!("Random shots:\n\n{}", table(&heads, &rows));
+    let rows: Vec<Vec<String>> = (SEARCHED.into_iter().enumerate())
+        .map(|(place, cells)| {
+            let of_table = |table: usize| {
+                let ratios = searched.map(|found| found[place].ratios[table]);
+                share(ratios[0].max(ratios[1]))
+            };
+            vec![cells.to_string(), of_table(0), of_table(1)]
+        })
+        .collect();
+    let heads = ["cells", "any table", "built-in table"];
+    text += "\nWorst shots found by hill climbing on grey levels, weights and tables, with and without the legacy flag:\n\n";
+    text + &table(&heads, &rows)
+}
+
+fn share(ratio: f64) -> String {
+    format!("{ratio:.3}")
+}
+
+fn of_many_shots(kinds: &[Kind]) -> [Class; CLASSES.len()] {
     let mut classes = [Class::default(); CLASSES.len()];
     let mut large = 0;
     for given in kinds
@@ -68,34 +132,31 @@ fn of_many_shots(name: &str, kinds: &[Kind]) -> usize {
         let class = CLASSES.iter().position(|&last| cells <= last);
         classes[class.expect("no more than 256")].add(&exact::worst(&read.shot));
     }
-    for (class, last) in classes.iter().zip(CLASSES) {
-        println!(
-            "{name} of up to {last:3} cells: {:5} placed, {:7} placements, farthest {:.6} of what is allowed",
-            class.shots, class.placements, class.ratio
-        );
-    }
-    classes.iter().map(|class| class.broken).sum()
+    classes
+}
+
+/// The worst shots of a search with any table and with the built-in one.
+#[derive(Clone, Copy, Default)]
+struct Found {
+    ratios: [f64; 2],
+    broken: usize,
 }
 
 /// The search starts anew for each number of cells, for errors up and down, and for both kinds of tables.
-fn of_bad_shots(name: &str, legacy: bool) -> usize {
-    let mut broken = 0;
-    for cells in SEARCHED {
-        for (of_table, table) in [
-            ("any table", search::near_the_floor()),
-            ("built-in", built_in_table()),
-        ] {
-            let mut ratio = 0.0f64;
+fn of_bad_shots(legacy: bool) -> [Found; SEARCHED.len()] {
+    SEARCHED.map(|cells| {
+        let mut found = Found::default();
+        let tables = [search::near_the_floor(), built_in_table()];
+        for (ratio, table) in found.ratios.iter_mut().zip(tables) {
             for is_up in [true, false] {
                 let shot = Search::new(table, cells, is_up).run(legacy);
                 let matched = matches::match_shot(&shot, usize::MAX);
                 matched.expect("a search ends with a shot that is placed");
                 let worst = exact::worst(&shot);
-                ratio = ratio.max(worst.ratio.unwrap_or(0.0));
-                broken += usize::from(worst.breaks_the_rule);
+                *ratio = ratio.max(worst.ratio.unwrap_or(0.0));
+                found.broken += usize::from(worst.breaks_the_rule);
             }
-            println!("{name}, {cells:3} cells, {of_table}: farthest {ratio:.6} of what is allowed");
         }
-    }
-    broken
+        found
+    })
 }

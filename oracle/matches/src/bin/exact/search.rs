@@ -1,5 +1,5 @@
-//! A search for shots whose reported evidence is far from the exact one: greys, weights and the table are changed step by
-//! step, and a change stays if the error grows.
+//! A search for shots whose reported evidence is far from the exact one: grey levels, weights and the table are changed step
+//! by step, and a change stays if the error grows.
 //!
 //! The cells lie on the first markers of a board of 32 by 32 squares and show all bits, of 8 by 8. The 256 markers of the upper half
 //! have all bits but for two at most, so that the shot is placed. Those of the lower half have two bits at most: their
@@ -34,7 +34,7 @@ pub fn near_the_floor() -> Table {
     std::array::from_fn(|k| if k <= MIDDLE { floor - k as u32 } else { 0 })
 }
 
-/// Codes of two bits at most, no two of them alike: those of fewer bits first.
+/// Codes of two bits at most, no two of them equal up to rotation: those of fewer bits first.
 fn few_bits() -> Vec<u64> {
     let bit = |k: usize| 1u64 << k;
     let one = (0..ENTRIES).map(bit);
@@ -44,7 +44,7 @@ fn few_bits() -> Vec<u64> {
     least.take(HALF).collect()
 }
 
-/// A cell by the differences of threshold and grey in its bits, 1 to 255, its weight, and the code that it is held against.
+/// A cell by the differences of threshold and grey in its bits, 1 to 255, its weight, and the code that it is compared with.
 #[derive(Clone)]
 struct Row {
     code: u64,
@@ -85,7 +85,7 @@ impl Search {
         }
     }
 
-    /// On a board with the mark of a legacy board, or without it.
+    /// On a board with the legacy flag, or without it.
     pub fn run(mut self, legacy: bool) -> Shot {
         for _ in 0..self.cells {
             self.take_best_cell();
