@@ -55,8 +55,7 @@
  *   At most CHARUCO_MAX_RECORD_BYTES bytes; read one byte more of a file, so that a longer one is refused 21 and not truncated. Numbers are
  *   little-endian. The fields follow each other without gaps, and the last one ends the record. Bytes, and what they are:
  * BEGIN generated record
- *     1                  map byte: presence flags of the next four fields in bits 0 to 3; bit 4 is the legacy flag and adds no field; bits 5 to 7 are
- *                        0
+ *     1                  map byte: presence flags of the next four fields in bits 0 to 3; bit 4, the legacy flag, adds no field; bits 5 to 7 are 0
  *     4, if bit 0        minimum margin: a match with a smaller margin is refused 16; default 0.05 (3D4CCCCD)
  *     4, if bit 1        border threshold: a sampled cell has the weight fraction / border threshold, at most 1, and weight 1 if the border threshold
  *                        is not above 0; default 0.5 (3F000000)
@@ -67,8 +66,8 @@
  *     1                  cols
  *     1                  bits: side of the codes
  *     1                  border: width of a marker's border in bits
- *     4                  cell_size: f32: side of a square, in any unit
- *     4                  marker_size_rel: f32: side of a marker / cell_size
+ *     4                  cell_size: side of a square in any unit, an f32
+ *     4                  marker_size_rel: side of a marker / cell_size, an f32
  *     2                  code count
  *     8 each             codes: by marker id; bit y * bits + x is in column x and row y; 1 is black
  *     2                  cell count n
@@ -76,7 +75,7 @@
  *   then for each cell
  *     2                  u: signed
  *     2                  v: signed
- *     4, if sampled      fraction: f32 from 0 to 1: the part of the marker's border that is black
+ *     4, if sampled      fraction: the part of the marker's border that is black, an f32 from 0 to 1
  *     1, if sampled      threshold: a grey below it is black
  *     side^2, if sampled grid: grey bytes in row-major order, 0 black; side = bits + 2 * border; bit (x, y) of the code is in column border + x and
  *                        row border + y

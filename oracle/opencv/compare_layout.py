@@ -6,9 +6,10 @@ The stored answers (default: ../../crates/replay/stdin, seen from this file)
 have, in the lines of kind 11 and for legacy boards of kind 111, the number of
 markers of a board and two digests of its whole layout; the comment at the top of
 that file defines them. This script computes the same digests from OpenCV's data
-of the board, and a second time from the picture that OpenCV draws of it. Every marker square, corner id and object point comes
-from OpenCV; the one layout rule that is written down here is which boards begin
-with a white square (`Line.begins_white`).
+of the board, and a second time from the picture that OpenCV draws of it. Every
+marker square, corner id and object point comes from OpenCV; the one layout rule
+that is written down here is which boards begin with a white square
+(`Line.begins_white`).
 
 Exit status 0: every size from 2 x 2 to 32 x 32 was compared in both kinds, and
 all agrees. 1: something differs, or a size was not compared.

@@ -179,7 +179,12 @@ mod tests {
 
     #[test]
     fn other_numbers_are_unknown() {
-        for number in [0, 100, u32::MAX] {
+        let next = 1 + MESSAGES
+            .map(|(number, _)| number)
+            .into_iter()
+            .max()
+            .unwrap();
+        for number in [0, next, u32::MAX] {
             assert_eq!(Refusal::new(number, [0; 2]), Refusal::Unknown(number));
             assert!(
                 Refusal::Unknown(number)
