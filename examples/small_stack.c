@@ -36,15 +36,18 @@ static uint32_t links[CHARUCO_MAX_LINKS * CHARUCO_LINK_WORDS];
 
 /* Everything that the entry points return and write. */
 struct answers {
-    uint32_t numbers[9];
+    uint32_t numbers[10];
     uint32_t header[CHARUCO_HEADER_WORDS];
     uint32_t entry[CHARUCO_TABLE_ENTRY_WORDS];
     uint32_t code[CHARUCO_CODE_WORDS];
     uint32_t cell[CHARUCO_CELL_WORDS];
     uint32_t part[CHARUCO_GRID_WORDS];
     uint32_t match[CHARUCO_MATCH_WORDS];
+    uint32_t second_match[CHARUCO_MATCH_WORDS];
     uint32_t counts[3];
     uint32_t markers[CHARUCO_MAX_CELLS * CHARUCO_MARKER_WORDS];
+    uint32_t second_markers[CHARUCO_MAX_CELLS * CHARUCO_MARKER_WORDS];
+    float cell_scores[CHARUCO_MAX_SCORES];
     int32_t cells[CHARUCO_MAX_CELLS * CHARUCO_MARKER_CELL_WORDS];
     uint32_t corners[CHARUCO_MAX_CORNERS * CHARUCO_CORNER_WORDS];
     uint32_t violations[CHARUCO_MAX_LINKS * CHARUCO_VIOLATIONS_PER_LINK * CHARUCO_VIOLATION_WORDS];
@@ -156,6 +159,7 @@ IDLE(cell);
 IDLE(grid);
 IDLE(build_marker_cells);
 IDLE(match_board);
+IDLE(match_board_with_scores);
 IDLE(map_charuco_corners);
 IDLE(validate_marker_corner_links);
 
@@ -174,9 +178,11 @@ ASK(3, cell, record, record_length, CHARUCO_MAX_CELLS - 1, a->cell, LENGTH(a->ce
 ASK(4, grid, record, record_length, CHARUCO_MAX_CELLS - 1, a->part, LENGTH(a->part))
 ASK(5, build_marker_cells, scores, LENGTH(scores), grid, LENGTH(grid), inliers, LENGTH(inliers), a->cells, LENGTH(a->cells), &a->counts[0], 1)
 ASK(6, match_board, record, record_length, a->markers, LENGTH(a->markers), a->match, LENGTH(a->match))
-ASK(7, map_charuco_corners, SIDE, SIDE, BITS, BORDER, 0, 1.0f, 0.75f, codes, LENGTH(codes), scores, LENGTH(scores), grid, LENGTH(grid), 0, 1, 1,
+ASK(7, match_board_with_scores, record, record_length, a->cell_scores, LENGTH(a->cell_scores), a->second_markers, LENGTH(a->second_markers),
+    a->second_match, LENGTH(a->second_match))
+ASK(8, map_charuco_corners, SIDE, SIDE, BITS, BORDER, 0, 1.0f, 0.75f, codes, LENGTH(codes), scores, LENGTH(scores), grid, LENGTH(grid), 0, 1, 1,
     a->corners, LENGTH(a->corners), &a->counts[1], 1)
-ASK(8, validate_marker_corner_links, SIDE, SIDE, BITS, BORDER, 0, 1.0f, 0.75f, codes, LENGTH(codes), links, LENGTH(links),
+ASK(9, validate_marker_corner_links, SIDE, SIDE, BITS, BORDER, 0, 1.0f, 0.75f, codes, LENGTH(codes), links, LENGTH(links),
     CHARUCO_MUST_MATCH_ALL_4, a->violations, LENGTH(a->violations), &a->counts[2], 1)
 
 static const struct {
@@ -191,6 +197,7 @@ static const struct {
     {ask_grid, "charuco_grid", CHARUCO_STACK_GRID},
     {ask_build_marker_cells, "charuco_build_marker_cells", CHARUCO_STACK_BUILD_MARKER_CELLS},
     {ask_match_board, "charuco_match_board", CHARUCO_STACK_MATCH_BOARD},
+    {ask_match_board_with_scores, "charuco_match_board_with_scores", CHARUCO_STACK_MATCH_BOARD_WITH_SCORES},
     {ask_map_charuco_corners, "charuco_map_charuco_corners", CHARUCO_STACK_MAP_CHARUCO_CORNERS},
     {ask_validate_marker_corner_links, "charuco_validate_marker_corner_links", CHARUCO_STACK_VALIDATE_MARKER_CORNER_LINKS},
 };
@@ -286,6 +293,8 @@ int main(void)
           "the board is placed elsewhere");
     check(on_main.match[CHARUCO_MATCH_MARKERS] == CHARUCO_MAX_CELLS / 2, "not every marker was found");
     check(on_main.match[CHARUCO_BEST_CONTRIBUTING_CELLS] == CHARUCO_MAX_CELLS / 2, "the cells on markers' squares are not counted exactly");
+    check(memcmp(on_main.match, on_main.second_match, sizeof on_main.match) == 0
+          && memcmp(on_main.markers, on_main.second_markers, sizeof on_main.markers) == 0, "the match with scores has another result");
     check(memcmp(&on_main, &on_small, sizeof on_main) == 0, "the results differ");
     printf("small_stack: the same results on a stack of %d bytes; record of %lu bytes; stack taken, and the header's limit:\n", STACK_BYTES,
            (unsigned long)record_length);

@@ -16,15 +16,17 @@
  *   Each function makes its checks in the order listed below and returns the number of the first that fails, or CHARUCO_OK.
  *   The result is written to values[0], values[1], ..., truncated to the array's length; later elements are unchanged. On an error it is the
  *   values of the error, which only 7 and 16 have: supply at least CHARUCO_REFUSAL_WORDS words, also where the result is one word.
- *   Every other output array is unchanged on an error; on success its elements after the results are unchanged.
+ *   Every other output array is unchanged on an error, except the scores of charuco_match_board_with_scores on the errors 15, 16 and 17; on success
+ *   its elements after the results are unchanged.
  *   Signed words are in two's complement, floats are bit patterns, every NaN is 7FC00000: copy a word by memcpy into an int32_t or a float.
  *   Checks of each function, in order:
  * BEGIN generated checks
- *     21                                         charuco_read_header, charuco_table_entry, charuco_code, charuco_cell, charuco_grid
- *     18, 14, 20                                 charuco_build_marker_cells
- *     21, 1 to 8, 22, 9 to 12, 23, 13 to 17      charuco_match_board
- *     1 to 8, 22, 18, 14                         charuco_map_charuco_corners
- *     1 to 8, 22, 19, 14                         charuco_validate_marker_corner_links
+ *     21                                                 charuco_read_header, charuco_table_entry, charuco_code, charuco_cell, charuco_grid
+ *     18, 14, 20                                         charuco_build_marker_cells
+ *     21, 1 to 8, 22, 9 to 12, 23, 13 to 17              charuco_match_board
+ *     21, 1 to 8, 22, 9 to 12, 23, 13, 14, 24, 15 to 17  charuco_match_board_with_scores
+ *     1 to 8, 22, 18, 14                                 charuco_map_charuco_corners
+ *     1 to 8, 22, 19, 14                                 charuco_validate_marker_corner_links
  * END generated checks
  *
  * The board
@@ -162,7 +164,8 @@ enum {
     CHARUCO_INVALID_RECORD = 21,             /* Has the record at most 65,535 bytes, no field cut short, no spare bit set, and nothing after its
                                                 last field? */
     CHARUCO_CODES_ALIKE = 22,                /* Are no two codes of markers equal up to rotation? */
-    CHARUCO_REPEATED_POINT = 23              /* Have no two cells, sampled or not, the same (u, v)? */
+    CHARUCO_REPEATED_POINT = 23,             /* Have no two cells, sampled or not, the same (u, v)? */
+    CHARUCO_SCORE_LIST_TOO_SHORT = 24        /* Has the score array cells * markers * 4 elements? */
 };
 /* END generated refusals */
 
@@ -188,6 +191,7 @@ enum {
 /* Limits and their checks. */
 #define CHARUCO_MAX_RECORD_BYTES 65535 /* 21 */
 #define CHARUCO_MAX_CELLS 256          /* 12, 20 */
+#define CHARUCO_MAX_SCORES 524288      /* follows from 6, 12 */
 #define CHARUCO_MAX_CORNERS 1024       /* 18 */
 #define CHARUCO_MAX_CODES 1024         /* 6 */
 #define CHARUCO_MAX_LINKS 4096         /* 19 */
@@ -208,7 +212,8 @@ enum {
 #define CHARUCO_STACK_CELL 216
 #define CHARUCO_STACK_GRID 504
 #define CHARUCO_STACK_BUILD_MARKER_CELLS 22616
-#define CHARUCO_STACK_MATCH_BOARD 20968
+#define CHARUCO_STACK_MATCH_BOARD 22360
+#define CHARUCO_STACK_MATCH_BOARD_WITH_SCORES 22200
 #define CHARUCO_STACK_MAP_CHARUCO_CORNERS 6728
 #define CHARUCO_STACK_VALIDATE_MARKER_CORNER_LINKS 37416
 
@@ -330,6 +335,19 @@ uint32_t charuco_build_marker_cells(const float *scores, size_t scores_len,
 uint32_t charuco_match_board(const uint8_t *bytes, size_t bytes_len,
                              uint32_t *markers, size_t markers_len,
                              uint32_t *values, size_t values_len);
+
+/*
+ * The same match by another search, faster where little of the board is seen and memory allows (README.md says when): it computes every score first
+ * and then looks them up.
+ * scores, output: the score of cell k for marker m after turn r is scores[(k * M + m) * 4 + r], with M markers on the board; +0 for an unsampled
+ * cell. Check 24, after 14, requires number of cells * M * 4 elements, where M is rows * cols / 2, rounded down; CHARUCO_MAX_SCORES suffice for every
+ * record. The elements are filled on success and on the errors 15, 16 and 17; on every other error none changes. Later elements never change.
+ * markers, values: as for charuco_match_board, and equal to those of that function, unless check 24 fails.
+ */
+uint32_t charuco_match_board_with_scores(const uint8_t *bytes, size_t bytes_len,
+                                         float *scores, size_t scores_len,
+                                         uint32_t *markers, size_t markers_len,
+                                         uint32_t *values, size_t values_len);
 
 /* BEGIN generated words-match */
 enum charuco_match_word {

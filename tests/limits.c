@@ -1,7 +1,7 @@
 /*
  * Tests what the header states. Sizes, on both sides of each limit: the most codes and cells of a well-formed record, and the most corners of a
  * board. Arrays of corners: which words check 18 reads, and which corner is taken for an id. The legacy flag, codes that are equal up to rotation,
- * and two cells with the same (u, v).
+ * two cells with the same (u, v), and the score array: its lengths and its elements.
  */
 #include <stdio.h>
 #include <stdlib.h>
@@ -14,6 +14,7 @@ static uint64_t codes[CHARUCO_MAX_CODES];
 static float scores[CHARUCO_MAX_CORNERS];
 static int32_t grid[CHARUCO_MAX_CORNERS * CHARUCO_GRID_POINT_WORDS];
 static uint32_t corners[CHARUCO_MAX_BOARD_CORNERS * CHARUCO_CORNER_WORDS];
+static float cell_scores[CHARUCO_MAX_SCORES + 1];
 
 static void check(int holds, const char *what)
 {
@@ -125,12 +126,12 @@ static void check_mark(void)
     check(violations_with(1) == 0 && violations_with(256) == 0 && violations_with(UINT32_MAX) == 0, "a legacy flag that is not 0 makes no legacy board");
 }
 
-/* Document 01's record with the built-in table and its cell twice, at (u, v) and (x, y); the second is sampled or not. The fraction is 2, so check 13
- * fails for every record that passes check 23. Returns the number of bytes. */
-static size_t put_cells(int u, int v, int x, int y, int sampled)
+/* Document 01's record with the built-in table and its cell twice, at (u, v) and (x, y), with this fraction; the second is sampled or not. Returns the
+ * number of bytes. */
+static size_t put_cells(int u, int v, int x, int y, int sampled, float fraction)
 {
     static const uint8_t front[] = {0, 2, 2, 2, 1, 0, 0, 128, 63, 0, 0, 0, 63, 2, 0, 1, 0, 0, 0, 0, 0, 0, 0, 15, 0, 0, 0, 0, 0, 0, 0, 2, 0};
-    static const uint8_t sample[] = {0, 0, 0, 64, 128, 0, 0, 0, 0, 0, 0, 255, 0, 0, 255, 255, 0, 0, 0, 0, 0};
+    static const uint8_t sample[] = {0, 0, 0, 0, 128, 0, 0, 0, 0, 0, 0, 255, 0, 0, 255, 255, 0, 0, 0, 0, 0};
     const size_t first = sizeof front + 1, second = first + 4 + sizeof sample;
     memcpy(record, front, sizeof front);
     record[sizeof front] = sampled ? 3 : 1;
@@ -140,15 +141,18 @@ static size_t put_cells(int u, int v, int x, int y, int sampled)
     put_u16(second + 2, (size_t)y);
     memcpy(record + first + 4, sample, sizeof sample);
     memcpy(record + second + 4, sample, sizeof sample);
+    memcpy(record + first + 4, &fraction, sizeof fraction);
+    memcpy(record + second + 4, &fraction, sizeof fraction);
     return second + 4 + (sampled ? sizeof sample : 0);
 }
 
-/* The error number of a match of these cells, with an output array of so many words. An error changes no array. */
+/* The error number of a match of these cells, with an output array of so many words. The fraction is 2, so check 13 fails for every record that passes
+ * check 23. An error changes no array. */
 static uint32_t match_cells(int u, int v, int x, int y, int sampled, size_t words)
 {
     uint32_t markers[2 * CHARUCO_MARKER_WORDS] = {0}, match[CHARUCO_MATCH_WORDS] = {0};
     static const uint32_t zeros[2 * CHARUCO_MARKER_WORDS];
-    uint32_t number = charuco_match_board(record, put_cells(u, v, x, y, sampled), markers, words, match, CHARUCO_MATCH_WORDS);
+    uint32_t number = charuco_match_board(record, put_cells(u, v, x, y, sampled, 2.0f), markers, words, match, CHARUCO_MATCH_WORDS);
     check(memcmp(markers, zeros, sizeof markers) == 0 && memcmp(match, zeros, sizeof match) == 0, "a refusal writes to an output array");
     return number;
 }
@@ -168,7 +172,7 @@ static void check_same_cells(void)
           "the last position of a row is refused as the first of the next");
     check(match_cells(4097, 0, 4097, 0, 1, room) == CHARUCO_CELLS_OUT_OF_RANGE, "check 23 is made before check 12");
     check(match_cells(0, 0, 0, 0, 1, 0) == CHARUCO_REPEATED_POINT, "check 14 is made before check 23");
-    const size_t length = put_cells(-1, 2, -1, 2, 1);
+    const size_t length = put_cells(-1, 2, -1, 2, 1, 2.0f);
     check(charuco_read_header(record, length, words, CHARUCO_HEADER_WORDS) == 0 && words[CHARUCO_HEADER_CELLS] == 2, "two cells at the same position are not read");
     for (size_t k = 0; k < 2; k++) {
         check(charuco_cell(record, length, k, words, CHARUCO_CELL_WORDS) == 0 && words[CHARUCO_CELL_STATE] == CHARUCO_CELL_SAMPLED
@@ -176,6 +180,61 @@ static void check_same_cells(void)
         check(charuco_grid(record, length, k, words, CHARUCO_GRID_WORDS) == 0 && words[0] == length - 16 - (1 - k) * 25 && words[1] == 16,
               "the grid of a cell at a duplicate position is not read");
     }
+}
+
+/* The error number of a match with scores, with arrays of so many words and elements. After the call the first n elements are the expected ones; all
+ * others have the NaN that they had before. */
+static uint32_t match_with_scores(size_t length, size_t words, size_t elements, const float *expected, size_t n)
+{
+    uint32_t markers[CHARUCO_MAX_CELLS * CHARUCO_MARKER_WORDS], match[CHARUCO_MATCH_WORDS];
+    memset(cell_scores, 255, sizeof cell_scores);
+    uint32_t number = charuco_match_board_with_scores(record, length, cell_scores, elements, markers, words, match, CHARUCO_MATCH_WORDS);
+    const uint8_t *after = (const uint8_t *)(cell_scores + n);
+    check(memcmp(cell_scores, expected, n * sizeof *expected) == 0, "the score array is not filled as it should be");
+    for (size_t k = 0; k < sizeof cell_scores - n * sizeof *expected; k++)
+        check(after[k] == 255, "an element of the score array is written that should not be");
+    return number;
+}
+
+/* A cell that shows code 1, and an unsampled one to its left, or so far off that no placement has both. A bit that differs adds -6 to a score. */
+static void check_scores(void)
+{
+    static const float expected[16] = {0, -12, -12, -12, -18, -18, -18, -18};
+    const size_t room = 2 * CHARUCO_MARKER_WORDS;
+    for (int x = -1; x >= -9; x -= 8) {
+        const uint32_t number = x == -1 ? CHARUCO_OK : CHARUCO_TRANSLATION_WINDOW;
+        const size_t length = put_cells(0, 0, x, 0, 0, 1.0f);
+        for (size_t elements = 0; elements < 16; elements++) {
+            check(match_with_scores(length, room, elements, expected, 0) == CHARUCO_SCORE_LIST_TOO_SHORT, "a short score array is not refused");
+            check(match_with_scores(length, room - 1, elements, expected, 0) == CHARUCO_LIST_TOO_SHORT, "check 24 is made before check 14");
+        }
+        check(match_with_scores(length, room, 16, expected, 16) == number, "a score array that is just long enough is refused");
+        check(match_with_scores(length, room, 19, expected, 16) == number, "a longer score array is refused");
+        check(match_with_scores(length, room - 1, 19, expected, 0) == CHARUCO_LIST_TOO_SHORT, "check 14 is not made");
+    }
+}
+
+/* 256 unsampled cells on a board of 32 by 32: all scores are 0, and so is the margin. */
+static void check_most_scores(void)
+{
+    static const float zeros[CHARUCO_MAX_SCORES];
+    const float sizes[2] = {1.0f, 0.5f};
+    const size_t n_codes = 512, cells = 15 + 8 * n_codes, first = cells + 2 + CHARUCO_MAX_CELLS / 8;
+    const size_t length = first + 4 * CHARUCO_MAX_CELLS, room = CHARUCO_MAX_CELLS * CHARUCO_MARKER_WORDS;
+    memset(record, 0, sizeof record);
+    record[1] = record[2] = 32;
+    record[3] = 8;
+    record[4] = 1;
+    memcpy(record + 5, sizes, sizeof sizes);
+    put_u16(13, n_codes);
+    memcpy(record + 15, codes, 8 * n_codes);
+    put_u16(cells, CHARUCO_MAX_CELLS);
+    for (size_t k = 0; k < CHARUCO_MAX_CELLS; k++) {
+        put_u16(first + 4 * k, k % 16);
+        put_u16(first + 4 * k + 2, k / 16);
+    }
+    check(match_with_scores(length, room, CHARUCO_MAX_SCORES - 1, zeros, 0) == CHARUCO_SCORE_LIST_TOO_SHORT, "fewer scores are enough");
+    check(match_with_scores(length, room, CHARUCO_MAX_SCORES, zeros, CHARUCO_MAX_SCORES) == CHARUCO_MARGIN, "the most scores are not enough");
 }
 
 int main(void)
@@ -192,6 +251,9 @@ int main(void)
     check_codes_alike();
     check_mark();
     check_same_cells();
-    printf("limits: %d codes, %d cells, %d corners\n", CHARUCO_MAX_RECORD_CODES, CHARUCO_MAX_RECORD_CELLS, CHARUCO_MAX_BOARD_CORNERS);
+    check_scores();
+    check_most_scores();
+    printf("limits: %d codes, %d cells, %d corners, %d scores\n", CHARUCO_MAX_RECORD_CODES, CHARUCO_MAX_RECORD_CELLS, CHARUCO_MAX_BOARD_CORNERS,
+           CHARUCO_MAX_SCORES);
     return 0;
 }

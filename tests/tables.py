@@ -55,6 +55,7 @@ def check_limits():
     per_link = int(re.search(r"leb \((\d+) \* linkCount", specs)[1])
     follows = {
         "corners of a board": (limit["rows"] - 1) ** 2,
+        "scores": limit["cells"] * (limit["rows"] ** 2 // 2) * 4,
         "codes of a record": room // 8,
         "cells of a record": cells,
         "violations of a link": per_link // count_of("violation"),

@@ -40,7 +40,9 @@ def header_refusals():
 
 
 def header_checks():
-    return [f" *     {numbers(entry['entry']):<43}{entry['functions']}" for entry in ENTRIES]
+    checks = [numbers(entry["entry"]) for entry in ENTRIES]
+    width = max(map(len, checks)) + 2
+    return [f" *     {check:<{width}}{entry['functions']}" for check, entry in zip(checks, ENTRIES)]
 
 
 def defines():

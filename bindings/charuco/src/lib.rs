@@ -132,9 +132,28 @@ pub fn build_marker_cells(
 /// Places the board of a shot record. `Ok` means that one placement scores best, not that it is right: see "What a match does not say" in
 /// include/charuco.h.
 pub fn match_board(record: &[u8]) -> Result<Match, Refusal> {
+    matched(record, |markers, values| {
+        words::match_board(record, markers, values)
+    })
+}
+
+/// The same result, from a search that reads scores it has written to `scores`: that of cell k, marker m and turn r is element
+/// (k × markers + m) × 4 + r, and 0 for an unsampled cell. The array needs 4 elements for each cell and marker of the board, at most
+/// [`words::MAX_SCORES`]; later elements are unchanged. It is also written before the refusals 15, 16 and 17, and is unchanged by all others.
+pub fn match_board_with_scores(record: &[u8], scores: &mut [f32]) -> Result<Match, Refusal> {
+    matched(record, |markers, values| {
+        words::match_board_with_scores(record, scores, markers, values)
+    })
+}
+
+/// The match that a function writes to the arrays of markers and values.
+fn matched(
+    record: &[u8],
+    ask: impl FnOnce(&mut [u32], &mut [u32]) -> u32,
+) -> Result<Match, Refusal> {
     let mut markers = vec![0; MAX_CELLS * MARKER_WORDS];
     let values = told::<MATCH_WORDS>(|values| {
-        let number = words::match_board(record, &mut markers, values);
+        let number = ask(&mut markers, values);
         if number == 16 {
             // The library returns only the margin; the minimum is in the record.
             let header = told(|values| words::read_header(record, values)).map(Header::new);

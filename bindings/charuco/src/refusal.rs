@@ -37,6 +37,7 @@ pub enum Refusal {
     InvalidRecord,
     CodesAlike,
     RepeatedPoint,
+    ScoreListTooShort,
     // END generated variants
     /// A number that this crate does not know, from a later library.
     Unknown(u32),
@@ -76,6 +77,7 @@ impl Refusal {
             21 => Self::InvalidRecord,
             22 => Self::CodesAlike,
             23 => Self::RepeatedPoint,
+            24 => Self::ScoreListTooShort,
             // END generated from-number
             _ => Self::Unknown(number),
         }
@@ -107,6 +109,7 @@ impl Refusal {
             Self::InvalidRecord => 21,
             Self::CodesAlike => 22,
             Self::RepeatedPoint => 23,
+            Self::ScoreListTooShort => 24,
             // END generated number
             Self::Unknown(number) => *number,
         }
@@ -115,7 +118,7 @@ impl Refusal {
 
 // BEGIN generated messages
 #[rustfmt::skip]
-const MESSAGES: [(u32, &str); 23] = [
+const MESSAGES: [(u32, &str); 24] = [
     (1, "the board has fewer than 2 rows or fewer than 2 columns"),
     (2, "cell_size is not finite or is not above 0"),
     (3, "marker_size_rel is not finite, is not above 0, or is above 1"),
@@ -139,6 +142,7 @@ const MESSAGES: [(u32, &str); 23] = [
     (21, "the record is above 65,535 bytes, a field is cut short, a spare bit is set, or bytes follow the last field"),
     (22, "the codes of two markers are equal up to rotation"),
     (23, "two cells, sampled or not, have the same position (u, v)"),
+    (24, "the score array has fewer than cells * markers * 4 elements"),
 ];
 // END generated messages
 

@@ -25,6 +25,7 @@ pub const VIOLATION_WORDS: usize = 12;
 // Limits and their checks.
 pub const MAX_RECORD_BYTES: usize = 65535; // 21
 pub const MAX_CELLS: usize = 256; // 12, 20
+pub const MAX_SCORES: usize = 524288; // follows from 6, 12
 pub const MAX_CORNERS: usize = 1024; // 18
 pub const MAX_CODES: usize = 1024; // 6
 pub const MAX_LINKS: usize = 4096; // 19
@@ -79,6 +80,16 @@ unsafe extern "C" {
     fn charuco_match_board(
         bytes: *const u8,
         n: usize,
+        markers: *mut u32,
+        n_markers: usize,
+        values: *mut u32,
+        n_values: usize,
+    ) -> u32;
+    fn charuco_match_board_with_scores(
+        bytes: *const u8,
+        n: usize,
+        scores: *mut f32,
+        n_scores: usize,
         markers: *mut u32,
         n_markers: usize,
         values: *mut u32,
@@ -196,6 +207,26 @@ pub fn match_board(record: &[u8], markers: &mut [u32], values: &mut [u32]) -> u3
         charuco_match_board(
             record.as_ptr(),
             record.len(),
+            markers.as_mut_ptr(),
+            markers.len(),
+            values.as_mut_ptr(),
+            values.len(),
+        )
+    })
+}
+
+pub fn match_board_with_scores(
+    record: &[u8],
+    scores: &mut [f32],
+    markers: &mut [u32],
+    values: &mut [u32],
+) -> u32 {
+    with_default(|| unsafe {
+        charuco_match_board_with_scores(
+            record.as_ptr(),
+            record.len(),
+            scores.as_mut_ptr(),
+            scores.len(),
             markers.as_mut_ptr(),
             markers.len(),
             values.as_mut_ptr(),

@@ -1,8 +1,8 @@
 //! Single requests of document 02, through the wrapper.
 
 use charuco::{
-    BoardSpec, Hypothesis, LinkCheckMode, Refusal, cell, grid, match_board, read_header,
-    validate_marker_corner_links, words,
+    BoardSpec, Hypothesis, LinkCheckMode, Refusal, cell, grid, match_board,
+    match_board_with_scores, read_header, validate_marker_corner_links, words,
 };
 
 const BOARD: BoardSpec = BoardSpec {
@@ -223,4 +223,194 @@ fn contributing_cells_are_counted() {
     // So do cells 0 and 2; cell 3 is unsampled.
     let three = [black, first, Some((0.125, 7)), None, black, weightless];
     assert_eq!(counts(three), (1, 3, true));
+}
+
+/// The codes of `whole_board` after each turn.
+const TURNED: [[u64; 4]; 3] = [[1, 2, 8, 4], [15; 4], [7, 11, 14, 13]];
+
+/// An unsampled cell, two with weight 0, and three of other weights.
+const SEEN: [Seen; 6] = [
+    None,
+    Some((1.0, 1)),
+    Some((0.0, 7)),
+    Some((0.25, 15)),
+    Some((-0.0, 4)),
+    Some((1.0, 13)),
+];
+
+const WEIGHTLESS: [Seen; 6] = [None, Some((0.0, 1)), None, Some((-0.0, 15)), None, None];
+
+/// The record of these cells with the table of document 01's example, by which a bit adds 0 if it is as expected, else -1, and with this minimum
+/// margin.
+fn with_scores_to_tell(cells: [Seen; 6], minimum_margin: f32) -> Vec<u8> {
+    let mut record = whole_board(cells);
+    record[0] = 0x09;
+    let mut fields = minimum_margin.to_le_bytes().to_vec();
+    for entry in [-1.0_f32; 256].into_iter().chain([0.0; 255]) {
+        fields.extend(entry.to_le_bytes());
+    }
+    record.splice(1..1, fields);
+    record
+}
+
+/// Where the number of columns and the number of codes are in such a record.
+const COLS: usize = 1 + 4 + 511 * 4 + 1;
+const CODE_COUNT: usize = COLS + 11;
+
+/// The bit patterns of all scores for so many markers: that of a cell is 0 less the number of bits in which its code is not the marker's.
+fn scores_of(cells: [Seen; 6], markers: usize) -> Vec<u32> {
+    let of_cell = |seen: Seen| {
+        let codes = TURNED[..markers].iter().flatten();
+        codes.map(move |expected| match seen {
+            None => 0.0_f32,
+            Some((_, code)) => 0.0 - (code ^ expected).count_ones() as f32,
+        })
+    };
+    cells
+        .into_iter()
+        .flat_map(of_cell)
+        .map(f32::to_bits)
+        .collect()
+}
+
+/// Quiet and signalling NaNs of both signs, infinities, zeros and other patterns.
+fn lent(places: usize) -> Vec<f32> {
+    let first = [
+        0x7FC0_0000_u32,
+        0x7F80_0001,
+        0xFFFF_FFFF,
+        0xFF80_0001,
+        0x7F80_0000,
+        0x8000_0000,
+        1,
+    ];
+    let patterns = first.into_iter().cycle().zip(0_u32..);
+    patterns
+        .take(places)
+        .map(|(bits, k)| f32::from_bits(bits ^ k << 8 & 0x3F_0000))
+        .collect()
+}
+
+fn bits_of(list: &[f32]) -> Vec<u32> {
+    list.iter().map(|score| score.to_bits()).collect()
+}
+
+/// The result with an array of so many elements, and the array's bit patterns after the call.
+fn asked(record: &[u8], places: usize) -> (Result<charuco::Match, Refusal>, Vec<u32>) {
+    let mut scores = lent(places);
+    let result = match_board_with_scores(record, &mut scores);
+    (result, bits_of(&scores))
+}
+
+/// The array as it is before a call, with these words at its start.
+fn after(written: &[u32], places: usize) -> Vec<u32> {
+    let mut list = bits_of(&lent(places));
+    list[..written.len()].copy_from_slice(written);
+    list
+}
+
+/// 2.6: the scores by cell, then marker, then turn, also those of cells with weight 0. A fourth code is none of a marker.
+#[test]
+fn score_array_is_filled() {
+    let expected = scores_of(SEEN, 3);
+    assert_eq!(expected.len(), 72);
+    let record = with_scores_to_tell(SEEN, 0.05);
+    let mut with_more_codes = record.clone();
+    with_more_codes[CODE_COUNT] = 4;
+    with_more_codes.splice(CODE_COUNT + 26..CODE_COUNT + 26, [0; 8]);
+    for record in [record, with_more_codes] {
+        let placed = match_board(&record).expect("a placed shot");
+        assert_eq!(placed.placements, 2);
+        for places in [72, 73, 80, 400] {
+            let (result, list) = asked(&record, places);
+            assert_eq!(result.as_ref(), Ok(&placed));
+            assert_eq!(list, after(&expected, places));
+        }
+        for places in [0, 1, 36, 71] {
+            let (result, list) = asked(&record, places);
+            assert_eq!(result, Err(Refusal::ScoreListTooShort));
+            assert_eq!(list, bits_of(&lent(places)));
+        }
+    }
+}
+
+/// Refusals 15, 16 and 17 come after the scores. A board of two columns has two markers, and is too narrow for the cells.
+#[test]
+fn later_refusals_leave_the_score_array_filled() {
+    let mut narrow = with_scores_to_tell(SEEN, 0.05);
+    narrow[COLS] = 2;
+    let cases = [
+        (15, narrow, scores_of(SEEN, 2)),
+        (16, with_scores_to_tell(SEEN, 3.0), scores_of(SEEN, 3)),
+        (
+            17,
+            with_scores_to_tell(WEIGHTLESS, -1.0),
+            scores_of(WEIGHTLESS, 3),
+        ),
+    ];
+    for (number, record, expected) in cases {
+        let refusal = match_board(&record).expect_err("a refused shot");
+        assert_eq!(refusal.number(), number);
+        for more in [0, 1, 9] {
+            let places = expected.len() + more;
+            let (result, list) = asked(&record, places);
+            assert_eq!(result, Err(refusal));
+            assert_eq!(list, after(&expected, places), "refused {number}");
+        }
+        let (result, list) = asked(&record, expected.len() - 1);
+        assert_eq!(result, Err(Refusal::ScoreListTooShort));
+        assert_eq!(list, bits_of(&lent(expected.len() - 1)));
+    }
+}
+
+/// Refusals by checks before 24 leave every bit of the score array, whatever its length.
+#[test]
+fn earlier_refusals_leave_the_score_array() {
+    let record = with_scores_to_tell(SEEN, 0.05);
+    let mut no_row = record.clone();
+    no_row[COLS - 1] = 0;
+    let mut bad_fraction = SEEN;
+    bad_fraction[5] = Some((2.0, 13));
+    let cases = [
+        (Refusal::InvalidRecord, record[..record.len() - 1].to_vec()),
+        (Refusal::InvalidSize, no_row),
+        (
+            Refusal::SettingsNotFinite,
+            with_scores_to_tell(SEEN, f32::NAN),
+        ),
+        (
+            Refusal::InvalidSample,
+            with_scores_to_tell(bad_fraction, 0.05),
+        ),
+    ];
+    for (refusal, record) in cases {
+        for places in [0, 1, 71, 72, 80] {
+            let (result, list) = asked(&record, places);
+            assert_eq!(result, Err(refusal));
+            assert_eq!(list, bits_of(&lent(places)));
+        }
+    }
+}
+
+/// 14 before 24, whose refusals change neither array nor `values`; 24 before 15.
+#[test]
+fn score_array_is_checked_after_the_markers() {
+    let mut narrow = with_scores_to_tell(SEEN, 0.05);
+    let whole = narrow.clone();
+    narrow[COLS] = 2;
+    for (record, needed) in [(whole, 72), (narrow, 48)] {
+        for (words, places, number) in [
+            (107, needed, 14),
+            (107, needed - 1, 14),
+            (108, needed - 1, 24),
+        ] {
+            let (mut scores, mut markers, mut values) = (lent(places), vec![9; words], [7; 19]);
+            assert_eq!(
+                words::match_board_with_scores(&record, &mut scores, &mut markers, &mut values),
+                number
+            );
+            assert_eq!(bits_of(&scores), bits_of(&lent(places)));
+            assert_eq!((markers, values), (vec![9; words], [7; 19]));
+        }
+    }
 }

@@ -27,6 +27,16 @@ unsafe extern "C" {
         values: *mut u32,
         n_values: usize,
     ) -> u32;
+    fn charuco_match_board_with_scores(
+        bytes: *const u8,
+        n: usize,
+        scores: *mut f32,
+        n_scores: usize,
+        markers: *mut u32,
+        n_markers: usize,
+        values: *mut u32,
+        n_values: usize,
+    ) -> u32;
 }
 
 /// Calls with a setting of MXCSR, and returns MXCSR after the call.
@@ -54,14 +64,29 @@ struct Question {
     record: Vec<u8>,
     spec: BoardSpec,
     codes: [u64; 1024],
-    markers: [u32; 256 * 18],
+    /// Of a match, and of one with scores.
+    matches: [Matched; 2],
+    scores: Vec<f32>,
     corners: [u32; 961 * 6],
-    numbers: [u32; 2],
-    values: [u32; 19],
+    number: u32,
     count: [u32; 1],
 }
 
-type Answers = (Vec<u32>, Vec<u32>);
+#[derive(Clone)]
+struct Matched {
+    number: u32,
+    values: [u32; 19],
+    markers: [u32; 256 * 18],
+}
+
+const NOTHING: Matched = Matched {
+    number: 0,
+    values: [0; 19],
+    markers: [0; 256 * 18],
+};
+
+/// The words of a match, of one with its scores, and of the corners.
+type Answers = [Vec<u32>; 3];
 
 impl Question {
     fn new(record: Vec<u8>) -> Self {
@@ -72,54 +97,76 @@ impl Question {
                 .expect("a whole record")
                 .expect("a code");
         }
+        let markers = header.spec.rows * header.spec.cols / 2;
         Self {
             spec: header.spec,
             record,
             codes,
-            markers: [0; 256 * 18],
+            matches: [NOTHING; 2],
+            scores: vec![0.0; header.cells * markers as usize * 4],
             corners: [0; 961 * 6],
-            numbers: [0; 2],
-            values: [0; 19],
+            number: 0,
             count: [0; 1],
         }
     }
 
-    /// The words of the match and of the corners; these are then cleared.
+    /// These are then cleared.
     fn take(&mut self) -> Answers {
-        let mut matched = vec![self.numbers[0]];
-        matched.extend(self.values);
-        matched.extend(self.markers);
-        let mut mapped = vec![self.numbers[1], self.count[0]];
+        let [first, mut second] = self.matches.each_ref().map(|matched| {
+            let number = [matched.number];
+            [&number[..], &matched.values, &matched.markers].concat()
+        });
+        second.extend(self.scores.iter().map(|score| score.to_bits()));
+        let mut mapped = vec![self.number, self.count[0]];
         mapped.extend(self.corners);
-        self.markers.fill(0);
+        self.matches = [NOTHING; 2];
+        self.scores.fill(0.0);
         self.corners.fill(0);
-        self.numbers.fill(0);
-        self.values.fill(0);
+        self.number = 0;
         self.count.fill(0);
-        (matched, mapped)
+        [first, second, mapped]
     }
 }
 
 extern "C" fn through_the_crate(q: &mut Question) {
-    q.numbers[0] = words::match_board(&q.record, &mut q.markers, &mut q.values);
+    let [first, second] = &mut q.matches;
+    first.number = words::match_board(&q.record, &mut first.markers, &mut first.values);
+    second.number = words::match_board_with_scores(
+        &q.record,
+        &mut q.scores,
+        &mut second.markers,
+        &mut second.values,
+    );
     let input = CornerInput {
         scores: &[1.0; 4],
         grid: &[1, 0, 0, 1, 1, 0, 1, 2, 1, 1, 0, 4],
         alignment: (0, 1, 1),
     };
-    q.numbers[1] =
-        words::map_charuco_corners(&q.spec, &q.codes, input, &mut q.corners, &mut q.count);
+    q.number = words::map_charuco_corners(&q.spec, &q.codes, input, &mut q.corners, &mut q.count);
 }
 
 extern "C" fn through_c(q: &mut Question) {
-    q.numbers[0] = unsafe {
+    let [first, second] = &mut q.matches;
+    first.number = unsafe {
         charuco_match_board(
             q.record.as_ptr(),
             q.record.len(),
-            q.markers.as_mut_ptr(),
-            q.markers.len(),
-            q.values.as_mut_ptr(),
-            q.values.len(),
+            first.markers.as_mut_ptr(),
+            first.markers.len(),
+            first.values.as_mut_ptr(),
+            first.values.len(),
+        )
+    };
+    second.number = unsafe {
+        charuco_match_board_with_scores(
+            q.record.as_ptr(),
+            q.record.len(),
+            q.scores.as_mut_ptr(),
+            q.scores.len(),
+            second.markers.as_mut_ptr(),
+            second.markers.len(),
+            second.values.as_mut_ptr(),
+            second.values.len(),
         )
     };
 }
@@ -188,7 +235,7 @@ fn answers_do_not_depend_on_the_callers_floats() {
     let sheets = sheets();
     assert!(sheets.len() >= 5);
     let varied = 150;
-    let mut differing = [0; SETTINGS.len()];
+    let mut differing = [[0; 2]; SETTINGS.len()];
     let mut placed = 0;
     for sheet in &sheets {
         for k in 0..=varied {
@@ -203,13 +250,17 @@ fn answers_do_not_depend_on_the_callers_floats() {
                 DEFAULT
             );
             let expected = question.take();
-            placed += usize::from(expected.0[0] == 0);
+            placed += usize::from(expected[0][0] == 0);
             for ((name, setting), differing) in SETTINGS.iter().zip(&mut differing) {
                 let after = under(*setting, &mut question, through_the_crate);
                 assert_eq!(after, *setting, "{name}: MXCSR is not restored");
                 assert!(question.take() == expected, "{name}");
                 under(*setting, &mut question, through_c);
-                *differing += usize::from(question.take().0 != expected.0);
+                // Of the two matches; no corners are asked for.
+                let answers = differing.iter_mut().zip(question.take()).zip(&expected);
+                for ((differing, answer), expected) in answers {
+                    *differing += usize::from(answer != *expected);
+                }
             }
             assert_eq!(under(UNMASKED, &mut question, through_the_crate), UNMASKED);
             assert!(question.take() == expected, "exceptions unmasked");
@@ -217,8 +268,11 @@ fn answers_do_not_depend_on_the_callers_floats() {
     }
     println!("{} records, {placed} placed", sheets.len() * (varied + 1));
     for ((name, _), differing) in SETTINGS.iter().zip(differing) {
-        println!("{name}: {differing} differ when the C function is called directly");
-        assert!(differing > 0, "{name}: no result differs");
+        println!("{name}: {differing:?} differ when the C functions are called directly");
+        assert!(
+            differing.iter().all(|&count| count > 0),
+            "{name}: no result differs"
+        );
     }
     assert!(placed > 0);
 }

@@ -5,6 +5,7 @@ pub mod Answered
 pub mod Passing
 pub mod Placing
 pub mod Accurately
+pub mod Engines
 pub mod Gates
 pub mod Laws
 pub mod Sizes

@@ -1,6 +1,7 @@
 pub mod Questions
 pub mod Entries
 pub mod Match
+pub mod Scores
 pub mod Accuracy
 pub mod Corners
 pub mod Sizes

@@ -13,7 +13,7 @@ use Rattle.refusal.specs.declared.Refusal.{Refusal}
 use Rattle.refusal.specs.declared.Refusal.the-variants as refusal
 use Rattle.refusal.specs.Questions.{ask}
 use Rattle.integers.specs.Tests.{every}
-use Rattle.board.specs.Questions.{askedOfBoard, boardOf}
+use Rattle.board.specs.Questions.{askedOfBoard}
 use Rattle.score_matrix.specs.declared.BoardMatchConfig.{BoardMatchConfig}
 use Rattle.score_matrix.specs.Table.{isTable}
 use Rattle.shot_record.specs.Fields.{gridSize}
@@ -21,6 +21,7 @@ use Rattle.shot_record.specs.Shots.{Sample, Cell, Shot, shot, parse}
 use Rattle.shot_record.specs.Answers.{ofPattern, configOf, specOf}
 use Rattle.points.specs.Points.{allApart}
 use Rattle.hypothesis.specs.Placements.{cell, cellPoint}
+use Rattle.hypothesis.specs.Inputs.{inputsOf}
 use Rattle.board_match.specs.declared.Asked.{Asked}
 use Rattle.board_match.specs.declared.Asked.the-variants as asked
 use Rattle.board_match.specs.declared.questions.Answer.{Answer}
@@ -95,7 +96,7 @@ toldAnswer none = answer.Passed
 toldAnswer (some r) = answer.Refused r
 
 abbrev pub askedWith : Option Refusal → Shot → Asked
-askedWith none s = asked.Passed (boardOf (specOf s)) (configOf s)
+askedWith none s = asked.Passed (inputsOf s)
 askedWith (some r) s = asked.Refused r
 
 abbrev pub askedAnswer : List ℕ → ℕ → Asked

@@ -2,31 +2,35 @@
 ghost use mathlib.Core.Path.{_≡_};
 ghost use mathlib.Core.List.{map};
 ghost use mathlib.Core.Option.{none};
-ghost use lib.ListN.{length};
+ghost use lib.ListN.{length, replicate};
+ghost use Rattle.score_matrix.specs.Table.{builtIn};
 ghost use Rattle.shot_record.specs.Shots.{firstCodes, shot};
 ghost use Rattle.shot_record.specs.Answers.{ofPattern};
 ghost use Rattle.shot_record.specs.Index.{Indexed};
 ghost use Rattle.hypothesis.specs.Search.{enumerate};
+ghost use Rattle.hypothesis.specs.declared.Inputs.{Inputs};
 ghost use Rattle.hypothesis.specs.Inputs.{Loaded};
+ghost use Rattle.board_match.specs.declared.Asked.the-variants as asked;
 ghost use Rattle.board_match.specs.Questions.{askedBefore15, askedAnswer};
 ghost use Rattle.board_match.specs.Match.{matchAnswer, matchList, Gives};
+ghost use Rattle.board_match.specs.Scores.{scoredAnswer, scoredList, scoresLeft, GivesScored};
 ghost use Rattle.board_match.specs.Accuracy.{Accuracy};
 
 mod questions;
 
-use board::Board;
 use board::NewBoard;
 use grid_alignment::GridAlignment;
 use grid_alignment::alignments;
 use hypothesis::Enumerated;
 use hypothesis::Inputs;
 use hypothesis::Selection;
+use hypothesis::lookups;
 use hypothesis::search;
 use questions::Answer;
 use ranking::Choice;
 use ranking::Hypothesis;
 use refusal::Refusal;
-use score_matrix::BoardMatchConfig;
+use score_matrix::table::built_in_table;
 use shot_record::bulk;
 use shot_record::cells;
 use shot_record::fields;
@@ -52,10 +56,7 @@ pub enum Matched {
 
 // A record that may be searched, or the error of the first question before 15 that fails.
 pub enum Asked {
-    Passed {
-        board: Board,
-        config: BoardMatchConfig,
-    },
+    Passed(Inputs),
     Refused(Refusal),
 }
 
@@ -77,7 +78,12 @@ fn before_15(
             let config = fields::config(bytes, f);
             let answer = questions::from_9(bytes, f, config, table, index, words);
             match answer {
-                Answer::Passed => Asked::Passed { board, config },
+                Answer::Passed => Asked::Passed(Inputs {
+                    cells: f.cell_count,
+                    grid_size: f.grid_size,
+                    board,
+                    config,
+                }),
                 Answer::Refused(refusal) => Asked::Refused(refusal),
             }
         }
@@ -121,19 +127,20 @@ fn emit_best(
     })
 }
 
-// Questions 15 to 17.
-fn search_record(
+// Questions 15 to 17, from the result of the search.
+fn place_found(
     bytes: &[u8],
     inputs: Inputs,
     index: &[u32; 768],
     table: &[f32; 511],
     codes: &[u64; 512],
+    found: Enumerated,
     markers: &mut [u32],
 ) -> Matched
-    requires { ⌜ Loaded (now bytes) inputs (now index) (now table) (now codes) × (askedBefore15 (shot (now bytes)) (length (now markers)) ≡ none) ⌝ }
+    requires { ⌜ Loaded (now bytes) inputs (now index) (now table) (now codes) × (found ≡ enumerate (shot (now bytes)))
+        × (askedBefore15 (shot (now bytes)) (length (now markers)) ≡ none) ⌝ }
     ensures { λ r. ⌜ Gives (now (bytes .entry)) (now (markers .entry)) r (now (markers .exit)) ⌝ }
 {
-    let found = search::enumerate_hypotheses(bytes, inputs, index, table, codes);
     match found {
         Enumerated::Absent => Matched::Refused(Refusal::TranslationWindow),
         Enumerated::Selected(selection) => emit_best(
@@ -148,32 +155,91 @@ fn search_record(
     }
 }
 
+// Questions 24 and 15 to 17: between them the score array is filled, and searched.
+fn match_scored(
+    bytes: &[u8],
+    inputs: Inputs,
+    index: &[u32; 768],
+    table: &[f32; 511],
+    codes: &[u64; 512],
+    scores: &mut [f32],
+    markers: &mut [u32],
+) -> Matched
+    requires { ⌜ Loaded (now bytes) inputs (now index) (now table) (now codes) × (askedBefore15 (shot (now bytes)) (length (now markers)) ≡ none) ⌝ }
+    ensures { λ r. ⌜ GivesScored (now (bytes .entry)) (now (scores .entry)) (now (markers .entry)) r (now (scores .exit)) (now (markers .exit)) ⌝ }
+{
+    if !score_list::has_room(inputs, scores.len()) {
+        return Matched::Refused(Refusal::ScoreListTooShort);
+    }
+    score_list::fill(scores, bytes, inputs, index, table, codes);
+    let found = lookups::enumerate_hypotheses(inputs, index, scores);
+    place_found(bytes, inputs, index, table, codes, found, markers)
+}
+
+// Reads table, codes and index of a record, and checks questions 21, 1 to 14, 22 and 23. At entry `table` is the built-in one, and `codes` is cleared.
+fn load(
+    table: &mut [f32; 511],
+    codes: &mut [u64; 512],
+    index: &mut [u32; 768],
+    bytes: &[u8],
+    words: usize,
+) -> Asked
+    requires { ⌜ (now table ≡ builtIn) × (now codes ≡ replicate 512 0) × (length (now index) ≡ 768) ⌝ }
+    ensures answer { λ r. ⌜ r ≡ askedAnswer (now (bytes .entry)) words ⌝ }
+    ensures loaded { λ r. ⌜ ((i : Inputs) → r ≡ asked.Passed i → Loaded (now (bytes .entry)) i (now (index .exit)) (now (table .exit)) (now (codes .exit))) ⌝ }
+{
+    let f = fields::locate(bytes);
+    // Question 21 comes first, so that table, codes and index are read from a whole record only.
+    if !cells::is_whole(bytes, f) {
+        return Asked::Refused(Refusal::InvalidRecord);
+    }
+    bulk::table(table, bytes, f);
+    bulk::codes(codes, bytes, f);
+    index::fill(index, bytes, f);
+    before_15(bytes, f, table, codes, index, words)
+}
+
 // The placement of a shot record on its board. Writes 18 words for each marker to the start of the output array; on error the array does not change.
 pub fn match_board(bytes: &[u8], markers: &mut [u32]) -> Matched
     ensures answer { λ r. ⌜ r ≡ matchAnswer (now (bytes .entry)) (now (markers .entry)) ⌝ }
     ensures list { λ _. ⌜ now (markers .exit) ≡ matchList (now (bytes .entry)) (now (markers .entry)) ⌝ }
     ensures accuracy { λ r. ⌜ Accuracy (now (bytes .entry)) r ⌝ }
 {
-    let f = fields::locate(bytes);
-    // Question 21 comes first, so that table, codes and index are read from a whole record only.
-    if !cells::is_whole(bytes, f) {
-        return Matched::Refused(Refusal::InvalidRecord);
-    }
-    let table = bulk::table(bytes, f);
+    let mut table = built_in_table();
     let mut codes: [u64; 512] = [0; 512];
-    bulk::codes(&mut codes, bytes, f);
     let mut index: [u32; 768] = [0; 768];
-    index::fill(&mut index, bytes, f);
-    let asked = before_15(bytes, f, &table, &codes, &index, markers.len());
+    let asked = load(&mut table, &mut codes, &mut index, bytes, markers.len());
     match asked {
         Asked::Refused(refusal) => Matched::Refused(refusal),
-        Asked::Passed { board, config } => {
-            let inputs = Inputs {
-                fields: f,
-                board,
-                config,
-            };
-            search_record(bytes, inputs, &index, &table, &codes, markers)
+        Asked::Passed(inputs) => {
+            let found = search::enumerate_hypotheses(bytes, inputs, &index, &table, &codes);
+            place_found(bytes, inputs, &index, &table, &codes, found, markers)
         }
+    }
+}
+
+// The same match by another search (document 02, 2.6): it first fills `scores` with the score of each cell for each marker and turn, cells × markers ×
+// 4 elements, and then looks them up. Errors 15 to 17 leave the scores filled; on other errors no array changes.
+pub fn match_board_with_scores(bytes: &[u8], scores: &mut [f32], markers: &mut [u32]) -> Matched
+    ensures answer { λ r. ⌜ r ≡ scoredAnswer (now (bytes .entry)) (now (scores .entry)) (now (markers .entry)) ⌝ }
+    ensures list { λ _. ⌜ now (markers .exit) ≡ scoredList (now (bytes .entry)) (now (scores .entry)) (now (markers .entry)) ⌝ }
+    ensures scores { λ _. ⌜ now (scores .exit) ≡ scoresLeft (now (bytes .entry)) (now (scores .entry)) (now (markers .entry)) ⌝ }
+    ensures accuracy { λ r. ⌜ Accuracy (now (bytes .entry)) r ⌝ }
+{
+    let mut table = built_in_table();
+    let mut codes: [u64; 512] = [0; 512];
+    let mut index: [u32; 768] = [0; 768];
+    let asked = load(&mut table, &mut codes, &mut index, bytes, markers.len());
+    match asked {
+        Asked::Refused(refusal) => Matched::Refused(refusal),
+        Asked::Passed(inputs) => match_scored(
+            bytes,
+            inputs,
+            &index,
+            &table,
+            &codes,
+            scores,
+            markers,
+        ),
     }
 }

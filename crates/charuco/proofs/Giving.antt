@@ -36,6 +36,7 @@ values-are refusal.TooManyCells = refl
 values-are refusal.InvalidRecord = refl
 values-are refusal.CodesAlike = refl
 values-are refusal.RepeatedPoint = refl
+values-are refusal.ScoreListTooShort = refl
 
 -- END generated values-are
 

@@ -1,6 +1,7 @@
 // Match.
 ghost use mathlib.Core.Path.{_≡_};
 ghost use Rattle.board_match.specs.Match.{matchAnswer, matchList};
+ghost use Rattle.board_match.specs.Scores.{scoredAnswer, scoredList, scoresLeft};
 ghost use Rattle.board_match.specs.Accuracy.{Accuracy};
 ghost use Rattle.charuco.specs.Answers.{Tells};
 ghost use Rattle.charuco.specs.Entries.{alignmentWords, evidenceWords, placementWords, choiceWords, contributingTo, matchWords, matchTold};
@@ -113,5 +114,22 @@ pub extern "C" fn charuco_match_board(bytes: &[u8], markers: &mut [u32], values:
     ensures accuracy { λ _. ⌜ Accuracy (now (bytes .entry)) (matchAnswer (now (bytes .entry)) (now (markers .entry))) ⌝ }
 {
     let answer = board_match::match_board(bytes, markers);
+    tell_match(answer, values)
+}
+
+#[no_mangle]
+pub extern "C" fn charuco_match_board_with_scores(
+    bytes: &[u8],
+    scores: &mut [f32],
+    markers: &mut [u32],
+    values: &mut [u32],
+) -> u32
+    ensures answer { λ r. ⌜ Tells (matchTold (scoredAnswer (now (bytes .entry)) (now (scores .entry)) (now (markers .entry)))) r (now (values .entry))
+        (now (values .exit)) ⌝ }
+    ensures list { λ _. ⌜ now (markers .exit) ≡ scoredList (now (bytes .entry)) (now (scores .entry)) (now (markers .entry)) ⌝ }
+    ensures scores { λ _. ⌜ now (scores .exit) ≡ scoresLeft (now (bytes .entry)) (now (scores .entry)) (now (markers .entry)) ⌝ }
+    ensures accuracy { λ _. ⌜ Accuracy (now (bytes .entry)) (scoredAnswer (now (bytes .entry)) (now (scores .entry)) (now (markers .entry))) ⌝ }
+{
+    let answer = board_match::match_board_with_scores(bytes, scores, markers);
     tell_match(answer, values)
 }

@@ -17,6 +17,7 @@ use Rattle.score_matrix.specs.Scores.{Samples, samples, evidence, readCode}
 use Rattle.score_matrix.specs.Weights.{weight}
 use Rattle.shot_record.specs.Shots.{Sample, Shot}
 use Rattle.shot_record.specs.Answers.{ofPattern, configOf, gridWith}
+use Rattle.hypothesis.specs.declared.Inputs.{Inputs}
 use Rattle.hypothesis.specs.Placements.{cellTotal, cell}
 use Rattle.hypothesis.specs.Evidence.{tableOf, expected, codeOf}
 use Rattle.emit.specs.declared.candidates.Candidate.{Candidate}
@@ -65,6 +66,10 @@ markerFrom c code q px =
       fraction = c .fraction;
       corners = rectCorners (c .u) (c .v) px;
     }
+
+-- the samples of a cell, by the board of the search's inputs
+abbrev pub samplesIn : Inputs → ℕ → List ℕ → Samples
+samplesIn i threshold grid = samples (i .board .bits) (i .board .«border_bits») threshold grid
 
 -- emitted if the cell has weight above 0 and evidence above 0
 abbrev pub emittedFrom : BoardMatchConfig → List Float → Samples → Candidate → List Marker

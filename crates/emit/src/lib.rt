@@ -37,18 +37,8 @@ fn emit_expected(
     let Expected::Marker(c) = expected else {
         return at;
     };
-    let board = inputs.board;
-    let grid = index::grid(bytes, inputs.fields, index, c.cell as usize);
-    words::emit_marker(
-        c,
-        grid,
-        board.bits,
-        board.border_bits,
-        inputs.config,
-        table,
-        markers,
-        at,
-    )
+    let grid = index::grid(bytes, inputs.grid_size, index, c.cell as usize);
+    words::emit_marker(c, grid, inputs, table, markers, at)
 }
 
 // Writes 18 words for each marker to the start of the output array. Returns the number of markers.
@@ -66,11 +56,10 @@ pub fn emit_markers(
     ensures count { λ r. ⌜ r ≡ length (markersOf (shot (now (bytes .entry))) alignment) ⌝ }
     ensures list { λ _. ⌜ now (markers .exit) ≡ inFront (flatMap markerWords (markersOf (shot (now (bytes .entry))) alignment)) (now (markers .entry)) ⌝ }
 {
-    let f = inputs.fields;
-    let count = f.cell_count;
+    let cells = inputs.cells;
     let mut at = 0;
     let mut k = 0;
-    while k < count {
+    while k < cells {
         let expected = candidates::expected_in(bytes, inputs, index, codes, alignment, k);
         at = emit_expected(bytes, inputs, index, table, expected, markers, at);
         k += 1;

@@ -5,12 +5,12 @@ ghost use Prim.Native.Nat.{_+_, _*_, _≤_};
 ghost use lib.ListN.{length};
 ghost use lib.IntN.{pos};
 ghost use lib.Ieee.{binary32, div, ofInt};
-ghost use Rattle.score_matrix.specs.Scores.{samples, side};
+ghost use Rattle.shot_record.specs.Fields.{gridSize};
 ghost use Rattle.lent_list.specs.Front.{Put};
 ghost use Rattle.emit.specs.Markers.{markerWords};
-ghost use Rattle.emit.specs.Candidates.{markerFrom, emittedFrom};
+ghost use Rattle.emit.specs.Candidates.{markerFrom, samplesIn, emittedFrom};
 use super::candidates::Candidate;
-use score_matrix::BoardMatchConfig;
+use hypothesis::Inputs;
 use score_matrix::BorderSample;
 use score_matrix::cell;
 
@@ -54,19 +54,20 @@ fn quotient(score: f32, bits: u8) -> f32
 pub fn emit_marker(
     c: Candidate,
     grid: &[u8],
-    bits: u8,
-    border: u8,
-    config: BoardMatchConfig,
+    inputs: Inputs,
     table: &[f32; 511],
     markers: &mut [u32],
     at: usize,
 ) -> usize
-    requires { ⌜ bits ≤ 8 ⌝ }
-    requires { do ⌜ (← ⟦grid.len()⟧) ≡ side bits border * side bits border ⌝ }
-    requires { ⌜ at + length (flatMap markerWords (emittedFrom config (now table) (samples bits border (c .threshold) (now grid)) c)) ≤ length (now markers) ⌝ }
+    requires { ⌜ inputs .board .bits ≤ 8 ⌝ }
+    requires { ⌜ length (now grid) ≡ gridSize (inputs .board .bits) (inputs .board .«border_bits») ⌝ }
+    requires { ⌜ at + length (flatMap markerWords (emittedFrom (inputs .config) (now table) (samplesIn inputs (c .threshold) (now grid)) c)) ≤ length (now markers) ⌝ }
     ensures { λ r. ⌜ Put (now (markers .entry)) (now (markers .exit)) at r
-        (flatMap markerWords (emittedFrom config (now (table .entry)) (samples bits border (c .threshold) (now (grid .entry))) c)) ⌝ }
+        (flatMap markerWords (emittedFrom (inputs .config) (now (table .entry)) (samplesIn inputs (c .threshold) (now (grid .entry))) c)) ⌝ }
 {
+    let config = inputs.config;
+    let bits = inputs.board.bits;
+    let border = inputs.board.border_bits;
     let weight = score_matrix::cell_weight(config, BorderSample::BlackFraction(c.fraction));
     if !(0.0 < weight) {
         return at;

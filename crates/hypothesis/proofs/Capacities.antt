@@ -1,6 +1,8 @@
 -- The capacity of a placement, cell by cell: a cell of the index adds what the shot's cell adds. Assumes nothing.
 use mathlib.Core.Path.{_≡_, refl, sym, ap, ap₂, _∙_}
-use Prim.Native.Nat.{ℕ, suc, _<_}
+use Prim.Native.Nat.{ℕ, zero, suc, _≤_, _<_}
+use native.Mathlib.Nat.{le-refl}
+use native.Mathlib.Omega.{arith}
 use mathlib.Core.Bool.{Bool, true, false, cond}
 use mathlib.Core.List.{List, [], _∷_, foldl, foldl-append}
 use lib.Ieee.{Float, binary32, add, mul, neg, lt}
@@ -13,14 +15,14 @@ use Rattle.board.specs.declared.Numbered.{Numbered}
 use Rattle.board.specs.declared.Numbered.the-variants as numbered
 use Rattle.score_matrix.specs.Scores.{Samples, nullScore}
 use Rattle.lent_list.specs.Front.{upTo}
-use Rattle.shot_record.specs.Shots.{Shot, shot}
+use Rattle.shot_record.specs.Shots.{Shot}
 use Rattle.hypothesis.specs.declared.Inputs.{Inputs}
 use Rattle.hypothesis.specs.Placements.{cellTotal}
 use Rattle.hypothesis.specs.Evidence.{weightOf, samplesOf, expected, Contribution, contributedWith, contributed, contributionsTo, capacityTerm}
-use Rattle.hypothesis.specs.Evidence.{capacitySum}
-use Rattle.hypothesis.specs.Inputs.{Ready}
-use Rattle.hypothesis.specs.Capacity.{withMarker, markerUnder, withCell}
-use Rattle.hypothesis.proofs.IndexedCells.{point-is, weight-is}
+use Rattle.hypothesis.specs.Evidence.{capacitySum, capacity}
+use Rattle.hypothesis.specs.Inputs.{SearchInput}
+use Rattle.hypothesis.specs.Capacity.{withMarker, markerUnder, withCell, capacityTo}
+use Rattle.hypothesis.proofs.IndexedCells.{cells-are, board-is, point-is, weight-is}
 
 -- ---- one more cell
 module _ (s : Shot) (total most : Float) (most-is : most ≡ neg (nullScore (s .bits))) where
@@ -35,18 +37,26 @@ module _ (s : Shot) (total most : Float) (most-is : most ≡ neg (nullScore (s .
   marker-step w x numbered.Absent = refl
   marker-step w x (numbered.Id m) = if-counted (lt nought w) (record { weight = w; samples = x; id = m })
 
-module _ (bytes : List ℕ) (i : Inputs) (index : List ℕ) (ready : Ready bytes i index) (p : GridAlignment) where
-  abbrev s : Shot
-  s = shot bytes
-
+module _ (s : Shot) (i : Inputs) (index : List ℕ) (input : SearchInput s i index) (p : GridAlignment) where
   -- the sum with cell k
-  pub capacity-step : (k : ℕ) → k < cellTotal s → (total most : Float) → total ≡ capacitySum s (contributionsTo s p k)
+  capacity-step : (k : ℕ) → k < cellTotal s → (total most : Float) → total ≡ capacitySum s (contributionsTo s p k)
       → most ≡ neg (nullScore (i .board .bits)) → withCell total most i p index k ≡ capacitySum s (contributionsTo s p (suc k))
   unfolding upTo contributed expected
   capacity-step k h total most so-far most-is =
-      let null = most-is ∙ ap (λ (b : Board). neg (nullScore (b .bits))) (ready .board) in
-      ap₂ (withMarker total most) (weight-is bytes i index ready k h)
-      (ap₂ (λ (b : Board) (q : Coord). markerUnder b (applied p q)) (ready .board) (point-is bytes i index ready k h))
+      let e = board-is s i (input .is) in
+      let null = most-is ∙ ap (λ (b : Board). neg (nullScore (b .bits))) e in
+      ap₂ (withMarker total most) (weight-is s i index input k h)
+      (ap₂ (λ (b : Board) (q : Coord). markerUnder b (applied p q)) e (point-is s i index input k h))
       ∙ marker-step s total most null (weightOf s k) (samplesOf s k) (expected s p k)
       ∙ ap (λ (x : Float). with-cells s x most null (contributed s p k)) so-far
       ∙ sym (foldl-append (λ (x : Float) (c : Contribution). add binary32 x (capacityTerm s c)) nought (contributionsTo s p k) (contributed s p k))
+
+  capacity-to : (k : ℕ) → k ≤ cellTotal s → capacityTo i p index k ≡ capacitySum s (contributionsTo s p k)
+  unfolding capacityTo
+  capacity-to zero h = unfold upTo in refl
+  capacity-to (suc k) h = capacity-step k (omega (arith, h)) (capacityTo i p index k) (neg (nullScore (i .board .bits))) (capacity-to k (omega (arith, h))) refl
+
+  -- all cells
+  pub capacity-is : capacityTo i p index (i .cells) ≡ capacity s p
+  unfolding capacity
+  capacity-is = ap (capacityTo i p index) (cells-are s i (input .is)) ∙ capacity-to (cellTotal s) (le-refl (cellTotal s))

@@ -3,7 +3,6 @@ use mathlib.Core.Path.{_≡_, refl, ap, _∙_}
 use mathlib.Core.Bool.{Bool, true, false, cond}
 use mathlib.Core.List.{[], _∷_}
 use Prim.Native.Nat.{ℕ, _+_, _*_, _/_, _≤_, _<_}
-use native.Mathlib.Nat.{mul-le-mul}
 use native.Mathlib.Omega.{arith}
 use lib.Ieee.{lt}
 use Rattle.floats.specs.Units.{nought}
@@ -12,7 +11,8 @@ use Rattle.grid_alignment.specs.declared.GridAlignment.{GridAlignment}
 use Rattle.board.specs.declared.Numbered.{Numbered}
 use Rattle.board.specs.declared.Numbered.the-variants as numbered
 use Rattle.board.specs.Numbering.{numberIf}
-use Rattle.board.specs.Layout.{parityOf, holdsMarker, markerOn}
+use Rattle.board.specs.Layout.{parityOf, holdsMarker, markerTotal, markerOn}
+use Rattle.board.proofs.Laws.{id-below}
 use Rattle.score_matrix.specs.Scores.{nullScore}
 use Rattle.shot_record.specs.Shots.{Shot}
 use Rattle.hypothesis.specs.declared.sums.Counted.{Counted}
@@ -51,11 +51,11 @@ module _ (s : Shot) (r k : ℕ) (inside : k < cellTotal s) where
     unfolding expected
     expects = ap (λ (q : Coord). markerOn (boardIn s) (q .u) (q .v)) (lands s r a b k inside) ∙ marker-is
 
-    pub id-small : s .cols ≤ 32 → s .rows ≤ 32 → id < 512
-    id-small c h =
-        let f = framed s r k inside in
-        let p : (offsetV s r k + b) * s .cols ≤ 31 * 32 = mul-le-mul {n₂ = 31} {m₂ = 32} (omega (arith, f .high, m, h)) c in
-        omega (arith, p, f .wide, l, c)
+    -- where there is one, its id is that of a marker of the board
+    pub id-known : on ≡ true → id < markerTotal (boardIn s)
+    id-known e =
+        let x = boardIn s in
+        id-below (parityOf x) (x .rows) (x .cols) _ _ id (marker-is ∙ ap (λ (t : Bool). numberIf t id) e)
 
     -- a cell with weight above 0
     abbrev pub share : Contribution

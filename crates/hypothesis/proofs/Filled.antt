@@ -3,7 +3,7 @@ use mathlib.Core.Path.{_≡_, refl, sym, ap, ap₂, _∙_}
 use mathlib.Core.Logic.{inl, inr}
 use mathlib.Core.Bool.{Bool, true, false, cond}
 use mathlib.Core.List.{List, [], _∷_, _++_, append-nil, foldl, foldl-append}
-use Prim.Native.Nat.{ℕ, _+_, _*_, _%_, _≤_, _<_}
+use Prim.Native.Nat.{ℕ, _+_, _*_, _%_, _<_}
 use native.Mathlib.Nat.{eq-or-lt-of-le}
 use native.Mathlib.Numerals.{add-one}
 use native.Mathlib.Omega.{arith}
@@ -28,7 +28,7 @@ use Rattle.hypothesis.specs.Turns.{countAt}
 use Rattle.hypothesis.specs.Filling.{SumsTo, withCounted, CellScores}
 use Rattle.hypothesis.specs.Sums.{plusScore, plusMarker, plusCell, Added}
 use Rattle.hypothesis.proofs.Contributing.{one-if}
-use Rattle.hypothesis.proofs.Contributions.{countedCell, on, share, marker-is, id-small, counts}
+use Rattle.hypothesis.proofs.Contributions.{countedCell, on, share, marker-is, id-known, counts}
 
 -- ---- one more cell in a sum
 abbrev with-cells : Shot → ℕ → Float → List Contribution → Float
@@ -77,8 +77,7 @@ module _ (s : Shot) (r n : ℕ) (sums : List Float) (contributing : Contributing
       }
 
   -- a cell with weight above 0
-  module _ (inside : n < cellTotal s) (small : s .cols ≤ 32) (low : s .rows ≤ 32) (heavy : lt nought (weightOf s n) ≡ true)
-      (score : ℕ → Float) (scores : CellScores s r n score) where
+  module _ (inside : n < cellTotal s) (heavy : lt nought (weightOf s n) ≡ true) (score : ℕ → Float) (scores : CellScores s r n score) where
     abbrev counted : Counted
     counted = countedCell s r n
 
@@ -92,15 +91,15 @@ module _ (s : Shot) (r n : ℕ) (sums : List Float) (contributing : Contributing
       is : contributed s (shifted s r a b) n ≡ cond t (c ∷ []) []
       is = counts s r n inside a b l m heavy
 
-      by-square : (u : Bool) (x : Float) → plusMarker counted score (numberIf u (c .id)) x ≡ with-cells s r x (cond u (c ∷ []) [])
-      by-square true x = ap (λ (z : Float). plusScore (weightOf s n) (nullScore (s .bits)) z x) (scores (c .id) (id-small s r n inside a b l m small low))
-      by-square false x = refl
+      by-square : (u : Bool) → t ≡ u → (x : Float) → plusMarker counted score (numberIf u (c .id)) x ≡ with-cells s r x (cond u (c ∷ []) [])
+      by-square true e x = ap (λ (z : Float). plusScore (weightOf s n) (nullScore (s .bits)) z x) (scores (c .id) (id-known s r n inside a b l m e))
+      by-square false e x = refl
 
       value-is : (x : Float) → x ≡ reportedSum s r (contributionsTo s (shifted s r a b) n)
           → plusCell counted score a b x ≡ reportedSum s r (contributionsTo s (shifted s r a b) (n + 1))
       value-is x e =
           ap (λ (q : Numbered). plusMarker counted score q x) (marker-is s r n inside a b l m)
-          ∙ by-square t x
+          ∙ by-square t refl x
           ∙ ap₂ (with-cells s r) e (sym is)
           ∙ sym (next s r (shifted s r a b) n)
 

@@ -13,8 +13,10 @@ mod Capacities
 pub mod Moves
 pub mod Contributions
 pub mod Filled
+pub mod ScoreLists
 pub mod CountedCells
 pub mod Turned
 pub mod Summed
 pub mod Best
+mod Results
 pub mod OwnBytes

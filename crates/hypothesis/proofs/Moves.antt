@@ -178,13 +178,29 @@ module _ (c : Counted) (across down : ℕ) (stays : Stays c across down) where
         ]
 
     -- the step to the next one
+    pub record Step (at next : Move) (then : List Float) : Type 0 where
+      pub there : OnMarker c down next
+      pub later : order at < order next
+      pub sums : AddedBefore c score across down (order next) entry then
+
+    pub step : (at next : Move) (x : Float) (now then : List Float) → OnMarker c down at → at .a < across → across * down ≤ 1024 → OfMarker c score at x
+        → next ≡ nextMove down at → then ≡ withScore c (at .a * down + at .b) x now → AddedBefore c score across down (order at) entry now → Step at next then
+    step at next x now then h inside room is e f u =
+        let n : FirstFrom down (order at + 1) (order at) next = rw e (next-move at (h .row)) in
+        let there = landed (order at + 1) (at .a) (at .b) next (h .on) n in
+        record {
+          there = there;
+          later = omega (arith, n .from);
+          sums = rw f (passed (order at + 1) (order at) next (withScore c (at .a * down + at .b) x now) there n (written at now x h inside room is u));
+        }
+
+    -- one of eight
     pub added : (v : ℕ → Float) (first : Move) (x : ℕ) (at next : Move) (now then : List Float) → OfEight c score across down first v → x < 8
         → Walked c across down first x at → Walked c across down first (x + 1) next → at .a < across → across * down ≤ 1024 → next ≡ nextMove down at
         → then ≡ withScore c (at .a * down + at .b) (v x) now
         → AddedBefore c score across down (order at) entry now → AddedBefore c score across down (order next) entry then
     added v first x at next now then each l w n inside room e f u =
-        rw f (passed (order at + 1) (order at) next (withScore c (at .a * down + at .b) (v x) now) (n .here) (rw e (next-move at (w .here .row)))
-        (written at now (v x) (w .here) inside room (rw (w .is) (each x l (n .inside))) u))
+        step at next (v x) now then (w .here) inside room (rw (w .is) (each x l (n .inside))) e f u .sums
 
 -- ---- the lanes below x have their codes
 pub record Filled (P : ℕ → ℕ → Type 0) (lanes : List ℕ) (x : ℕ) : Type 0 where

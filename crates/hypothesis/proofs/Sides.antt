@@ -1,7 +1,8 @@
 -- The bounding box of the cells with one more cell; and the frame of a turn is the rotated bounding box, with coordinates as small as those of the
 -- cells. Assumes nothing.
-use mathlib.Core.Path.{_≡_, sym, ap, subst}
-use Prim.Native.Nat.{ℕ, suc, _+_, _-_, _≤_, _<_}
+use mathlib.Core.Path.{_≡_, sym, ap, ap₂, subst, _∙_}
+use mathlib.Core.List.{List}
+use Prim.Native.Nat.{ℕ, zero, suc, _+_, _-_, _≤_, _<_}
 use native.Mathlib.Nat.{mod-eq-of-lt}
 use native.Mathlib.Omega.{arith}
 use lib.IntN.{ℤ, natAbs}
@@ -11,12 +12,15 @@ use Rattle.matcher.proofs.Turns.{each-turn}
 use Rattle.grid_alignment.specs.Alignment.{point, sends}
 use Rattle.grid_alignment.proofs.Entries.{sends-small}
 use Rattle.shot_record.specs.Shots.{Shot}
+use Rattle.shot_record.specs.Index.{uIn, vIn}
+use Rattle.hypothesis.specs.declared.Inputs.{Inputs}
 use Rattle.hypothesis.specs.declared.Frame.{Frame}
 use Rattle.hypothesis.specs.declared.framing.Extremes.{Extremes}
 use Rattle.hypothesis.specs.Placements.{cellTotal, cellPoint, turnedU, turnedV, squares, frame}
-use Rattle.hypothesis.specs.Inputs.{PassedShot}
-use Rattle.hypothesis.specs.Extremes.{extremesTo, extremesWith, us, vs, sidesOf, frameBetween, frameBy}
+use Rattle.hypothesis.specs.Inputs.{PassedShot, SearchInput}
+use Rattle.hypothesis.specs.Extremes.{extremesTo, extremesWith, us, vs, sidesOf, sidesIn, frameBetween, frameBy}
 use Rattle.hypothesis.proofs.Extremes.{Ends, kept, turned-round}
+use Rattle.hypothesis.proofs.IndexedCells.{cells-are}
 
 -- ---- one more number
 pub first-extremes : (f : ℕ → ℤ) (x : ℤ) → x ≡ f 0 → record { least = x; greatest = x } ≡ extremesTo f 0
@@ -59,3 +63,17 @@ module _ (s : Shot) where
         let u = least-reached (turnedU s r) last in
         let v = least-reached (turnedV s r) last in
         (omega (arith, ap natAbs (u .is), near-point (u .k) .0), omega (arith, ap natAbs (v .is), near-point (v .k) .1))
+
+-- ---- the bounding box of an index is that of the shot
+same-extremes : (f g : ℕ → ℤ) (n : ℕ) → ((k : ℕ) → k ≤ n → f k ≡ g k) → extremesTo f n ≡ extremesTo g n
+unfolding leastTo greatestTo
+same-extremes f g zero e = λ i. record { least = e 0 (omega arith) i; greatest = e 0 (omega arith) i }
+same-extremes f g (suc n) e =
+    ap₂ extremesWith (same-extremes f g n (λ k h. e k (omega (arith, h)))) (e (suc n) (omega arith))
+
+pub sides-are : (s : Shot) (i : Inputs) (index : List ℕ) → SearchInput s i index → sidesIn index (i .cells) ≡ sidesOf s
+sides-are s i index input =
+    let below : (k : ℕ) → k ≤ cellTotal s - 1 → k < cellTotal s = λ k h. omega (arith, h, input .passed .some-cell) in
+    let u = same-extremes (uIn index) (us s) (cellTotal s - 1) (λ k h. input .cells k (below k h) .u) in
+    let v = same-extremes (vIn index) (vs s) (cellTotal s - 1) (λ k h. input .cells k (below k h) .v) in
+    ap (sidesIn index) (cells-are s i (input .is)) ∙ (λ j. record { u = u j; v = v j })

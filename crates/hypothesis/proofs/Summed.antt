@@ -1,7 +1,7 @@
 -- The sums and counts of a turn: 0 before the first cell, and after all cells those of its placements. Assumes nothing.
-use mathlib.Core.Path.{_≡_, refl}
-use Prim.Native.Nat.{ℕ, _+_, _*_, _%_, _<_}
-use native.Mathlib.Nat.{mul-le-mul, le-refl, add-mul}
+use mathlib.Core.Path.{_≡_, refl, ap, ap₂}
+use Prim.Native.Nat.{ℕ, zero, suc, _+_, _*_, _%_, _<_}
+use native.Mathlib.Nat.{mul-le-mul, le-refl, add-mul, zero-mul, mul-zero}
 use native.Mathlib.Omega.{arith}
 use mathlib.Core.Bool.{Bool, true, false, cond}
 use mathlib.Core.List.{List, [], _∷_}
@@ -12,10 +12,11 @@ use borrow.Author.Tests.{lt-ltb}
 use Rattle.lent_list.specs.Front.{upTo}
 use Rattle.shot_record.specs.Shots.{Shot}
 use Rattle.ranking.specs.declared.Evidence.the-variants as evidence
+use Rattle.hypothesis.specs.declared.framing.Turn.{Turn}
 use Rattle.hypothesis.specs.declared.turns.Contributing.{Contributing}
 use Rattle.hypothesis.specs.Placements.{cellTotal, movesAcross, movesDown, shifted}
 use Rattle.hypothesis.specs.Evidence.{Contribution, contributions, reportedSum, reportedOver, reported}
-use Rattle.hypothesis.specs.Turns.{countAt, Summed}
+use Rattle.hypothesis.specs.Turns.{countAt, turnOf, Summed}
 use Rattle.hypothesis.specs.Filling.{SumsTo, noneContributing, Cleared}
 
 -- ---- no cell yet
@@ -26,7 +27,7 @@ neither false = refl
 inside : (n d a b : ℕ) → a < n → b < d → a * d + b < n * d
 inside n d a b l m = omega (arith, m, mul-le-mul {n₁ = a + 1} {m₁ = d} {n₂ = n} {m₂ = d} (omega (arith, l)) (le-refl d), add-mul a 1 d)
 
-pub no-cells : (s : Shot) (r : ℕ) (sums : List Float) → Cleared (movesAcross s r * movesDown s r) sums → SumsTo s r 0 sums noneContributing
+no-cells : (s : Shot) (r : ℕ) (sums : List Float) → Cleared (movesAcross s r * movesDown s r) sums → SumsTo s r 0 sums noneContributing
 unfolding upTo
 no-cells s r sums clear =
     record {
@@ -50,3 +51,23 @@ summed s r sums contributing h =
           (h .value a b l m) (h .count a b l m);
       count-is = h .count;
     }
+
+-- ---- a turn of the search
+pub both-above : (m n : ℕ) → (m * n ≡ 0 → ⊥) → (0 < m) × (0 < n)
+both-above zero n h = absurd (h (zero-mul n))
+both-above (suc m) zero h = absurd (h (mul-zero (suc m)))
+both-above (suc m) (suc n) h = (omega arith, omega arith)
+
+module _ (s : Shot) (t : Turn) (is : t ≡ turnOf s (t .turn)) where
+  area : t .across * t .down ≡ movesAcross s (t .turn) * movesDown s (t .turn)
+  area = ap₂ _*_ (ap (λ (y : Turn). y .across) is) (ap (λ (y : Turn). y .down) is)
+
+  -- one without moves has no placement
+  pub none-summed : t .across * t .down ≡ 0 → (sums : List Float) (contributing : Contributing) → Summed s (t .turn) sums contributing
+  none-summed e sums contributing =
+      let none : (a b : ℕ) → a < movesAcross s (t .turn) → b < movesDown s (t .turn) → ⊥ =
+      λ a b l m. omega (arith, e, area, inside (movesAcross s (t .turn)) (movesDown s (t .turn)) a b l m) in
+      record { evidence-is = λ a b l m. absurd (none a b l m); count-is = λ a b l m. absurd (none a b l m) }
+
+  pub begins : (sums : List Float) → Cleared (t .across * t .down) sums → SumsTo s (t .turn) 0 sums noneContributing
+  begins sums clear = no-cells s (t .turn) sums (rw area at clear)

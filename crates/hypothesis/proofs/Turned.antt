@@ -10,7 +10,6 @@ use lib.Ieee.{Float}
 use Rattle.grid_alignment.specs.declared.GridAlignment.{GridAlignment}
 use Rattle.shot_record.specs.Shots.{Shot, list}
 use Rattle.ranking.specs.declared.Evidence.{Evidence}
-use Rattle.ranking.specs.declared.Hypothesis.{Hypothesis}
 use Rattle.ranking.specs.declared.Choice.{Choice}
 use Rattle.ranking.specs.declared.Choice.the-variants as choice
 use Rattle.ranking.specs.declared.Ranking.{Ranking}
@@ -21,13 +20,12 @@ use Rattle.ranking.proofs.OnePass.{pass}
 use Rattle.ranking.proofs.RankedTo.{ranked-same}
 use Rattle.hypothesis.specs.declared.Enumerated.{Enumerated}
 use Rattle.hypothesis.specs.declared.Enumerated.the-variants as enumerated
-use Rattle.hypothesis.specs.declared.Frame.{Frame}
 use Rattle.hypothesis.specs.declared.turns.Contributing.{Contributing}
 use Rattle.hypothesis.specs.Placements.{frame, movesAcross, movesDown, placementAt, withTurnsBelow, placements}
 use Rattle.hypothesis.specs.Evidence.{capacity}
 use Rattle.hypothesis.specs.Search.{hypothesis, best, runnerUp, selected, enumerate}
 use Rattle.hypothesis.specs.Accuracy.{Checked}
-use Rattle.hypothesis.specs.Turns.{Summed, movedTo, rankedTurn, selectionOf}
+use Rattle.hypothesis.specs.Turns.{turnOf, Summed, movedTo, rankedTurn, enumeratedWith}
 use Rattle.hypothesis.proofs.Accuracy.{reported-finite}
 use Rattle.hypothesis.proofs.Places.{start, many, start-next}
 use Rattle.hypothesis.proofs.Placements.{positive}
@@ -65,8 +63,7 @@ module _ (s : Shot) (c : Checked s) where
 
   -- one more turn
   module _ (r : ℕ) (sums : List Float) (contributing : Contributing) (h : Summed s r sums contributing) where
-    moved-is : (j : ℕ) → j < many s r → movedTo sums contributing (frame s r) r (movesDown s r) (j / movesDown s r) (j % movesDown s r)
-        ≡ hypothesis s (placementAt s r j)
+    moved-is : (j : ℕ) → j < many s r → movedTo sums contributing (turnOf s r) (j / movesDown s r) (j % movesDown s r) ≡ hypothesis s (placementAt s r j)
     moved-is j l =
         let d₀ = positive (movesAcross s r) (movesDown s r) j l in
         let a = j / movesDown s r in
@@ -76,18 +73,18 @@ module _ (s : Shot) (c : Checked s) where
         ap₂ (λ (e : Evidence) (n : ℕ). record { alignment = placementAt s r j; evidence = e; «contributing_cells» = n })
         (h .evidence-is a b l₁ l₂) (h .count-is a b l₁ l₂)
 
-    pub turn-ranked : (k : Ranking) (f : Frame) (n d : ℕ) → f ≡ frame s r → n ≡ movesAcross s r → d ≡ movesDown s r
-        → k ≡ rankingOf (map (hypothesis s) (withTurnsBelow s r)) → rankedTurn k sums contributing f r n d ≡ rankingOf (map (hypothesis s) (withTurnsBelow s (r + 1)))
+    pub turn-ranked : (k : Ranking) → k ≡ rankingOf (map (hypothesis s) (withTurnsBelow s r))
+        → rankedTurn k sums contributing (turnOf s r) (movesAcross s r) ≡ rankingOf (map (hypothesis s) (withTurnsBelow s (r + 1)))
     unfolding withTurnsBelow
-    turn-ranked k f n d ef en ed ek =
-        let e : suc r ≡ r + 1 = omega arith in
-        rw (ef, en, ed, ek)
+    turn-ranked k e =
+        let next : suc r ≡ r + 1 = omega arith in
+        rw e
         (ranked-same (rankingOf (map (hypothesis s) (withTurnsBelow s r)))
-        (λ (j : ℕ). movedTo sums contributing (frame s r) r (movesDown s r) (j / movesDown s r) (j % movesDown s r))
+        (λ (j : ℕ). movedTo sums contributing (turnOf s r) (j / movesDown s r) (j % movesDown s r))
         (λ (j : ℕ). hypothesis s (placementAt s r j)) (many s r)
         moved-is
         ∙ listed-ranked (withTurnsBelow s r) (placementAt s r) (many s r)
-        ∙ ap (λ (m : ℕ). rankingOf (map (hypothesis s) (withTurnsBelow s m))) e)
+        ∙ ap (λ (m : ℕ). rankingOf (map (hypothesis s) (withTurnsBelow s m))) next)
 
 -- ---- their number
 module _ (s : Shot) (wide : s .cols ≤ 32) (high : s .rows ≤ 32) where
@@ -113,16 +110,6 @@ module _ (s : Shot) (wide : s .cols ≤ 32) (high : s .rows ≤ 32) where
   pub total-small : (r : ℕ) (k : Ranking) → k ≡ rankingOf (map (hypothesis s) (withTurnsBelow s r)) → k .total ≤ r * 1024
   total-small r k e = rw e (omega (arith, length-map (withTurnsBelow s r) (hypothesis s), start-small r))
 
--- ---- a turn that has no placement
-pub no-placement-ranked : (s : Shot) (r : ℕ) → movesAcross s r * movesDown s r ≡ 0
-    → rankingOf (map (hypothesis s) (withTurnsBelow s r)) ≡ rankingOf (map (hypothesis s) (withTurnsBelow s (r + 1)))
-unfolding withTurnsBelow list
-no-placement-ranked s r none =
-    let e : suc r ≡ r + 1 = omega arith in
-    ap (λ (qs : List GridAlignment). rankingOf (map (hypothesis s) qs))
-    (sym (append-nil (withTurnsBelow s r)) ∙ ap (λ (n : ℕ). withTurnsBelow s r ++ list (placementAt s r) n) (sym none))
-    ∙ ap (λ (m : ℕ). rankingOf (map (hypothesis s) (withTurnsBelow s m))) e
-
 -- ---- before the first turn, and the result after the last
 pub no-turn-ranked : (s : Shot) → rankingOf [] ≡ rankingOf (map (hypothesis s) (withTurnsBelow s 0))
 unfolding withTurnsBelow
@@ -137,19 +124,22 @@ module _ (s : Shot) (k : Ranking) (e : k ≡ rankingOf (map (hypothesis s) (with
   unfolding enumerate
   chosen c h = ap (selected s) (best-ranked ∙ h)
 
-  pub enumerate-absent : k .best ≡ choice.Absent → enumerate s ≡ enumerated.Absent
-  enumerate-absent h = chosen choice.Absent h
-
-  pub enumerate-selected : (b : Hypothesis) → k .best ≡ choice.Placement b → enumerate s ≡ enumerated.Selected (selectionOf k b (capacity s (b .alignment)))
+  -- with the capacity of its best placement
+  pub enumerate-is : (capacities : GridAlignment → Float) → ((p : GridAlignment) → capacities p ≡ capacity s p)
+      → enumeratedWith k (k .best) capacities ≡ enumerate s
   unfolding placements
-  enumerate-selected b h =
-      let answer : Choice → ℕ → Enumerated = λ next n. enumerated.Selected (record {
-        best = b;
-        «runner_up» = next;
-        total = n;
-        margin = margin (b .evidence)
-            (capacity s (b .alignment)) next;
-      }) in
-      chosen (choice.Placement b) h
-      ∙ ap (answer (runnerUp s)) (sym (length-map (placements s) (hypothesis s)))
-      ∙ ap (λ (x : Ranking). answer (x .«runner_up») (x .total)) (sym e)
+  enumerate-is capacities same = go (k .best) refl
+    where
+      go : (c : Choice) → k .best ≡ c → enumeratedWith k c capacities ≡ enumerate s
+      go choice.Absent h = sym (chosen choice.Absent h)
+      go (choice.Placement b) h =
+          let answer : Choice → ℕ → Float → Enumerated = λ next n x. enumerated.Selected (record {
+            best = b;
+            «runner_up» = next;
+            total = n;
+            margin = margin (b .evidence) x next;
+          }) in
+          ap (answer (k .«runner_up») (k .total)) (same (b .alignment))
+          ∙ ap (λ (x : Ranking). answer (x .«runner_up») (x .total) (capacity s (b .alignment))) e
+          ∙ ap (λ (n : ℕ). answer (runnerUp s) n (capacity s (b .alignment))) (length-map (placements s) (hypothesis s))
+          ∙ sym (chosen (choice.Placement b) h)

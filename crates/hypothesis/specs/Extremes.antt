@@ -1,10 +1,12 @@
 -- The bounding box of the cells, and the frame of a turn from it.
 use Prim.Native.Nat.{ℕ, _-_}
+use mathlib.Core.List.{List}
 use lib.IntN.{ℤ}
 use Rattle.integers.specs.Least.{lesser, higher, leastTo, greatestTo}
 use Rattle.grid_alignment.specs.declared.Coord.{Coord}
 use Rattle.grid_alignment.specs.Alignment.{point, sends}
 use Rattle.shot_record.specs.Shots.{Shot}
+use Rattle.shot_record.specs.Index.{uIn, vIn}
 use Rattle.hypothesis.specs.declared.Frame.{Frame}
 use Rattle.hypothesis.specs.declared.framing.Extremes.{Extremes}
 use Rattle.hypothesis.specs.declared.framing.Sides.{Sides}
@@ -24,8 +26,15 @@ us s k = cell s k .u
 abbrev pub vs : Shot → ℕ → ℤ
 vs s k = cell s k .v
 
+abbrev pub sidesBy : (ℕ → ℤ) → (ℕ → ℤ) → ℕ → Sides
+sidesBy u v n = record { u = extremesTo u (n - 1); v = extremesTo v (n - 1) }
+
 abbrev pub sidesOf : Shot → Sides
-sidesOf s = record { u = extremesTo (us s) (cellTotal s - 1); v = extremesTo (vs s) (cellTotal s - 1) }
+sidesOf s = sidesBy (us s) (vs s) (cellTotal s)
+
+-- the bounding box of the first n cells of an index
+abbrev pub sidesIn : List ℕ → ℕ → Sides
+sidesIn index n = sidesBy (uIn index) (vIn index) n
 
 -- the frame with two opposite corners p and q
 abbrev pub frameBetween : Coord → Coord → Frame

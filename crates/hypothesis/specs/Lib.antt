@@ -9,4 +9,5 @@ pub mod Capacity
 pub mod Sums
 pub mod Turns
 pub mod Filling
+pub mod ScoreList
 pub mod OwnBytes

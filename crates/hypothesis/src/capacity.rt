@@ -1,11 +1,8 @@
 // The capacity of a placement: the largest evidence that its contributing cells can attain.
 ghost use mathlib.Core.Path.{_≡_};
-ghost use Prim.Native.Nat.{_<_};
+ghost use Prim.Native.Nat.{_≤_, _<_};
 ghost use Rattle.grid_alignment.specs.Alignment.{NearAlignment};
-ghost use Rattle.shot_record.specs.Shots.{shot};
-ghost use Rattle.hypothesis.specs.Evidence.{capacity as capacityOf};
-ghost use Rattle.hypothesis.specs.Inputs.{Ready};
-ghost use Rattle.hypothesis.specs.Capacity.{withMarker, withCell};
+ghost use Rattle.hypothesis.specs.Capacity.{withMarker, withCell, capacityTo};
 use super::Inputs;
 use board::Numbered;
 use grid_alignment::GridAlignment;
@@ -46,18 +43,17 @@ fn with_cell(
     with_marker(total, most, weight, board.marker_id_at(square.u, square.v))
 }
 
-// A score is at most 0, so a contributing cell adds at most its weight times minus the null score. `bytes` is used only in the contract.
-pub fn capacity(bytes: &[u8], inputs: Inputs, index: &[u32; 768], alignment: GridAlignment) -> f32
-    requires { ⌜ Ready (now bytes) inputs (now index) × NearAlignment alignment ⌝ }
-    ensures { λ r. ⌜ r ≡ capacityOf (shot (now (bytes .entry))) alignment ⌝ }
+// A score is at most 0, so a contributing cell adds at most its weight times minus the null score.
+pub fn capacity(inputs: Inputs, index: &[u32; 768], alignment: GridAlignment) -> f32
+    requires { ⌜ (inputs .cells ≤ 256) × NearAlignment alignment ⌝ }
+    ensures { λ r. ⌜ r ≡ capacityTo inputs alignment (now (index .entry)) (inputs .cells) ⌝ }
 {
-    let fields = inputs.fields;
+    let cells = inputs.cells;
     let board = inputs.board;
-    let count = fields.cell_count;
     let most = -score_matrix::null_score(board.bits);
     let mut total: f32 = 0.0;
     let mut k = 0;
-    while k < count {
+    while k < cells {
         total = with_cell(total, most, inputs, alignment, index, k);
         k += 1;
     }

@@ -1,10 +1,10 @@
-// The frame of a turn, computed by rotating the bounding box of the cells, which is found once.
+// The frame of a turn, computed by rotating the bounding box of the cells, which is found once; and the moves that keep it on the board.
 ghost use mathlib.Core.Path.{_≡_};
-ghost use Rattle.shot_record.specs.Shots.{shot};
-ghost use Rattle.hypothesis.specs.Inputs.{Ready};
-ghost use Rattle.hypothesis.specs.Extremes.{extremesWith, sidesOf, frameBy};
+ghost use Prim.Native.Nat.{_+_, _-_, _≤_, _<_};
+ghost use Rattle.hypothesis.specs.Extremes.{extremesWith, sidesIn, frameBy};
+ghost use Rattle.hypothesis.specs.Turns.{turnWith, NearFrame};
 use super::Frame;
-use super::Inputs;
+use board::Board;
 use shot_record::index;
 
 pub struct Extremes {
@@ -18,6 +18,16 @@ pub struct Sides {
     pub v: Extremes,
 }
 
+// A turn (rotation by 90° × `turn`): the least u and v of its frame, and the number of translations that keep the frame on the board, across and
+// down.
+pub struct Turn {
+    pub turn: u8,
+    pub u: i32,
+    pub v: i32,
+    pub across: usize,
+    pub down: usize,
+}
+
 fn extremes_with(e: Extremes, x: i16) -> Extremes
     ensures { λ r. ⌜ r ≡ extremesWith e x ⌝ }
 {
@@ -26,12 +36,11 @@ fn extremes_with(e: Extremes, x: i16) -> Extremes
     Extremes { least, greatest }
 }
 
-// The bounding box of all cells. `bytes` is used only in the contract.
-pub fn cell_sides(bytes: &[u8], inputs: Inputs, index: &[u32; 768]) -> Sides
-    requires { ⌜ Ready (now bytes) inputs (now index) ⌝ }
-    ensures { λ r. ⌜ r ≡ sidesOf (shot (now (bytes .entry))) ⌝ }
+// The bounding box of the first `cells` cells of the index.
+pub fn cell_sides(index: &[u32; 768], cells: usize) -> Sides
+    requires { ⌜ (0 < cells) × (cells ≤ 256) ⌝ }
+    ensures { λ r. ⌜ r ≡ sidesIn (now (index .entry)) cells ⌝ }
 {
-    let count = inputs.fields.cell_count;
     let first_u = index::u(index, 0);
     let first_v = index::v(index, 0);
     let mut u = Extremes {
@@ -43,7 +52,7 @@ pub fn cell_sides(bytes: &[u8], inputs: Inputs, index: &[u32; 768]) -> Sides
         greatest: first_v,
     };
     let mut k = 0;
-    while k + 1 < count {
+    while k + 1 < cells {
         k += 1;
         u = extremes_with(u, index::u(index, k));
         v = extremes_with(v, index::v(index, k));
@@ -52,7 +61,7 @@ pub fn cell_sides(bytes: &[u8], inputs: Inputs, index: &[u32; 768]) -> Sides
 }
 
 // The frame of a turn, from two opposite corners, rotated.
-pub fn frame(sides: Sides, turn: u8) -> Frame
+fn frame(sides: Sides, turn: u8) -> Frame
     ensures { λ r. ⌜ r ≡ frameBy turn sides ⌝ }
 {
     let u = sides.u;
@@ -64,5 +73,33 @@ pub fn frame(sides: Sides, turn: u8) -> Frame
         v: integers::min(p.v, q.v),
         width: integers::distance(q.u, p.u) + 1,
         height: integers::distance(q.v, p.v) + 1,
+    }
+}
+
+// The number of positions of so many squares on a board side: 0 if they do not fit.
+fn moves(side: u8, squares: usize) -> usize
+    ensures { λ r. ⌜ r ≡ side + 1 - squares ⌝ }
+{
+    let places = side as usize + 1;
+    if places < squares {
+        return 0;
+    }
+    places - squares
+}
+
+// A turn, with the numbers of moves of its frame on the board.
+pub fn turn_of(board: Board, sides: Sides, turn: u8) -> Turn
+    requires { ⌜ NearFrame (frameBy turn sides) ⌝ }
+    ensures { λ r. ⌜ r ≡ turnWith board (frameBy turn sides) turn ⌝ }
+{
+    let frame = frame(sides, turn);
+    let across = moves(board.cols, frame.width);
+    let down = moves(board.rows, frame.height);
+    Turn {
+        turn,
+        u: frame.u,
+        v: frame.v,
+        across,
+        down,
     }
 }

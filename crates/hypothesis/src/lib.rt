@@ -1,7 +1,9 @@
 // Searches all placements of the observed cells on the board for the one with the greatest evidence (hypothesis.rs).
 mod capacity;
+mod counting;
 mod fill;
 mod framing;
+pub mod lookups;
 pub mod search;
 mod sums;
 mod turns;
@@ -10,11 +12,11 @@ use board::Board;
 use ranking::Choice;
 use ranking::Hypothesis;
 use score_matrix::BoardMatchConfig;
-use shot_record::fields::Fields;
 
-// The inputs of the search beside the record, computed from it once.
+// The inputs of the search beside the index of the cells, computed from the record once. `grid_size` is the number of bytes in a cell's grid.
 pub struct Inputs {
-    pub fields: Fields,
+    pub cells: usize,
+    pub grid_size: usize,
     pub board: Board,
     pub config: BoardMatchConfig,
 }

@@ -9,6 +9,7 @@ ghost use lib.Ieee.{Float, nan};
 ghost use Rattle.score_matrix.specs.Likelihoods.{laneCode};
 ghost use Rattle.hypothesis.specs.Sums.{withScore, Added, Stays, order, OnMarker, FirstMove, nextMove, AddedBefore};
 ghost use Rattle.hypothesis.specs.Sums.{codeScore, Small, OfMarker, OfEight, withCode};
+ghost use Rattle.hypothesis.specs.Filling.{Cleared};
 use board::Board;
 use board::squares;
 use score_matrix::turned;
@@ -28,6 +29,18 @@ pub struct Move {
     pub b: usize,
 }
 
+// Sets the first `count` sums to 0.
+pub fn clear(sums: &mut [f32; 1024], count: usize)
+    requires { ⌜ (count ≤ 1024) × (length (now sums) ≡ 1024) ⌝ }
+    ensures { λ _. ⌜ Cleared count (now (sums .exit)) ⌝ }
+{
+    let mut k = 0;
+    while k < count {
+        sums[k] = 0.0;
+        k += 1;
+    }
+}
+
 // The code of the marker on the cell's square after a move.
 fn code_after(codes: &[u64; 512], cell: Counted, at: Move) -> u64
     requires { ⌜ (cell .board .cols ≤ 32) × (cell .board .rows ≤ 32) × (cell .i + at .a < cell .board .cols) × (cell .j + at .b < cell .board .rows) ⌝ }
@@ -38,7 +51,7 @@ fn code_after(codes: &[u64; 512], cell: Counted, at: Move) -> u64
 }
 
 // Adds the cell to the sum of a move, from the score of the expected marker.
-fn add_score(sums: &mut [f32; 1024], cell: Counted, at: Move, down: usize, score: f32)
+pub fn add_score(sums: &mut [f32; 1024], cell: Counted, at: Move, down: usize, score: f32)
     requires { ⌜ at .a * down + at .b < 1024 ⌝ }
     ensures { λ _. ⌜ now (sums .exit) ≡ withScore cell (at .a * down + at .b) score (now (sums .entry)) ⌝ }
 {
@@ -47,7 +60,7 @@ fn add_score(sums: &mut [f32; 1024], cell: Counted, at: Move, down: usize, score
 }
 
 // The first move that puts the cell on a marker. With a return for each first row instead of `b`, a match was measured 3 % slower.
-fn first_move(cell: Counted, down: usize) -> Move
+pub fn first_move(cell: Counted, down: usize) -> Move
     ensures { λ r. ⌜ FirstMove cell down r ⌝ }
 {
     let board = cell.board;
@@ -63,7 +76,7 @@ fn first_move(cell: Counted, down: usize) -> Move
 }
 
 // The next such move: markers are on every second row, and on the other rows of the next column.
-fn next_move(down: usize, at: Move) -> Move
+pub fn next_move(down: usize, at: Move) -> Move
     requires { ⌜ (at .a < 32) × (at .b < 32) ⌝ }
     ensures { λ r. ⌜ r ≡ nextMove down at ⌝ }
 {

@@ -3,10 +3,19 @@
 ghost use mathlib.Core.Path.{_≡_};
 ghost use Prim.Native.Nat.{_<_, _≤_};
 ghost use lib.IntN.{pos, natAbs, _-ℤ_};
-ghost use Rattle.hypothesis.specs.Turns.{countAt, evidenceAt, movedTo, PassesOver, rankedColumn, rankedTurn, selectionOf};
-use super::Frame;
+ghost use Rattle.grid_alignment.specs.declared.GridAlignment.{GridAlignment};
+ghost use Rattle.grid_alignment.specs.Alignment.{NearAlignment};
+ghost use Rattle.ranking.specs.declared.Hypothesis.{Hypothesis};
+ghost use Rattle.ranking.specs.declared.Choice.the-variants as choice;
+ghost use Rattle.hypothesis.specs.Capacity.{capacityTo};
+ghost use Rattle.hypothesis.specs.Turns.{countAt, evidenceAt, movedTo, SmallTurn, PassesOver, rankedColumn, rankedTurn, selectionOf, enumeratedWith};
+use super::Enumerated;
+use super::Inputs;
 use super::Selection;
+use super::capacity;
+use super::framing::Turn;
 use grid_alignment::GridAlignment;
+use ranking::Choice;
 use ranking::Evidence;
 use ranking::Hypothesis;
 use ranking::Ranking;
@@ -59,20 +68,18 @@ fn translation(a: usize, least: i32) -> i32
 fn moved_to(
     sums: &[f32; 1024],
     contributing: Contributing,
-    frame: Frame,
-    turn: u8,
-    down: usize,
+    t: Turn,
     a: usize,
     b: usize,
 ) -> Hypothesis
-    requires { ⌜ (a < 32) × (b < 32) × (down ≤ 32) × (natAbs (frame .u) ≤ 8192) × (natAbs (frame .v) ≤ 8192) ⌝ }
-    ensures { λ r. ⌜ r ≡ movedTo (now (sums .entry)) contributing frame turn down a b ⌝ }
+    requires { ⌜ (a < 32) × (b < 32) × SmallTurn t ⌝ }
+    ensures { λ r. ⌜ r ≡ movedTo (now (sums .entry)) contributing t a b ⌝ }
 {
-    let evidence = placement_sum(sums, contributing, down, a, b);
+    let evidence = placement_sum(sums, contributing, t.down, a, b);
     let alignment = GridAlignment {
-        turn,
-        tx: translation(a, frame.u),
-        ty: translation(b, frame.v),
+        turn: t.turn,
+        tx: translation(a, t.u),
+        ty: translation(b, t.v),
     };
     Hypothesis {
         alignment,
@@ -112,18 +119,17 @@ fn rank_column(
     ranking: Ranking,
     sums: &[f32; 1024],
     contributing: Contributing,
-    frame: Frame,
-    turn: u8,
-    down: usize,
+    t: Turn,
     a: usize,
 ) -> Ranking
-    requires { ⌜ (a < 32) × (down ≤ 32) × (natAbs (frame .u) ≤ 8192) × (natAbs (frame .v) ≤ 8192) × (ranking .total ≤ 4096) ⌝ }
-    ensures { λ r. ⌜ r ≡ rankedColumn ranking (now (sums .entry)) contributing frame turn down a ⌝ }
+    requires { ⌜ (a < 32) × SmallTurn t × (ranking .total ≤ 4096) ⌝ }
+    ensures { λ r. ⌜ r ≡ rankedColumn ranking (now (sums .entry)) contributing t a ⌝ }
 {
+    let down = t.down;
     let mut held = ranking;
     let mut b = next_change(held, sums, contributing, down, a, 0);
     while b < down {
-        held = ranking::ranked(held, moved_to(sums, contributing, frame, turn, down, a, b));
+        held = ranking::ranked(held, moved_to(sums, contributing, t, a, b));
         b = next_change(held, sums, contributing, down, a, b + 1);
     }
     let best = held.best;
@@ -140,25 +146,23 @@ pub fn rank_turn(
     ranking: Ranking,
     sums: &[f32; 1024],
     contributing: Contributing,
-    frame: Frame,
-    turn: u8,
-    across: usize,
-    down: usize,
+    t: Turn,
 ) -> Ranking
-    requires { ⌜ (across ≤ 32) × (down ≤ 32) × (natAbs (frame .u) ≤ 8192) × (natAbs (frame .v) ≤ 8192) × (ranking .total ≤ 3072) ⌝ }
-    ensures { λ r. ⌜ r ≡ rankedTurn ranking (now (sums .entry)) contributing frame turn across down ⌝ }
+    requires { ⌜ (t .across ≤ 32) × SmallTurn t × (ranking .total ≤ 3072) ⌝ }
+    ensures { λ r. ⌜ r ≡ rankedTurn ranking (now (sums .entry)) contributing t (t .across) ⌝ }
 {
+    let across = t.across;
     let mut held = ranking;
     let mut a = 0;
     while a < across {
-        held = rank_column(held, sums, contributing, frame, turn, down, a);
+        held = rank_column(held, sums, contributing, t, a);
         a += 1;
     }
     held
 }
 
 // The result, if there is a best placement.
-pub fn selected(ranking: Ranking, best: Hypothesis, best_capacity: f32) -> Selection
+fn selected(ranking: Ranking, best: Hypothesis, best_capacity: f32) -> Selection
     ensures { λ r. ⌜ r ≡ selectionOf ranking best «best_capacity» ⌝ }
 {
     let evidence = best.evidence;
@@ -168,5 +172,20 @@ pub fn selected(ranking: Ranking, best: Hypothesis, best_capacity: f32) -> Selec
         runner_up,
         total: ranking.total,
         margin: ranking::margin(evidence, best_capacity, runner_up),
+    }
+}
+
+// The result of the search from the ranking of all placements: none if there is no placement.
+pub fn enumerated(ranking: Ranking, inputs: Inputs, index: &[u32; 768]) -> Enumerated
+    requires { ⌜ (inputs .cells ≤ 256) × ((b : Hypothesis) → ranking .best ≡ choice.Placement b → NearAlignment (b .alignment)) ⌝ }
+    ensures { λ r. ⌜ r ≡ enumeratedWith ranking (ranking .best) (λ (p : GridAlignment). capacityTo inputs p (now (index .entry)) (inputs .cells)) ⌝ }
+{
+    let best = ranking.best;
+    match best {
+        Choice::Absent => Enumerated::Absent,
+        Choice::Placement(b) => {
+            let best_capacity = capacity::capacity(inputs, index, b.alignment);
+            Enumerated::Selected(selected(ranking, b, best_capacity))
+        }
     }
 }

@@ -1,2 +1,3 @@
 pub mod Front
 pub mod Parts
+pub mod Scattered

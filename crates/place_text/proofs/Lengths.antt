@@ -152,6 +152,7 @@ number-small refusal.TooManyCells = lit< tt
 number-small refusal.InvalidRecord = lit< tt
 number-small refusal.CodesAlike = lit< tt
 number-small refusal.RepeatedPoint = lit< tt
+number-small refusal.ScoreListTooShort = lit< tt
 
 -- END generated number-small
 

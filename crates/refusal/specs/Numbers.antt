@@ -8,6 +8,7 @@ use Rattle.refusal.specs.declared.Refusal.the-variants.{BoardOutOfRange,
 use Rattle.refusal.specs.declared.Refusal.the-variants.{SettingsNotFinite, InvalidTable, NoCells, CellsOutOfRange, InvalidSample, ListTooShort}
 use Rattle.refusal.specs.declared.Refusal.the-variants.{TranslationWindow, Margin, NoMarkers}
 use Rattle.refusal.specs.declared.Refusal.the-variants.{CornersOutOfRange, TooManyLinks, TooManyCells, InvalidRecord, CodesAlike, RepeatedPoint}
+use Rattle.refusal.specs.declared.Refusal.the-variants.{ScoreListTooShort}
 
 -- error number: the number of the question that failed
 abbrev pub numberOf : Refusal → ℕ
@@ -57,6 +58,8 @@ numberOf InvalidRecord = 21
 numberOf CodesAlike = 22
 -- Are the grid points of the cells distinct?
 numberOf RepeatedPoint = 23
+-- Has the score array cells × markers × 4 elements?
+numberOf ScoreListTooShort = 24
 
 -- the values of an error: 7 needed and available, 16 the margin as its bit pattern
 abbrev pub valuesOf : Refusal → List ℕ
@@ -83,3 +86,4 @@ valuesOf TooManyCells = []
 valuesOf InvalidRecord = []
 valuesOf CodesAlike = []
 valuesOf RepeatedPoint = []
+valuesOf ScoreListTooShort = []

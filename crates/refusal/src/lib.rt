@@ -32,6 +32,7 @@ pub enum Refusal {
     // Document 02: the board, and Match.
     CodesAlike,
     RepeatedPoint,
+    ScoreListTooShort,
 }
 
 impl Refusal {
@@ -66,6 +67,7 @@ impl Refusal {
             Refusal::InvalidRecord => 21,
             Refusal::CodesAlike => 22,
             Refusal::RepeatedPoint => 23,
+            Refusal::ScoreListTooShort => 24,
         }
     }
 

@@ -1,4 +1,4 @@
-// Kinds 5 to E, 10D and 10E: calls of the entry points through their C functions, and the text of `place` for a record.
+// Kinds 5 to E, 19, 10D and 10E: calls of the entry points through their C functions, and the text of `place` for a record.
 use stored_rows::answers;
 use stored_rows::answers::Answer;
 use stored_rows::answers::BEFORE;
@@ -164,5 +164,18 @@ pub fn with_list(bytes: &[u8], words: &[u64], row: [u64; 32], list: &mut [u32]) 
         number,
         words: told,
         digest: answers::of_words(list),
+    }
+}
+
+// Kind 19, which also has a score array: its elements are appended to the digest of the output array.
+pub fn with_scores(bytes: &[u8], scores: &mut [f32], list: &mut [u32]) -> Answer {
+    let mut told = BEFORE;
+    lists::fill(list);
+    lists::fill_scores(scores);
+    let number = charuco::charuco_match_board_with_scores(bytes, scores, list, &mut told);
+    Answer {
+        number,
+        words: told,
+        digest: answers::with_scores(answers::of_words(list), scores),
     }
 }

@@ -46,6 +46,7 @@ fn shape_of(kind: u64) -> Shape {
         0x16 => shape(1, 1),
         0x17 => shape(3, 1),
         0x18 => shape(4, 4),
+        0x19 => shape(2, 19),
         0x10D => shape(14, 2),
         0x10E => shape(11, 2),
         0x111 => shape(3, 3),
@@ -69,6 +70,15 @@ fn answer_with_list(bytes: &[u8], words: &[u64], row: [u64; 32]) -> Answer {
     entries::with_list(bytes, words, row, &mut list[..places])
 }
 
+// Kind 19: lengths of the output array and of the score array.
+fn answer_with_scores(bytes: &[u8], row: [u64; 32]) -> Answer {
+    let mut list: [u32; 4704] = [0; 4704];
+    let mut scores: [f32; 8200] = [0.0; 8200];
+    let places = numbers::least(row[1], 4704);
+    let elements = numbers::least(row[2], 8200);
+    entries::with_scores(bytes, &mut scores[..elements], &mut list[..places])
+}
+
 // The result for a row, from the used bytes and words.
 fn answer(bytes: &[u8], words: &[u64], row: [u64; 32]) -> Answer {
     let kind = numbers::kind(row[0]);
@@ -78,6 +88,7 @@ fn answer(bytes: &[u8], words: &[u64], row: [u64; 32]) -> Answer {
         0xD => answer_with_list(bytes, words, row),
         0xE => answer_with_list(bytes, words, row),
         0xF => texts::of_match(words),
+        0x19 => answer_with_scores(bytes, row),
         _ => {
             if kind < 0x10 {
                 entries::read(bytes, kind, row[1] as usize)

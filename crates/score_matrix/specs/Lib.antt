@@ -4,3 +4,4 @@ pub mod Likelihoods
 pub mod Weights
 pub mod Accuracy
 pub mod Locality
+pub mod Rows

@@ -6,6 +6,7 @@ ghost use Rattle.score_matrix.specs.Weights.{weight};
 
 mod built_in;
 pub mod cell;
+pub mod rows;
 pub mod table;
 pub mod turned;
 

@@ -12,7 +12,8 @@ use mir.Val.{toZ}
 use Rattle.score_matrix.specs.declared.BorderSample.{BorderSample}
 use Rattle.score_matrix.specs.declared.BorderSample.the-variants as border
 use Rattle.shot_record.specs.declared.fields.Fields.{Fields}
-use Rattle.shot_record.specs.Fields.{byte, number, fieldsOf, cellCount, sampled, Point, pointOf, samplePlace, thresholdFrom, gridFrom}
+use Rattle.shot_record.specs.Fields.{byte, number, fieldsOf, cellCount, bitsOf, borderOf, gridSize, sampled, Point, pointOf, samplePlace}
+use Rattle.shot_record.specs.Fields.{thresholdFrom, gridFrom}
 use Rattle.shot_record.specs.Shots.{setting, cellOf, wholeRecord}
 use Rattle.shot_record.specs.Answers.{ofPattern, borderWith, thresholdWith}
 
@@ -72,3 +73,11 @@ Index bytes index = (k : ℕ) → k < cellCount bytes → k < 256 → Entry byte
 -- what a match computes once from a record that passes question 21: its fields, and the index of its cells
 abbrev pub Indexed : List ℕ → Fields → List ℕ → Type 0
 Indexed bytes f index = (f ≡ fieldsOf bytes) × Index bytes index × (wholeRecord bytes ≡ true)
+
+-- cell k of a record with its index, and the length of a grid
+pub record HasGrid (bytes : List ℕ) (size : ℕ) (index : List ℕ) (k : ℕ) : Type 0 where
+  pub indexed : Index bytes index
+  pub whole : wholeRecord bytes ≡ true
+  pub size-is : size ≡ gridSize (bitsOf bytes) (borderOf bytes)
+  pub inside : k < cellCount bytes
+  pub early : k < 256

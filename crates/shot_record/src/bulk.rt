@@ -2,38 +2,36 @@
 ghost use mathlib.Core.Path.{_≡_};
 ghost use mathlib.Core.List.{map};
 ghost use Prim.Native.Nat.{_^_, _≤_};
-ghost use lib.ListN.{replicate};
+ghost use lib.ListN.{length, replicate};
+ghost use Rattle.score_matrix.specs.Table.{builtIn};
 ghost use Rattle.shot_record.specs.Fields.{fieldsOf};
 ghost use Rattle.shot_record.specs.Shots.{numbers as numbersOf, firstCodes, shot};
 ghost use Rattle.shot_record.specs.Answers.{ofPattern};
 use super::fields;
 use super::fields::Fields;
 use super::numbers;
-use score_matrix::table::built_in_table;
 
-// The table that starts at an offset.
-fn table_at(bytes: &[u8], at: usize) -> [f32; 511]
-    requires { ⌜ at ≤ 2 ^ 20 ⌝ }
-    ensures { λ r. ⌜ r ≡ map ofPattern (numbersOf 4 511 at (now (bytes .entry))) ⌝ }
+// Writes the table that starts at an offset.
+fn put_table(entries: &mut [f32; 511], bytes: &[u8], at: usize)
+    requires { ⌜ (at ≤ 2 ^ 20) × (length (now entries) ≡ 511) ⌝ }
+    ensures { λ _. ⌜ now (entries .exit) ≡ map ofPattern (numbersOf 4 511 at (now (bytes .entry))) ⌝ }
 {
-    let mut entries: [f32; 511] = [0.0; 511];
     let mut k = 0;
     while k < 511 {
         entries[k] = numbers::float_at(bytes, at + 4 * k);
         k += 1;
     }
-    entries
 }
 
-// The record's own table, or the built-in one.
-pub fn table(bytes: &[u8], f: Fields) -> [f32; 511]
-    requires { ⌜ f ≡ fieldsOf (now bytes) ⌝ }
-    ensures { λ r. ⌜ r ≡ map ofPattern (shot (now (bytes .entry)) .table) ⌝ }
+// Writes the record's own table, if it has one, over the built-in one, so that no array is copied.
+pub fn table(entries: &mut [f32; 511], bytes: &[u8], f: Fields)
+    requires { ⌜ (f ≡ fieldsOf (now bytes)) × (now entries ≡ builtIn) ⌝ }
+    ensures { λ _. ⌜ now (entries .exit) ≡ map ofPattern (shot (now (bytes .entry)) .table) ⌝ }
 {
     if !fields::sets_table(f) {
-        return built_in_table();
+        return;
     }
-    table_at(bytes, f.table_at)
+    put_table(entries, bytes, f.table_at);
 }
 
 // The first 512 codes, enough for every marker that a board can have; 0 after the last. Writes to an array that the caller has cleared, so that no

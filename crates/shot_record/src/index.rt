@@ -8,7 +8,7 @@ ghost use Rattle.lent_list.specs.Parts.{KeptFrom};
 ghost use Rattle.shot_record.specs.Fields.{fieldsOf, cellCount, AtCell};
 ghost use Rattle.shot_record.specs.Shots.{wholeRecord, cellOf};
 ghost use Rattle.shot_record.specs.Answers.{gridWith};
-ghost use Rattle.shot_record.specs.Index.{wordsOf, withWords, pointIn, uIn, vIn, borderIn, thresholdIn, Index, Indexed};
+ghost use Rattle.shot_record.specs.Index.{wordsOf, withWords, pointIn, uIn, vIn, borderIn, thresholdIn, Index, HasGrid};
 use super::cells;
 use super::cells::Cursor;
 use super::cells::Part;
@@ -98,9 +98,9 @@ pub fn threshold(index: &[u32; 768], k: usize) -> u8
     (index[3 * k + 2] % 256) as u8
 }
 
-// The byte range of the grid of cell k, empty for an unsampled cell.
-fn grid_part(bytes: &[u8], f: Fields, index: &[u32; 768], k: usize) -> Part
-    requires { ⌜ Indexed (now bytes) f (now index) × (k < f .«cell_count») × (k < 256) ⌝ }
+// The byte range of the grid of cell k, empty for an unsampled cell. `size` is the length of a grid.
+fn grid_part(bytes: &[u8], size: usize, index: &[u32; 768], k: usize) -> Part
+    requires { ⌜ HasGrid (now bytes) size (now index) k ⌝ }
     ensures lies { λ r. do ⌜ (r .first ≤ r .end) × (r .end ≤ (← ⟦bytes.len()⟧ .entry)) ⌝ }
     ensures holds { λ r. ⌜ take (r .end - r .first) (drop (r .first) (now (bytes .entry))) ≡ gridWith (cellOf (now (bytes .entry)) k .sample) ⌝ }
 {
@@ -110,15 +110,15 @@ fn grid_part(bytes: &[u8], f: Fields, index: &[u32; 768], k: usize) -> Part
     let first = (index[3 * k + 2] / 256) as usize;
     Part {
         first,
-        end: first + f.grid_size,
+        end: first + size,
     }
 }
 
-pub fn grid<'a>(bytes: &'a [u8], f: Fields, index: &[u32; 768], k: usize) -> &'a [u8]
-    requires { ⌜ Indexed (now bytes) f (now index) × (k < f .«cell_count») × (k < 256) ⌝ }
+pub fn grid<'a>(bytes: &'a [u8], size: usize, index: &[u32; 768], k: usize) -> &'a [u8]
+    requires { ⌜ HasGrid (now bytes) size (now index) k ⌝ }
     ensures { λ r. ⌜ now r ≡ gridWith (cellOf (now (bytes .entry)) k .sample) ⌝ }
 {
-    let part = grid_part(bytes, f, index, k);
+    let part = grid_part(bytes, size, index, k);
     let first = part.first;
     let end = part.end;
     &bytes[first..end]

@@ -127,3 +127,14 @@ pub fn of_signed(list: &[i32]) -> u32 {
     }
     h
 }
+
+// The digest `before` after the bit patterns of more scores.
+pub fn with_scores(before: u32, scores: &[f32]) -> u32 {
+    let mut h = before;
+    let mut i = 0;
+    while i < scores.len() {
+        h = after(h, floats::to_bits(scores[i]));
+        i += 1;
+    }
+    h
+}

@@ -222,6 +222,15 @@ pub fn fill(list: &mut [u32]) {
     }
 }
 
+// The same for a score array, whose elements have these bit patterns.
+pub fn fill_scores(scores: &mut [f32]) {
+    let mut i = 0;
+    while i < scores.len() {
+        scores[i] = floats::from_bits(filling(i));
+        i += 1;
+    }
+}
+
 // The same for signed words.
 pub fn fill_signed() -> [i32; 3000]
     ensures { λ r. ⌜ 3000 ≡ length r ⌝ }

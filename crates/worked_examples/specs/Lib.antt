@@ -1,3 +1,4 @@
 pub mod Table
 pub mod Requests
 pub mod Uses
+pub mod Scores

@@ -2,9 +2,12 @@
 
 use std::ops::RangeInclusive;
 
+/// Numbers of rows, and of columns, that both sides accept.
+pub const SIDES: RangeInclusive<u8> = 2..=32;
+
 /// Rows and columns of every board that both sides accept.
 pub fn sizes() -> impl Iterator<Item = [u8; 2]> {
-    (2..=32).flat_map(|rows| (2..=32).map(move |cols| [rows, cols]))
+    SIDES.flat_map(|rows| SIDES.map(move |cols| [rows, cols]))
 }
 
 /// Numbers that look like small ones when their upper bytes are dropped, and the ends of the range.

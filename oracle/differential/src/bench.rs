@@ -1,4 +1,4 @@
-//! What the benchmarks share. Both sides take their turn in every round.
+//! What the benchmarks share. All sides take their turn in every round.
 
 pub mod heap;
 mod stack;
@@ -21,6 +21,9 @@ const LENGTH_OF_A_ROUND: f64 = 5e6;
 /// A case that takes upstream longer than this has one round.
 const LONG: f64 = 1e9;
 
+/// The sides whose times are divided.
+const RATIOS: [[&str; 2]; 3] = [["ours", "theirs"], ["second", "theirs"], ["second", "ours"]];
+
 /// Runs that are ready to be timed.
 pub type Runs<'a> = Box<dyn FnOnce() + Send + 'a>;
 
@@ -33,13 +36,40 @@ pub fn runs<'a, T>(count: usize, mut call: impl FnMut() -> T + Send + 'a) -> Run
     })
 }
 
+/// One side of a case: its name, and what makes so many runs of it. The output arrays of these runs, and what they use up,
+/// are made before they are timed.
+pub struct Side<'a> {
+    name: &'static str,
+    runs_of: Box<dyn Fn(usize) -> Runs<'a> + 'a>,
+}
+
+impl<'a> Side<'a> {
+    pub fn ours(runs_of: impl Fn(usize) -> Runs<'a> + 'a) -> Self {
+        Self::new("ours", runs_of)
+    }
+
+    /// This library's match with scores.
+    pub fn second(runs_of: impl Fn(usize) -> Runs<'a> + 'a) -> Self {
+        Self::new("second", runs_of)
+    }
+
+    pub fn theirs(runs_of: impl Fn(usize) -> Runs<'a> + 'a) -> Self {
+        Self::new("theirs", runs_of)
+    }
+
+    fn new(name: &'static str, runs_of: impl Fn(usize) -> Runs<'a> + 'a) -> Self {
+        Self {
+            name,
+            runs_of: Box::new(runs_of),
+        }
+    }
+}
+
 pub trait Case {
-    /// The output arrays of these runs, and what they use up, are made before they are timed.
-    fn runs_of_ours(&self, count: usize) -> Runs<'_>;
+    /// Ours first, upstream's last.
+    fn sides(&self) -> Vec<Side<'_>>;
 
-    fn runs_of_theirs(&self, count: usize) -> Runs<'_>;
-
-    /// Do both sides return the same?
+    /// Do all sides return the same?
     fn agrees(&self) -> bool;
 
     /// How many units a run has, by which times are divided.
@@ -53,31 +83,30 @@ pub trait Case {
     }
 }
 
-/// The arguments of a benchmark: `[ours|theirs|both [ROUNDS [CASE]]]`.
+/// The arguments of a benchmark: `[SIDE|all [ROUNDS [CASE]]]`.
 struct Arguments {
-    ours: bool,
-    theirs: bool,
+    /// The name of the side that is run alone.
+    side: Option<String>,
     rounds: usize,
     case: Option<usize>,
 }
 
 impl Arguments {
-    /// None if they are not understood, for a benchmark with so many cases.
-    fn read(cases: usize) -> Option<Self> {
+    /// None if they are not understood, for a benchmark with so many cases and these sides.
+    fn read(cases: usize, sides: &[&str]) -> Option<Self> {
         let words: Vec<String> = std::env::args().skip(1).collect();
-        let side = words.first().map_or("both", String::as_str);
+        let side = words.first().filter(|&side| side != "all").cloned();
         let rounds = words.get(1).map_or(Ok(ROUNDS), |word| word.parse()).ok()?;
         let case = words.get(2).map(|word| word.parse()).transpose().ok()?;
-        let is_known = ["ours", "theirs", "both"].contains(&side)
+        let is_known = side.as_ref().is_none_or(|side| sides.contains(&&side[..]))
             && words.len() <= 3
             && rounds > 0
             && case.is_none_or(|case| case < cases);
-        is_known.then_some(Self {
-            ours: side != "theirs",
-            theirs: side != "ours",
-            rounds,
-            case,
-        })
+        is_known.then_some(Self { side, rounds, case })
+    }
+
+    fn includes(&self, side: &Side) -> bool {
+        self.side.as_ref().is_none_or(|name| name == side.name)
     }
 }
 
@@ -105,9 +134,11 @@ impl Bench {
 
     /// Ends with 1 if the sides differ.
     pub fn run<C: Case>(&self, cases: Vec<(impl Display, C)>) -> ExitCode {
-        let Some(arguments) = Arguments::read(cases.len()) else {
+        let sides = cases.first().map_or(Vec::new(), |(_, case)| case.sides());
+        let sides: Vec<&str> = sides.iter().map(|side| side.name).collect();
+        let Some(arguments) = Arguments::read(cases.len(), &sides) else {
             let program = self.program;
-            eprintln!("usage: {program} [ours|theirs|both [ROUNDS [CASE]]]");
+            eprintln!("usage: {program} [{}|all [ROUNDS [CASE]]]", sides.join("|"));
             return ExitCode::FAILURE;
         };
         warn_of_checks();
@@ -120,41 +151,46 @@ impl Bench {
                 println!("case {number}: {name}");
                 agree &= self.measure(case, &arguments);
                 if self.tells_memory {
-                    print_memory("ours", || case.runs_of_ours(1));
-                    print_memory("theirs", || case.runs_of_theirs(1));
+                    case.sides().iter().for_each(print_memory);
                 }
             }
         }
         ExitCode::from(u8::from(!agree))
     }
 
-    /// Prints the times. Do the answers agree, if both sides are run?
+    /// Prints the times. Do the answers agree, if all sides are run?
     fn measure(&self, case: &impl Case, arguments: &Arguments) -> bool {
         let mut rounds = arguments.rounds;
+        let mut sides = case.sides();
         let count = case.fixed_runs().unwrap_or_else(|| {
-            let length = nanoseconds(case.runs_of_theirs(1));
+            let theirs = sides.last().expect("upstream's side");
+            let length = nanoseconds((theirs.runs_of)(1));
             if length > LONG {
                 rounds = 1;
             }
             runs_of_a_round(length)
         });
         let units = (count * case.units()) as f64;
-        let [mut ours, mut theirs] = [const { Vec::new() }; 2];
+        sides.retain(|side| arguments.includes(side));
+        let mut times = vec![Vec::new(); sides.len()];
         for _ in 0..rounds {
-            if arguments.ours {
-                ours.push(nanoseconds(case.runs_of_ours(count)) / units);
-            }
-            if arguments.theirs {
-                theirs.push(nanoseconds(case.runs_of_theirs(count)) / units);
+            for (side, times) in sides.iter().zip(&mut times) {
+                times.push(nanoseconds((side.runs_of)(count)) / units);
             }
         }
-        let ours = self.print_times("ours", ours);
-        let theirs = self.print_times("theirs", theirs);
-        let (Some(ours), Some(theirs)) = (ours, theirs) else {
+        let times: Vec<(&str, [f64; 2])> = (sides.iter().zip(times))
+            .map(|(side, times)| (side.name, self.print_times(side.name, times)))
+            .collect();
+        let of = |name: &str| times.iter().find(|(side, _)| *side == name);
+        for [one, other] in RATIOS {
+            if let (Some((_, ones)), Some((_, others))) = (of(one), of(other)) {
+                let [best, median] = [0, 1].map(|i| ones[i] / others[i]);
+                println!("    {one} / {other}  best {best:.3}, median {median:.3}");
+            }
+        }
+        if arguments.side.is_some() {
             return true;
-        };
-        let [best, median] = [0, 1].map(|i| ours[i] / theirs[i]);
-        println!("    ours / theirs  best {best:.3},         median {median:.3}");
+        }
         let agrees = case.agrees();
         if !agrees {
             println!("    the answers differ");
@@ -162,13 +198,13 @@ impl Bench {
         agrees
     }
 
-    /// The best round and the median one, unless there is none.
-    fn print_times(&self, side: &str, mut times: Vec<f64>) -> Option<[f64; 2]> {
+    /// The best round and the median one.
+    fn print_times(&self, side: &str, mut times: Vec<f64>) -> [f64; 2] {
         times.sort_by(f64::total_cmp);
-        let [best, median] = [*times.first()?, times[times.len() / 2]];
+        let [best, median] = [times[0], times[times.len() / 2]];
         let unit = self.unit;
         println!("    {side:6}  best {best:8.2} ns a {unit}, median {median:8.2}");
-        Some([best, median])
+        [best, median]
     }
 }
 
@@ -177,18 +213,15 @@ fn runs_of_a_round(length: f64) -> usize {
     (LENGTH_OF_A_ROUND / length).ceil() as usize
 }
 
-/// Makes so many runs of one side of a case.
-pub type Side<'a> = Box<dyn Fn(usize) -> Runs<'a> + 'a>;
-
 /// The best round of each, in nanoseconds a run. All take their turn in every round, so that a slow moment of the machine
 /// meets one round of many cases and not all rounds of one.
 pub fn best_of_each(sides: &[Side]) -> Vec<f64> {
-    let lengths = sides.iter().map(|runs_of| nanoseconds(runs_of(1)));
+    let lengths = sides.iter().map(|side| nanoseconds((side.runs_of)(1)));
     let counts: Vec<usize> = lengths.map(runs_of_a_round).collect();
     let mut best = vec![f64::INFINITY; sides.len()];
     for _ in 0..ROUNDS {
-        for ((runs_of, &count), best) in sides.iter().zip(&counts).zip(&mut best) {
-            *best = best.min(nanoseconds(runs_of(count)) / count as f64);
+        for ((side, &count), best) in sides.iter().zip(&counts).zip(&mut best) {
+            *best = best.min(nanoseconds((side.runs_of)(count)) / count as f64);
         }
     }
     best
@@ -218,10 +251,11 @@ fn checks_overflow() -> bool {
 }
 
 /// What a call uses besides what it is given: the most bytes of the heap at a time, and how deep it goes into the stack.
-fn print_memory<'a>(side: &str, run: impl Fn() -> Runs<'a>) {
-    let heap = heap::most_used(run());
-    let stack = stack::used(run());
-    println!("    {side:6}  {heap:9} bytes of heap, {stack:7} of stack");
+fn print_memory(side: &Side) {
+    let heap = heap::most_used((side.runs_of)(1));
+    let stack = stack::used((side.runs_of)(1));
+    let name = side.name;
+    println!("    {name:6}  {heap:9} bytes of heap, {stack:7} of stack");
 }
 
 /// An entry point whose first word is the number of results.
@@ -244,15 +278,14 @@ impl EntryCase {
 }
 
 impl Case for EntryCase {
-    fn runs_of_ours(&self, count: usize) -> Runs<'_> {
-        let mut values = [0; 2];
-        let mut lent = vec![0; self.input.places()];
-        let ours = self.input.ours();
-        runs(count, move || ours(&mut values, black_box(&mut lent)))
-    }
-
-    fn runs_of_theirs(&self, count: usize) -> Runs<'_> {
-        runs(count, &self.theirs)
+    fn sides(&self) -> Vec<Side<'_>> {
+        let ours = Side::ours(move |count| {
+            let mut values = [0; 2];
+            let mut lent = vec![0; self.input.places()];
+            let ours = self.input.ours();
+            runs(count, move || ours(&mut values, black_box(&mut lent)))
+        });
+        vec![ours, Side::theirs(|count| runs(count, &self.theirs))]
     }
 
     /// Whether there are as many results. Upstream does not refuse too many cells.

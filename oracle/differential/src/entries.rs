@@ -96,6 +96,18 @@ impl Input for Given {
     }
 }
 
+/// The match with scores, whose array is given as bit patterns, so that no NaN loses its own.
+pub fn match_board_with_scores(
+    record: &[u8],
+    scores: &mut [u32],
+    lent: &mut [u32],
+    values: &mut [u32],
+) -> u32 {
+    // SAFETY: these are the words of one slice, and each is as good an f32.
+    let scores = unsafe { from_raw_parts_mut(scores.as_mut_ptr().cast(), scores.len()) };
+    words::match_board_with_scores(record, scores, lent, values)
+}
+
 const fn spec(board: &BoardArguments) -> BoardSpec {
     BoardSpec {
         rows: board.rows,

@@ -9,14 +9,17 @@ mod points;
 mod reach;
 mod repeats;
 mod scene;
+mod score_arrays;
 mod ties;
 
 use crate::answer::MARKER_WORDS;
+use cases::layout::sizes;
 use cases::prng::Prng;
 use records::{Shot, damage, settings, write};
 use std::ops::Range;
 
 pub use scene::{Look, Scene, markers_of};
+pub use score_arrays::{LENGTHS, Length, ScoreArray};
 
 /// A record, and how many words the output array has.
 #[derive(Clone, Debug)]
@@ -75,21 +78,39 @@ pub const OF_COUNTS: usize = 17;
 pub const OF_MANY_CODES: usize = 18;
 
 /// The same kinds of legacy boards, half as many records of each.
-pub const LEGACY_KINDS: [Kind; KINDS.len()] = {
-    let mut kinds = KINDS;
+pub const LEGACY_KINDS: [Kind; KINDS.len()] = of_legacy_boards(KINDS, 2);
+
+/// Further records for score arrays (document 02, 2.6).
+pub const SCORE_KINDS: [Kind; 3] = [
+    kind(
+        "checks next to 24",
+        6_000,
+        Make::Given(score_arrays::next_to_24),
+    )
+    .titled("one fault or two of the checks 14 to 17"),
+    kind("every size", 961, Make::OfSize(score_arrays::of_size)).titled("boards of every size"),
+    shots("most scores", 10, score_arrays::most_scores).titled("256 cells on 32 × 32 squares"),
+];
+
+pub const LEGACY_SCORE_KINDS: [Kind; SCORE_KINDS.len()] = of_legacy_boards(SCORE_KINDS, 1);
+
+/// With as many records of each, divided by this.
+const fn of_legacy_boards<const N: usize>(mut kinds: [Kind; N], divisor: usize) -> [Kind; N] {
     let mut place = 0;
-    while place < kinds.len() {
+    while place < N {
         kinds[place].legacy = true;
-        kinds[place].count /= 2;
+        kinds[place].count /= divisor;
         place += 1;
     }
     kinds
-};
+}
 
-/// A shot gets an output array with room for each cell. The second argument is the legacy flag.
+/// A shot gets an output array with room for each cell. The last argument is the legacy flag.
 #[derive(Clone, Copy)]
 enum Make {
     Shot(fn(&mut Prng, bool) -> Shot),
+    /// The shots are of all sizes in turn.
+    OfSize(fn(&mut Prng, [u8; 2], bool) -> Shot),
     Given(fn(&mut Prng, bool) -> Given),
 }
 
@@ -123,9 +144,14 @@ impl Kind {
         let first = if self.legacy { 21u64 } else { 7 };
         let seed = name.fold(first, |seed, byte| seed.wrapping_mul(1_000_003) ^ byte);
         let mut prng = Prng::new(seed);
-        (0..count).map(move |_| match self.make {
+        let sizes = sizes().collect::<Vec<_>>().into_iter().cycle();
+        sizes.take(count).map(move |size| match self.make {
             Make::Shot(make) => {
                 let shot = make(&mut prng, self.legacy);
+                with_places(&mut prng, shot)
+            }
+            Make::OfSize(make) => {
+                let shot = make(&mut prng, size, self.legacy);
                 with_places(&mut prng, shot)
             }
             Make::Given(make) => make(&mut prng, self.legacy),

@@ -9,6 +9,7 @@ pub mod given;
 mod model;
 mod questions;
 mod rust;
+pub mod scores;
 mod text;
 mod turned;
 mod wide;
@@ -18,8 +19,8 @@ pub use answer::{
     Selected, told,
 };
 pub use questions::{
-    by_rust_and_model, by_rust_without_22, by_rust_without_23, by_turned_rust_and_model,
-    match_record, match_shot,
+    WithScores, by_rust_and_model, by_rust_without_22, by_rust_without_23,
+    by_turned_rust_and_model, match_record, match_record_with_scores, match_shot,
 };
 pub use rust::{Matching, Samples};
 pub use text::text;

@@ -1,6 +1,6 @@
 //! The match by the rules of document 01 alone, for tables that no formula gives and for legacy boards with an even row
 //! count: naive, sentence by sentence, without upstream. It is compared with upstream, also for such boards, which are
-//! rotated for it (`turned.rs`), where there is a formula.
+//! rotated for it (`turned.rs`), where there is a formula. All scores of a shot, for a match with scores, are here too.
 
 use crate::answer::{Alignment, Hypothesis, Marker, Matched, Placed, Selected, below_minimum};
 use cases::answer::Answer;
@@ -189,6 +189,19 @@ impl<'a> Model<'a> {
     fn score(&self, cell: usize, id: usize, turn: u8) -> f32 {
         let entries = self.entries(cell, id, turn);
         entries.fold(0.0, |sum, entry| sum + entry)
+    }
+
+    /// By cell, then marker, then rotation; 0 for a cell that is not sampled.
+    pub fn scores(&self) -> Vec<f32> {
+        let markers = self.markers.iter().flatten().count();
+        let of_cell = |cell: usize| {
+            let is_sampled = self.grids[cell].is_some();
+            (0..4 * markers).map(move |place| match is_sampled {
+                true => self.score(cell, place / 4, (place % 4) as u8),
+                false => 0.0,
+            })
+        };
+        (0..self.grids.len()).flat_map(of_cell).collect()
     }
 
     fn bit_count(&self) -> f32 {

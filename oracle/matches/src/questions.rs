@@ -1,9 +1,10 @@
-//! The checks of the match in their order. Those that upstream has it makes itself: 1 to 5 and 7 when a board is made, 11
-//! and 15 to 17 in the matcher. The rule for the added ones is here and in `theirs`. Shots of boards with codes that are
-//! equal up to rotation are refused by 22, and shots with two cells at the same position by 23, so that nothing else of them
-//! is compared with upstream, which places them.
+//! The checks of the match in their order, and of the match with scores, which makes one more, 24 after 14. Those that
+//! upstream has it makes itself: 1 to 5 and 7 when a board is made, 11 and 15 to 17 in the matcher. The rule for the added
+//! ones is here and in `theirs`. Shots of boards with codes that are equal up to rotation are refused by 22, and shots with
+//! two cells at the same position by 23, so that nothing else of them is compared with upstream, which places them.
 
-use crate::answer::{MARKER_WORDS, Matched};
+use crate::answer::{MARKER_WORDS, Matched, told};
+use crate::scores;
 use crate::turned::{self, Compared, TurnedShot};
 use crate::{model, rust};
 use calib_targets_charuco::CharucoBoard;
@@ -18,6 +19,68 @@ use theirs::{accepted_board, board_up_to_8, is_table, likelihood_table};
 
 const MOST_CELLS: usize = 256;
 
+/// How long the caller's arrays are.
+#[derive(Clone, Copy)]
+struct Lengths {
+    /// Words of the output array.
+    places: usize,
+    /// Elements of the score array. A match without one has room enough.
+    scores: usize,
+}
+
+impl Lengths {
+    const ENOUGH: Self = Self::without_scores(usize::MAX);
+
+    const fn without_scores(places: usize) -> Self {
+        Self {
+            places,
+            scores: usize::MAX,
+        }
+    }
+}
+
+/// What is expected of a match with scores (document 02, 2.6).
+pub struct WithScores {
+    pub answer: Answer,
+    /// What the score array has from its start on, as bit patterns; nothing after a refusal before 15.
+    pub scores: Vec<u32>,
+    /// Where these are upstream's: the same by the oracle's rule.
+    pub by_rule: Option<Vec<u32>>,
+}
+
+impl WithScores {
+    fn refused(answer: Answer) -> Self {
+        Self {
+            answer,
+            scores: Vec::new(),
+            by_rule: None,
+        }
+    }
+}
+
+/// For a record, an output array of so many words and a score array of so many elements. The answer is that of a match
+/// where 24 does not fail.
+pub fn match_record_with_scores(record: &[u8], places: usize, scores: usize) -> WithScores {
+    let Some(read) = records::read(record) else {
+        return WithScores::refused(Answer::refused(REFUSED));
+    };
+    let shot = read.shot;
+    if let Err(refused) = asked_first(&shot, Lengths { places, scores }) {
+        return WithScores::refused(refused);
+    }
+    let by_rule = scores::by_rule(&shot);
+    let by_rust = slope_and_floor(&shot.table).map(|of_table| scores::by_rust(&shot, of_table));
+    let (scores, by_rule) = match by_rust {
+        Some(by_rust) => (by_rust, Some(by_rule)),
+        None => (by_rule, None),
+    };
+    WithScores {
+        answer: told(&match_shot(&shot, places)),
+        scores,
+        by_rule,
+    }
+}
+
 /// What is expected for a record and an output array of so many words.
 pub fn match_record(record: &[u8], places: usize) -> Matched {
     let read = records::read(record).ok_or(Answer::refused(REFUSED))?;
@@ -25,7 +88,7 @@ pub fn match_record(record: &[u8], places: usize) -> Matched {
 }
 
 pub fn match_shot(shot: &Shot, places: usize) -> Matched {
-    asked_first(shot, places)?;
+    asked_first(shot, Lengths::without_scores(places))?;
     match slope_and_floor(&shot.table) {
         Some(slope_and_floor) if !is_unknown_to_rust(shot) => {
             rust::Matching::new(shot, slope_and_floor).matched()
@@ -37,7 +100,7 @@ pub fn match_shot(shot: &Shot, places: usize) -> Matched {
 /// What upstream and the rules alone return, for a shot that comes so far, has a table by the formula and a board that
 /// upstream knows.
 pub fn by_rust_and_model(shot: &Shot) -> Option<[Matched; 2]> {
-    asked_first(shot, usize::MAX).ok()?;
+    asked_first(shot, Lengths::ENOUGH).ok()?;
     let slope_and_floor = slope_and_floor(&shot.table).filter(|_| !is_unknown_to_rust(shot))?;
     let by_rust = rust::Matching::new(shot, slope_and_floor).matched();
     Some([by_rust, model::match_shot(shot)])
@@ -46,7 +109,7 @@ pub fn by_rust_and_model(shot: &Shot) -> Option<[Matched; 2]> {
 /// What upstream returns for the board rotated by 90°, and the rules alone for the board as it is, for a shot that comes so
 /// far, has a table by the formula and a board that upstream does not know.
 pub fn by_turned_rust_and_model(shot: &Shot) -> Option<[Compared; 2]> {
-    asked_first(shot, usize::MAX).ok()?;
+    asked_first(shot, Lengths::ENOUGH).ok()?;
     let slope_and_floor = slope_and_floor(&shot.table).filter(|_| is_unknown_to_rust(shot))?;
     (!shot.cells.is_empty()).then(|| turned::by_rust_and_model(shot, slope_and_floor))
 }
@@ -57,13 +120,13 @@ pub fn by_rust_without_22(shot: &Shot) -> Option<Matched> {
     if let Err(refused) = board(shot) {
         return Some(Err(refused));
     }
-    first_refused(&after_board(shot, usize::MAX)).ok()?;
+    first_refused(&after_board(shot, Lengths::ENOUGH)).ok()?;
     by_rust(shot)
 }
 
 /// The same without check 23: a refusal by a check before it, else what upstream returns, where 13 does not refuse the shot.
 pub fn by_rust_without_23(shot: &Shot) -> Option<Matched> {
-    let questions = after_board(shot, usize::MAX);
+    let questions = after_board(shot, Lengths::ENOUGH);
     let place = questions.iter().position(|&(number, _)| number == 23);
     let (before, from_23) = questions.split_at(place.expect("it is one of them"));
     if let Err(refused) = accepted(shot).and_then(|_| first_refused(before)) {
@@ -86,18 +149,18 @@ const fn is_unknown_to_rust(shot: &Shot) -> bool {
     shot.is_legacy() && shot.rows % 2 == 0
 }
 
-/// The checks 1 to 8, 22, 9, 10, 12, 23, 13 and 14. Where there is no cell, those from 12 on have nothing to refuse, so that
-/// upstream may answer 11 after them.
-fn asked_first(shot: &Shot, places: usize) -> Result<(), Answer> {
+/// The checks 1 to 8, 22, 9, 10, 12, 23, 13, 14 and 24. Where there is no cell, those from 12 on have nothing to refuse, so
+/// that upstream may answer 11 after them.
+fn asked_first(shot: &Shot, lengths: Lengths) -> Result<(), Answer> {
     accepted(shot)?;
-    first_refused(&after_board(shot, places))
+    first_refused(&after_board(shot, lengths))
 }
 
 /// A check by its number, and whether the shot passes it.
 type Asked = (u32, bool);
 
 /// From 9 on, but for 11.
-fn after_board(shot: &Shot, places: usize) -> [Asked; 6] {
+fn after_board(shot: &Shot, lengths: Lengths) -> [Asked; 7] {
     let settings = [
         shot.minimum_margin,
         shot.border_threshold,
@@ -109,7 +172,8 @@ fn after_board(shot: &Shot, places: usize) -> [Asked; 6] {
         (12, cells_in_range(shot)),
         (23, no_point_twice(shot)),
         (13, samples_in_range(shot)),
-        (14, places >= shot.cells.len() * MARKER_WORDS),
+        (14, lengths.places >= shot.cells.len() * MARKER_WORDS),
+        (24, lengths.scores >= scores::count(shot)),
     ]
 }
 

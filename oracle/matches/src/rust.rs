@@ -81,6 +81,21 @@ impl Matching {
         (selected, matched)
     }
 
+    /// All scores of upstream's matrix, with 0 in place of the minus infinity of a cell that is not sampled.
+    pub fn scores(&self) -> Vec<f32> {
+        let matrix = ScoredCells::new(&self.board, &self.samples, self.settings);
+        let matrix = matrix.expect("a board that is made has markers");
+        let mut scores = matrix.all().to_vec();
+        let of_cells = scores.chunks_mut(self.board.marker_count() * 4);
+        for (of_cell, sample) in of_cells.zip(&self.samples) {
+            if sample.is_none() {
+                assert!(of_cell.iter().all(|&score| score == f32::NEG_INFINITY));
+                of_cell.fill(0.0);
+            }
+        }
+        scores
+    }
+
     /// Every placement of a shot that has cells. The search returns the best alone, so it is given one placement at a time:
     /// two cells that are not sampled, on opposite squares of the board, leave one translation in each rotation, and of the
     /// scores only those of one rotation are left. The cells are rotated before and these scores are those of rotation 0,

@@ -1,7 +1,7 @@
 //! Whether the answers in the file would show that any two words or fields are exchanged, that a word is left out, or that a
 //! kind of line is spelled otherwise; whether every number of a refusal comes up; whether cells at the same position are
-//! read; whether wrong counts of contributing cells would show; and whether it would show that one of many codes is not
-//! checked.
+//! read; whether wrong counts of contributing cells would show; whether it would show that one of many codes is not checked;
+//! and whether wrong score arrays would show.
 
 use crate::kinds::{self, Kind};
 use crate::script::{Asked, Script};
@@ -9,7 +9,9 @@ use cases::answer::Answer;
 use cases::codes::all_ones;
 use matches::codes::{alike as alike_codes, too_large};
 use matches::counts::{PAIRS, Shown, WRONG};
-use matches::given::markers_of;
+use matches::given::{Length, markers_of};
+use matches::scores::CASES;
+use matches::{match_shot, told};
 use records::Shot;
 use std::collections::{BTreeMap, BTreeSet};
 
@@ -90,6 +92,40 @@ pub fn check(script: &Script) {
     let [without_mark, marked] = &script.counts;
     check_counts("matches", without_mark);
     check_counts("matches of legacy boards", marked);
+    check_scores(script);
+}
+
+/// Every case of a filled score array comes up. Arrays are filled that are just long enough, and longer ones. 24 fails where the
+/// match without scores returns 0, 15, 16 and 17; 14 is returned where both fail.
+fn check_scores(script: &Script) {
+    for (is_marked, shown) in [false, true].into_iter().zip(&script.scores) {
+        for (case, count) in CASES.iter().zip(shown.0) {
+            assert!(count > 0, "score arrays, legacy {is_marked}: {}", case.name);
+        }
+        let of_board = script.asked.iter();
+        let of_board = of_board.filter(|asked| asked.is_marked == is_marked);
+        let came_up: BTreeSet<(u32, Length, u32)> = of_board
+            .filter_map(|asked| {
+                let without_scores = match_shot(asked.shot.as_ref()?, usize::MAX);
+                Some((
+                    asked.answer.number,
+                    asked.scores?,
+                    told(&without_scores).number,
+                ))
+            })
+            .collect();
+        let mut required = Vec::new();
+        for number in [0, 15, 16, 17] {
+            required.extend([Length::Empty, Length::OneShort].map(|length| (24, length, number)));
+            required.extend([Length::Exact, Length::Longer].map(|length| (number, length, number)));
+        }
+        for case in required {
+            assert!(came_up.contains(&case), "legacy {is_marked}: {case:?}");
+        }
+        let mut cases = came_up.iter();
+        let has_both = cases.any(|&(number, length, _)| number == 14 && !length.is_enough());
+        assert!(has_both, "legacy {is_marked}: 14 and 24");
+    }
 }
 
 /// Check 8 covers every code, and 22 the code of every marker and no other.
@@ -144,7 +180,7 @@ fn check_kind(kind: Kind, answers: &[&Answer]) {
         let of_number = answers.iter().filter(|answer| answer.number == number);
         let words: Vec<Vec<u32>> = of_number.map(|answer| answer.words.clone()).collect();
         let alike = match (kind, number) {
-            (kinds::MATCH, 0) => &MATCH,
+            (kinds::MATCH | kinds::MATCH_WITH_SCORES, 0) => &MATCH,
             (kinds::RECT_CORNERS, _) => &RECT_CORNERS,
             _ => &NONE,
         };
@@ -155,8 +191,10 @@ fn check_kind(kind: Kind, answers: &[&Answer]) {
             .iter()
             .flat_map(|answer| answer.list.chunks(kind.of_result));
         let results: Vec<Vec<u32>> = results.map(<[u32]>::to_vec).collect();
-        let is_match = kind == kinds::MATCH;
-        let alike = if is_match { &MARKERS } else { &NONE };
+        let alike = match kind {
+            kinds::MATCH | kinds::MATCH_WITH_SCORES => &MARKERS,
+            _ => &NONE,
+        };
         check_told(&format!("results of {name}"), &results, alike);
     }
 }

@@ -88,6 +88,13 @@ kinds! {
     NULL_SCORE = part(0x16, "null score", 1, 1);
     CELL_WEIGHT = part(0x17, "cell_weight", 3, 1);
     SCORE = part(0x18, "score", 4, 4);
+    MATCH_WITH_SCORES = Kind {
+        of_result: MATCH.of_result,
+        numbers: &[
+            0, 1, 2, 3, 4, 5, 6, 7, 8, 9, 10, 11, 12, 13, 14, 15, 16, 17, 21, 22, 23, 24,
+        ],
+        ..part(0x19, "charuco_match_board_with_scores", 2, MATCH.words)
+    };
     LEGACY_CORNERS = of_legacy(CORNERS, "charuco_map_charuco_corners, legacy board");
     LEGACY_LINKS = of_legacy(LINKS, "charuco_validate_marker_corner_links, legacy board");
     LEGACY_LAYOUT = of_legacy(LAYOUT, "layout, legacy board");

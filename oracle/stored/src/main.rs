@@ -9,6 +9,7 @@ mod many_codes;
 mod matches;
 mod parts;
 mod records;
+mod score_arrays;
 mod scores;
 mod script;
 
@@ -25,8 +26,8 @@ fn main() -> io::Result<()> {
     entries::ask_corners(&mut script, false);
     entries::ask_links(&mut script, false);
     matches::ask(&mut script);
-    // Legacy boards come after all others, equal codes after them, then cells at the same position, then counts, and many
-    // codes last, so that the rows before stay.
+    // Legacy boards come after all others, equal codes after them, then cells at the same position, then counts, then many
+    // codes, and matches with scores last, so that the rows before stay.
     parts::ask_layouts(&mut script, true);
     records::ask_marked(&mut script);
     entries::ask_corners(&mut script, true);
@@ -39,6 +40,8 @@ fn main() -> io::Result<()> {
     matches::ask_counts(&mut script, false);
     matches::ask_counts(&mut script, true);
     many_codes::ask(&mut script);
+    score_arrays::ask(&mut script, false);
+    score_arrays::ask(&mut script, true);
     covered::check(&script);
     for &kind in kinds::ALL {
         let rows = script.asked.iter().filter(|asked| asked.kind == kind);

@@ -41,7 +41,7 @@ fn with_code(place: usize, code: u64) -> Shot {
 
 /// A board of 32 by 32 of which the last marker is seen. No two codes are equal up to rotation. 0 is none of them, as its
 /// rotations are equal.
-fn of_largest_board(code_count: usize) -> Shot {
+pub fn of_largest_board(code_count: usize) -> Shot {
     let mut shot = Shot {
         rows: 32,
         cols: 32,

@@ -16,8 +16,8 @@ use records::telling::Place;
 use records::{Cell, REFUSED, Sample, Shot, built_in_table, read, write};
 
 /// Most records are no longer than this. A table alone has 2,044 bytes, so few records have one.
-const SHORT: usize = 200;
-const WITH_TABLE: usize = 2_400;
+pub const SHORT: usize = 200;
+pub const WITH_TABLE: usize = 2_400;
 /// 256 cells of one bit.
 const LONG: usize = 6_000;
 
@@ -225,7 +225,7 @@ fn of_kind(kind: &GivenKind, longest: usize, most: usize) -> impl Iterator<Item 
     fitting.take(most)
 }
 
-fn fits(given: &Given, longest: usize) -> bool {
+pub fn fits(given: &Given, longest: usize) -> bool {
     given.record.len() <= longest && given.places <= LONGEST_LIST
 }
 
@@ -245,10 +245,15 @@ fn showing_counts(kind: &GivenKind) -> Vec<Given> {
     showing.collect()
 }
 
+/// Good shots with faults.
+pub fn faults(kinds: &[GivenKind]) -> &GivenKind {
+    let faults = kinds.iter().find(|kind| kind.name == "one fault or two");
+    faults.expect("a kind of this name")
+}
+
 /// Some of them have a table, which check 10 refuses.
 fn with_every_refusal(kinds: &[GivenKind]) -> Vec<Given> {
-    let faults = kinds.iter().find(|kind| kind.name == "one fault or two");
-    let faults = faults.expect("a kind of this name");
+    let faults = faults(kinds);
     let mut is_new = few(OF_EACH_REFUSAL);
     let fitting = faults
         .all()
@@ -354,7 +359,7 @@ fn most_contributing(legacy: bool) -> Shot {
 
 /// The record of document 01 with the legacy flag, and its cell on legacy boards of 4 rows and 5 columns and of 3 by 3: they
 /// are beside P1 to P12. Ten markers of which no two are equal up to rotation have 3 by 3 bits or more.
-fn small_legacy_boards() -> [Shot; 3] {
+pub fn small_legacy_boards() -> [Shot; 3] {
     let of_size = |[rows, cols]: [u8; 2], bits: u8| {
         let mut shot = Shot::of_document_01().marked();
         [shot.rows, shot.cols, shot.bits] = [rows, cols, bits];

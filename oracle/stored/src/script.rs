@@ -1,8 +1,11 @@
 //! The rows of the file in their order: those that build up the two lists, and those with an answer.
 
-use crate::kinds::{Kind, MATCH};
+use crate::kinds::{Kind, MATCH, MATCH_WITH_SCORES};
 use cases::answer::{Answer, after};
+use matches::WithScores;
 use matches::counts::Shown;
+use matches::given::Length;
+use matches::scores::{Filled, Shown as ShownScores};
 use records::{Shot, read, settings};
 use std::collections::{HashMap, HashSet};
 use std::fmt::Write;
@@ -10,6 +13,8 @@ use std::fmt::Write;
 /// What the program has room for.
 pub const MOST_PLACES: usize = 147_500;
 pub const MOST_BYTES: usize = 65_536;
+pub const MOST_PLACES_WITH_SCORES: usize = 4_704;
+pub const MOST_SCORES: usize = 8_200;
 const MOST_WORDS: usize = 8_600;
 const WORDS_OF_A_ROW: usize = 32;
 
@@ -30,6 +35,8 @@ pub struct Asked {
     pub has_repeat: bool,
     /// What is matched, if the row is a match and the bytes are a record.
     pub shot: Option<Shot>,
+    /// How long the score array is, if there is one.
+    pub scores: Option<Length>,
     /// That of place, if the row has one.
     pub text: String,
 }
@@ -41,6 +48,8 @@ pub struct Script {
     pub asked: Vec<Asked>,
     /// What the matches show of the counts of contributing cells, without the legacy flag and with it.
     pub counts: [Shown; 2],
+    /// The same of the score arrays.
+    pub scores: [ShownScores; 2],
     bytes: Vec<u8>,
     words: Vec<u64>,
 }
@@ -119,6 +128,32 @@ impl Script {
         self.ask_with_digest(kind, arguments, answer, digest(list));
     }
 
+    /// The match with scores, with arrays of so many words and elements.
+    pub fn ask_with_scores(
+        &mut self,
+        places: usize,
+        length: Length,
+        scores: usize,
+        theirs: WithScores,
+    ) {
+        assert!(places <= MOST_PLACES_WITH_SCORES && scores <= MOST_SCORES);
+        let list = after(before(places), &theirs.answer.list);
+        let both = [list, after(before(scores), &theirs.scores)].concat();
+        let arguments = [places, scores].map(|length| length as u64);
+        self.ask_with_digest(MATCH_WITH_SCORES, &arguments, theirs.answer, digest(both));
+        let asked = self.asked.last_mut().expect("it was asked");
+        asked.scores = Some(length);
+        if let Some(shot) = &asked.shot
+            && !theirs.scores.is_empty()
+        {
+            self.scores[usize::from(asked.is_marked)].add(&Filled {
+                shot,
+                before: &before(scores),
+                scores: &theirs.scores,
+            });
+        }
+    }
+
     /// A row about bytes, which are those that the answer names.
     pub fn ask_with_bytes(&mut self, kind: Kind, arguments: &[u64], answer: Answer, bytes: &[u8]) {
         self.ask_with_digest(kind, arguments, answer, digest(bytes.iter().copied()));
@@ -134,9 +169,12 @@ impl Script {
         row.extend(words.into_iter().map(u64::from));
         row.push(digest);
         self.row(&row);
-        let read = (kind == MATCH).then(|| read(&self.bytes)).flatten();
+        let is_match = kind == MATCH || kind == MATCH_WITH_SCORES;
+        let read = is_match.then(|| read(&self.bytes)).flatten();
         let shot = read.map(|read| read.shot);
-        if let Some(shot) = &shot {
+        if let Some(shot) = &shot
+            && kind == MATCH
+        {
             self.counts[usize::from(is_marked(&self.bytes))].add(shot, &answer);
         }
         self.asked.push(Asked {
@@ -145,6 +183,7 @@ impl Script {
             is_marked: is_marked(&self.bytes),
             has_repeat: has_repeat(&self.bytes),
             shot,
+            scores: None,
             text: String::new(),
         });
     }

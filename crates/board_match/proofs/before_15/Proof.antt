@@ -43,7 +43,7 @@ returns : tie.Need-returns
 returns c =
     let n = c .before .before in
     let m = n .before .before .before in
-    all-passed (bytes (at m)) (words (at m)) (is-whole (at m)) (board m) (board-made m) (n .before .config .result) (n .before .config .ensures)
+    all-passed (bytes (at m)) (words (at m)) (is-whole (at m)) (board m) (board-made m) (at m .args .f) (at m .pre .0 .0) (n .before .config .result) (n .before .config .ensures)
     (sym (c .enum-told .given .1) ∙ n .from-9 .ensures)
 
 returns-2 : tie.Need-returns-2

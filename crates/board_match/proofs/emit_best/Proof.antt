@@ -5,8 +5,10 @@ use mathlib.Core.List.{List}
 use Prim.Native.Nat.{ℕ}
 use borrow.Author.Needs.{needs}
 use borrow.Author.Tests.{not-true, not-false}
-use Rattle.shot_record.specs.Shots.{wholeRecord}
+use Rattle.shot_record.specs.Shots.{shot, wholeRecord}
+use Rattle.shot_record.specs.Answers.{configOf}
 use Rattle.hypothesis.specs.Inputs.{Loaded}
+use Rattle.hypothesis.proofs.IndexedCells.{config-is}
 use Rattle.board_match.specs.Match.{marginPasses}
 use Rattle.board_match.proofs.Gates.{near-best, room-for, too-narrow, none-emitted, match-is, emitted-some}
 use Rattle.board_match.proofs.emit_best.Statement.{statement}
@@ -23,7 +25,10 @@ module _ (c : tie.Start) where
   loaded = c .pre .0
 
   is-whole : wholeRecord bytes ≡ true
-  is-whole = loaded .ready .indexed .2
+  is-whole = loaded .ready .whole
+
+  settings : c .args .inputs .config ≡ configOf (shot bytes)
+  settings = config-is (shot bytes) (c .args .inputs) (loaded .ready .is)
 
 abbrev start : tie.Else1 → tie.Start
 start c = c .before .before .before .before .before
@@ -35,7 +40,7 @@ wide c = sym (c .before .margin-passes .ensures) ∙ not-false _ (c .if1 .left)
 returns : tie.Need-returns
 returns c =
     let b = c .before .before .before .before .before in
-    too-narrow (bytes b) (lent b) (is-whole b) (b .pre .2) (b .args .selection) (b .pre .1) (b .args .inputs .config) (loaded b .ready .config)
+    too-narrow (bytes b) (lent b) (is-whole b) (b .pre .2) (b .args .selection) (b .pre .1) (b .args .inputs .config) (settings b)
     (sym (c .before .margin-passes .ensures) ∙ not-true _ (c .if1 .taken))
 
 emit-markers-requires : tie.Need-emit-markers-requires
@@ -49,7 +54,7 @@ returns-2 c =
     let b = m .before .before .before .before .before .before .before .before .before in
     let x = b .args in
     let em = m .emit-markers in
-    none-emitted (bytes b) (lent b) (is-whole b) (b .pre .2) (x .selection) (b .pre .1) (x .inputs .config) (loaded b .ready .config)
+    none-emitted (bytes b) (lent b) (is-whole b) (b .pre .2) (x .selection) (b .pre .1) (x .inputs .config) (settings b)
     (wide (m .before .before .before .before)) (em .result) (em .last .1 .1 .1 .1 .1 .1 .0) (em .ensures .0) (em .ensures .1) (c .if2 .taken)
 
 cell-to-corner-alignment-requires : tie.Need-cell-to-corner-alignment-requires
@@ -66,9 +71,9 @@ returns-3 c =
     let em = m .emit-markers in
     let exit = em .last .1 .1 .1 .1 .1 .1 .0 in
     let w = wide (m .before .before .before .before) in
-    let f = match-is (bytes b) (lent b) (is-whole b) (b .pre .2) (x .selection) (b .pre .1) (x .inputs .config) (loaded b .ready .config) w
+    let f = match-is (bytes b) (lent b) (is-whole b) (b .pre .2) (x .selection) (b .pre .1) (x .inputs .config) (settings b) w
     (em .result) exit (em .ensures .0) (em .ensures .1) (c .cell-to-corner-alignment .result) (c .cell-to-corner-alignment .ensures) in
-    emitted-some (bytes b) (lent b) (is-whole b) (b .pre .2) (x .selection) (b .pre .1) (x .inputs .config) (loaded b .ready .config) w
+    emitted-some (bytes b) (lent b) (is-whole b) (b .pre .2) (x .selection) (b .pre .1) (x .inputs .config) (settings b) w
     (em .result) exit (em .ensures .0) (em .ensures .1) (e .if2 .left) _ f
 
 pub emit-best-spec : {M : Type 1} → statement M

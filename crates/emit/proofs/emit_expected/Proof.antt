@@ -1,19 +1,20 @@
 -- `emit::emit_expected` meets its contract: by cases of the candidate. Assumes nothing.
-use mathlib.Core.Path.{_≡_, sym, ap, ap₂, _∙_, subst}
+use mathlib.Core.Path.{_≡_, sym, ap, _∙_, subst}
 use mathlib.Core.List.{List, flatMap}
-use Prim.Native.Nat.{ℕ, _+_, _*_, _≤_, _<_}
+use Prim.Native.Nat.{ℕ, _+_, _≤_, _<_}
 use native.Mathlib.Omega.{arith}
 use lib.ListN.{length}
 use borrow.Author.Needs.{needs}
 use Rattle.lent_list.proofs.Front.{nothing-put, put-as}
 use Rattle.board.specs.declared.Board.{Board}
-use Rattle.score_matrix.specs.Scores.{samples, side}
-use Rattle.shot_record.specs.Fields.{cellCount}
+use Rattle.score_matrix.specs.Scores.{samples}
+use Rattle.shot_record.specs.Fields.{cellCount, gridSize}
 use Rattle.shot_record.specs.Shots.{Cell, shot}
 use Rattle.shot_record.specs.Answers.{gridWith}
-use Rattle.shot_record.proofs.Reading.{found}
 use Rattle.shot_record.proofs.CellReads.{cell-count, cell-is}
 use Rattle.hypothesis.specs.Placements.{noCell, cell}
+use Rattle.hypothesis.specs.Evidence.{boardIn}
+use Rattle.hypothesis.proofs.IndexedCells.{board-is, config-is, has-grid, few-bits}
 use Rattle.emit.specs.declared.candidates.Candidate.{Candidate}
 use Rattle.emit.specs.declared.candidates.Expected.{Expected}
 use Rattle.emit.specs.declared.candidates.Expected.the-variants as expectation
@@ -32,16 +33,16 @@ returns c =
 -- there is a candidate, of a sampled cell
 module _ (c : tie.After-struct-known) where
   abbrev start : tie.Start
-  start = c .before .before .before .before .before .before .before
+  start = c .before .before .before .before .before .before
 
   abbrev bytes : List ℕ
   bytes = start .args .bytes .now
 
   abbrev candidate : Candidate
-  candidate = c .before .before .before .expected .given .0 .0
+  candidate = c .before .before .expected .given .0 .0
 
   is : start .args .expected ≡ expectation.Marker candidate
-  is = c .before .before .before .expected .given .1
+  is = c .before .before .expected .given .1
 
   of : OfCell (shot bytes) (expectation.Marker candidate)
   of = subst (OfCell (shot bytes)) is (start .pre .0 .2)
@@ -52,9 +53,7 @@ module _ (c : tie.After-struct-known) where
 grid-requires : tie.Need-grid-requires
 grid-requires c κs =
     let s = start c in
-    let h = s .pre .0 .0 in
-    let count = found (s .args .inputs .fields) (bytes c) (h .indexed .0) .cell-count in
-    (h .indexed, omega (arith, inside c, count), omega (arith, of c .0, h .passed .checked .few))
+    has-grid (bytes c) (s .args .inputs) (s .args .index .now) (s .pre .0 .0) (candidate c .cell) (of c .0)
 
 -- the grid is that of the cell, and has side² bytes
 module _ (c : tie.After-grid) where
@@ -64,23 +63,20 @@ module _ (c : tie.After-grid) where
   abbrev board : Board
   board = start known .args .inputs .board
 
-  bits-are : board .bits ≡ shot (bytes known) .bits
-  bits-are = ap (λ (b : Board). b .bits) (start known .pre .0 .0 .board)
-
-  border-is : board .«border_bits» ≡ shot (bytes known) .border
-  border-is = ap (λ (b : Board). b .«border_bits») (start known .pre .0 .0 .board)
+  its-board : board ≡ boardIn (shot (bytes known))
+  its-board = board-is (shot (bytes known)) (start known .args .inputs) (start known .pre .0 .0 .is)
 
   grid-is : c .grid .result .now ≡ gridWith (cell (shot (bytes known)) (candidate known .cell) .sample)
   grid-is =
       c .grid .ensures
       ∙ sym (ap (λ (x : Cell). gridWith (x .sample)) (cell-is (bytes known) (candidate known .cell) noCell (inside known)))
 
-  whole-grid : length (c .grid .result .now) ≡ side (board .bits) (board .«border_bits») * side (board .bits) (board .«border_bits»)
+  whole-grid : length (c .grid .result .now) ≡ gridSize (board .bits) (board .«border_bits»)
   whole-grid =
       let o = of known .1 in
       ap length (grid-is ∙ ap gridWith (o .1))
       ∙ start known .pre .0 .0 .passed .grids (candidate known .cell) (o .0) (o .1)
-      ∙ sym (ap₂ (λ (n b : ℕ). side n b * side n b) bits-are border-is)
+      ∙ sym (ap (λ (b : Board). gridSize (b .bits) (b .«border_bits»)) its-board)
 
   abbrev emittedHere : List Marker
   emittedHere =
@@ -92,14 +88,15 @@ module _ (c : tie.After-grid) where
   same =
       let h = start known .pre .0 in
       let d = candidate known in
-      (λ i. emittedFrom (h .0 .config i) (h .1 i) (samples (bits-are i) (border-is i) (d .threshold) (grid-is i)) d)
+      (λ i. emittedFrom (config-is (shot (bytes known)) (start known .args .inputs) (h .0 .is) i) (h .1 i)
+      (samples (its-board i .bits) (its-board i .«border_bits») (d .threshold) (grid-is i)) d)
       ∙ ap (emittedFor (shot (bytes known))) (sym (is known))
 
 emit-marker-requires : tie.Need-emit-marker-requires
 emit-marker-requires c κs =
     let g = c .before in
     let s = start (known g) in (
-      rw (bits-are g) (s .pre .0 .0 .passed .checked .small),
+      few-bits (bytes (known g)) (s .args .inputs) (s .args .index .now) (s .pre .0 .0),
       (whole-grid g, room (emittedHere g) _ (same g) (s .args .at) (s .args .markers .now) (s .pre .1)),
     )
   where

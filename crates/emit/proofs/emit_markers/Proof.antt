@@ -9,9 +9,8 @@ use Rattle.lent_list.specs.Front.{upTo, Put}
 use Rattle.lent_list.proofs.Front.{put-as, put-front}
 use Rattle.lent_list.proofs.Loops.{none-to, to-length, to-room, to-more}
 use Rattle.shot_record.specs.Shots.{Shot, shot}
-use Rattle.shot_record.proofs.Reading.{found}
-use Rattle.shot_record.proofs.CellReads.{cell-count}
 use Rattle.hypothesis.specs.Placements.{cellTotal}
+use Rattle.hypothesis.proofs.IndexedCells.{cells-are}
 use Rattle.emit.specs.Markers.{Marker, emitted, markers, markerWords}
 use Rattle.emit.specs.Candidates.{OfCell, emittedFor}
 use Rattle.emit.proofs.Reading.{same-emitted, of-cell}
@@ -20,11 +19,11 @@ use Rattle.emit.proofs.emit_markers.Statement.{statement}
 use Rattle.emit.proofs.emit_markers.Tie as tie
 
 abbrev Inv-loop : tie.InvT-loop
-Inv-loop bytes inputs index table codes alignment list₀ count at₀ k₀ list at k =
+Inv-loop bytes inputs index table codes alignment list₀ cells at₀ k₀ list at k =
     (k ≤ cellTotal (shot bytes)) × Put list₀ list 0 at (flatMap markerWords (upTo (emitted (shot bytes) alignment) k))
 
 abbrev μ-loop : tie.MeasureT-loop
-μ-loop bytes inputs index table codes alignment list₀ count at₀ k₀ list at k = count - k
+μ-loop bytes inputs index table codes alignment list₀ cells at₀ k₀ list at k = cells - k
 
 module _ (s : tie.Start Inv-loop μ-loop) where
   abbrev shown : Shot
@@ -40,15 +39,15 @@ module _ (s : tie.Start Inv-loop μ-loop) where
   room : 0 + length (flatMap markerWords (upTo here (cellTotal shown))) ≤ length lent
   room = omega (arith, all-words (markers shown (s .args .alignment)), one-per-cell shown (s .args .alignment), s .pre .1)
 
-  counted : s .args .inputs .fields .«cell_count» ≡ cellTotal shown
-  counted = found (s .args .inputs .fields) (s .args .bytes .now) (s .pre .0 .0 .ready .indexed .0) .cell-count ∙ sym (cell-count (s .args .bytes .now))
+  counted : s .args .inputs .cells ≡ cellTotal shown
+  counted = cells-are shown (s .args .inputs) (s .pre .0 .0 .ready .is)
 
 loop-holds : tie.Need-loop-holds Inv-loop μ-loop
-loop-holds c = let s = c .before .before .before in (omega arith, none-to markerWords (here s) (lent s) 0 (cellTotal (shown s)) (room s))
+loop-holds c = let s = c .before .before in (omega arith, none-to markerWords (here s) (lent s) 0 (cellTotal (shown s)) (room s))
 
 module _ (c : tie.In-loop Inv-loop μ-loop) where
   abbrev start : tie.Start Inv-loop μ-loop
-  start = c .before .before .before .before .before
+  start = c .before .before .before .before
 
   abbrev k : ℕ
   k = c .before .loop .k
@@ -95,13 +94,13 @@ loop-again c =
 same-length : tie.Need-same-length Inv-loop μ-loop
 same-length c =
     let l = c .before in
-    let s = l .before .before .before .before in
+    let s = l .before .before .before in
     to-length markerWords (here s) (lent s) 0 (cellTotal (shown s)) (room s) (l .loop .k) (l .loop .inv .1) (l .loop .inv .0)
 
 returns : tie.Need-returns Inv-loop μ-loop
 returns c =
     let l = c .before in
-    let s = l .before .before .before .before in
+    let s = l .before .before .before in
     let all : l .loop .k ≡ cellTotal (shown s) = omega (arith, c .loop-test .left, counted s, l .loop .inv .0) in
     let p = put-as (ap (λ (j : ℕ). flatMap markerWords (upTo (here s) j)) all) (l .loop .inv .1) in
     (omega (arith, p .end, all-words (markers (shown s) (s .args .alignment))), put-front (omega (arith, p .end, room s)) p)

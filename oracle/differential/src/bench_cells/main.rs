@@ -1,5 +1,5 @@
 //! How long this library and upstream take for the whole cells between corners, and how much memory: `bench_cells`, or
-//! `bench_cells ours|theirs|both ROUNDS [CASE]`. This library makes its checks too, and writes the output array; of upstream
+//! `bench_cells ours|theirs|all ROUNDS [CASE]`. This library makes its checks too, and writes the output array; of upstream
 //! it is `build_corner_map` and `build_marker_cells`.
 
 use cases::corner_lists::{CornerLists, far, rectangle};

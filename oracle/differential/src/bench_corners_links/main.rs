@@ -1,5 +1,5 @@
 //! How long this library and upstream take for the corner entry point and the link entry point, and how much memory:
-//! `bench_corners_links`, or `bench_corners_links ours|theirs|both ROUNDS [CASE]`. This library makes the board and its
+//! `bench_corners_links`, or `bench_corners_links ours|theirs|all ROUNDS [CASE]`. This library makes the board and its
 //! checks and writes the output array; of upstream, whose board is made before, it is `map_charuco_corners` or
 //! `validate_marker_corner_links`.
 

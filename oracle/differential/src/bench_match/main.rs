@@ -1,5 +1,5 @@
 //! How long this library and upstream take for a whole match, and how much memory: `bench_match`, or `bench_match
-//! ours|theirs|both ROUNDS [CASE]`.
+//! ours|second|theirs|all ROUNDS [CASE]`. `second` is this library's match with scores.
 
 use cases::corner_lists::rectangle;
 use differential::bench::{Bench, Board, WholeMatch, heap, seen};
@@ -19,17 +19,21 @@ type Size = [i32; 2];
 /// No match has more cells.
 const MOST_CELLS: i32 = 256;
 
-/// The last three are unfavourable to this library. A block as wide as the board has one column or one row of placements in
+/// The last three are unfavourable to this library's match without scores. A block as wide as the board has one column or one row of placements in
 /// each rotation, so that few scores are computed side by side. With 3 by 3 bits what is done once for each score weighs
 /// most; there are 140 such codes of which no two are equal up to rotation, and 136 markers on 16 rows and 17 columns. Cells
 /// that need the whole board have 4 placements, so that reading the most cells and making the checks of them weighs most.
-const CASES: [(Board, Size); 11] = [
+const CASES: [(Board, Size); 15] = [
     (([5, 7], 4), [5, 4]),
+    (([5, 7], 4), [4, 4]),
+    (([5, 7], 4), [5, 3]),
     (([12, 9], 4), [5, 10]),
     (([12, 9], 6), [5, 10]),
+    (([12, 9], 4), [4, 4]),
     (([32, 32], 4), [16, 16]),
     (([32, 32], 6), [16, 16]),
     (([32, 32], 8), [16, 16]),
+    (([32, 32], 4), [4, 4]),
     (([32, 32], 4), [1, 1]),
     (([32, 32], 6), [1, 1]),
     (([32, 32], 4), [32, 8]),

@@ -11,6 +11,7 @@ use cases::corner_lists::{FARTHEST, rectangle};
 use cases::prng::Prng;
 use matches::MOST_PLACES;
 use matches::given::{Given, Look, Scene};
+use matches::scores::MOST_SCORES;
 use records::{Cell, LONGEST, Sample, Shot, TABLE_LENGTH, UNSAMPLED, write};
 
 pub struct Asked {
@@ -19,6 +20,8 @@ pub struct Asked {
     pub what: &'static str,
     pub cells: usize,
     pub given: Given,
+    /// Elements of the score array, for a match with scores.
+    pub scores: Option<usize>,
 }
 
 impl Asked {
@@ -32,11 +35,21 @@ impl Asked {
                 record: write(shot).bytes,
                 places: MOST_PLACES,
             },
+            scores: None,
+        }
+    }
+
+    /// With a score array of so many elements, too.
+    fn with_scores(self, scores: usize) -> Self {
+        Self {
+            scores: Some(scores),
+            ..self
         }
     }
 }
 
-/// In the order of the checks, then a match.
+/// In the order of the checks, then a match; then the same from 15 on for a match with scores, of which the largest array is
+/// filled before.
 pub fn asked() -> Vec<Asked> {
     let up_to_10 = FAULTS.map(|(number, what, codes, fault)| {
         let mut shot = without_cells(codes);
@@ -48,6 +61,8 @@ pub fn asked() -> Vec<Asked> {
     all.extend([no_cell(), too_many_cells()]);
     all.extend(from_23());
     all.extend(largest_searches());
+    let filled = [one_too_far_off()].into_iter().chain(largest_searches());
+    all.extend(filled.map(|asked| asked.with_scores(MOST_SCORES)));
     all
 }
 
@@ -192,8 +207,8 @@ fn most_cells() -> Shot {
     shot
 }
 
-/// 23 and 13 to 15.
-fn from_23() -> [Asked; 4] {
+/// 23, 13, 14, 24 and 15.
+fn from_23() -> [Asked; 5] {
     const LAST: usize = MOST_CELLS - 1;
     let shot = most_cells();
     // Their point is above all others, so that it is found last.
@@ -211,13 +226,21 @@ fn from_23() -> [Asked; 4] {
         Asked::new(23, "the last two cells at the same position", &twice),
         Asked::new(13, "the last fraction NaN", &odd),
         short,
+        Asked::new(24, "a score array one element too short", &shot).with_scores(MOST_SCORES - 1),
         Asked::new(15, "cells too far apart", &shot),
     ]
 }
 
-/// 16, 17 and a match: 256 cells of 8 by 8 bits in a block, in any order. It has 1,156 placements; no 256 points have more. No
-/// larger record has as much to search: with a border of 4 the grids alone would have 65,536 bytes.
-fn largest_searches() -> [Asked; 3] {
+/// 15 of a match with scores, which takes longest where all cells are sampled.
+fn one_too_far_off() -> Asked {
+    let mut shot = most_searched();
+    shot.cells[MOST_CELLS - 1].u = FARTHEST as i16;
+    Asked::new(15, "one cell too far off", &shot)
+}
+
+/// 256 cells of 8 by 8 bits in a block, in any order. It has 1,156 placements; no 256 points have more. No larger record has as
+/// much to search: with a border of 4 the grids alone would have 65,536 bytes.
+fn most_searched() -> Shot {
     let mut prng = Prng::new(18);
     let mut squares: Vec<[i32; 2]> = rectangle([8, 8], [16, 16]).collect();
     prng.shuffle(&mut squares);
@@ -237,6 +260,12 @@ fn largest_searches() -> [Asked; 3] {
     };
     let mut placed = scene.shot(&mut prng, Look::Clear);
     placed.map = ALL;
+    placed
+}
+
+/// 16, 17 and a match.
+fn largest_searches() -> [Asked; 3] {
+    let placed = most_searched();
     let mut narrow = placed.clone();
     narrow.minimum_margin = f32::MAX.to_bits();
     // No evidence is above 0 by this table, so that the margin is 0 and no cell emits a marker, though half of them lie on one.

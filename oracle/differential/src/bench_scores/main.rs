@@ -1,5 +1,5 @@
 //! How long this library and upstream take for all scores of a board's cells: `bench_scores`, or `bench_scores
-//! ours|theirs|both ROUNDS [CASE]`. Without a case, the machine's own limits come first. `ours` and `theirs` are not
+//! ours|theirs|all ROUNDS [CASE]`. Without a case, the machine's own limits come first. `ours` and `theirs` are not
 //! inlined, so that a profile shows them.
 
 mod limits;
@@ -7,7 +7,7 @@ mod limits;
 use cases::cells::Cell;
 use cases::codes::{TURNS, random_code};
 use cases::prng::Prng;
-use differential::bench::{self, Bench, Runs, runs};
+use differential::bench::{self, Bench, Side, runs};
 use differential::ours;
 use std::process::ExitCode;
 use theirs::{BUILT_IN, Samples, ScoreBoard, Scores, TABLE_LENGTH, likelihood_table};
@@ -98,12 +98,11 @@ impl Case {
 }
 
 impl bench::Case for Case {
-    fn runs_of_ours(&self, count: usize) -> Runs<'_> {
-        runs(count, || self.ours())
-    }
-
-    fn runs_of_theirs(&self, count: usize) -> Runs<'_> {
-        runs(count, || self.theirs())
+    fn sides(&self) -> Vec<Side<'_>> {
+        vec![
+            Side::ours(|count| runs(count, || self.ours())),
+            Side::theirs(|count| runs(count, || self.theirs())),
+        ]
     }
 
     /// The sums of the scores.

@@ -1,33 +1,26 @@
-//! How the time of a whole match grows with the number of cells, of markers and of placements, for this library and
-//! upstream: `bench_sizes`. Prints a line for each size, its fields separated by tabs, with the best rounds of both sides.
-//! Ends with 1 if an answer or a list differs.
+//! How the time of a whole match grows with the number of cells, of markers and of placements, for this library, without
+//! scores and with them, and for upstream: `bench_sizes`. Prints a line for each size, its fields separated by tabs, with the
+//! best rounds of all sides. Ends with 1 if an answer or a list differs.
 
 use cases::corner_lists::rectangle;
-use differential::bench::{Board, Case, Side, WholeMatch, best_of_each, seen, warn_of_checks};
+use differential::bench::{Board, Case, WholeMatch, best_of_each, seen, warn_of_checks};
 use std::process::ExitCode;
 
 fn main() -> ExitCode {
     warn_of_checks();
     let sizes = [over_cells(), over_markers(), over_placements()].concat();
     let cases: Vec<WholeMatch> = sizes.iter().map(Size::case).collect();
-    let times = best_of_each(&cases.iter().flat_map(sides).collect::<Vec<_>>());
-    println!("series\tnumber\tmarkers\tplacements\tours, ns\ttheirs, ns\tours / theirs");
+    let times = best_of_each(&cases.iter().flat_map(Case::sides).collect::<Vec<_>>());
+    println!("series\tnumber\tmarkers\tplacements\tours, ns\twith scores, ns\ttheirs, ns");
     let mut agree = true;
-    for ((size, case), times) in sizes.iter().zip(&cases).zip(times.chunks(2)) {
-        size.print(case.placements(), times[0], times[1]);
+    for ((size, case), times) in sizes.iter().zip(&cases).zip(times.as_chunks().0) {
+        size.print(case.placements(), *times);
         if !case.agrees() {
             agree = false;
             eprintln!("the answers differ: {}", size.series);
         }
     }
     ExitCode::from(u8::from(!agree))
-}
-
-fn sides(case: &WholeMatch) -> [Side<'_>; 2] {
-    [
-        Box::new(|count| case.runs_of_ours(count)),
-        Box::new(|count| case.runs_of_theirs(count)),
-    ]
 }
 
 #[derive(Clone)]
@@ -102,12 +95,11 @@ impl Size {
         WholeMatch::new(seen(self.board, self.squares.clone()))
     }
 
-    fn print(&self, placements: u32, ours: f64, theirs: f64) {
+    fn print(&self, placements: u32, [ours, second, theirs]: [f64; 3]) {
         let ([rows, cols], _) = self.board;
         let markers = u32::from(rows) * u32::from(cols) / 2;
         let (series, number) = (&self.series, self.number.unwrap_or(placements));
-        let quotient = ours / theirs;
         print!("{series}\t{number}\t{markers}\t{placements}\t");
-        println!("{ours:.0}\t{theirs:.0}\t{quotient:.3}");
+        println!("{ours:.0}\t{second:.0}\t{theirs:.0}");
     }
 }

@@ -33,20 +33,27 @@ impl Entry {
     }
 
     pub fn compare(&mut self, input: &impl Input, asked: impl Display) -> Both {
-        let [mut words, mut list] = [VALUES, input.places()].map(before);
-        let number = input.ours()(&mut words, &mut list);
-        let theirs = input.theirs();
+        self.compare_call(input.places(), input.ours(), input.theirs(), asked)
+    }
+
+    /// A call with an output array of so many words, and the answer that is expected.
+    pub fn compare_call(
+        &mut self,
+        places: usize,
+        ours: impl FnOnce(&mut [u32], &mut [u32]) -> u32,
+        theirs: Answer,
+        asked: impl Display,
+    ) -> Both {
+        let [mut words, mut list] = [VALUES, places].map(before);
+        let number = ours(&mut words, &mut list);
         let their_words = after(before(VALUES), &theirs.words);
-        let their_list = after(before(input.places()), &theirs.list);
+        let their_list = after(before(places), &theirs.list);
         let place = self.numbers.iter().position(|&n| n == theirs.number);
         let answers = &mut self.answers[place.expect("one of the numbers of the entry")];
         let [ours, expected] = [(number, &words), (theirs.number, &their_words)];
         answers.check(ours, expected, format_args!("{asked}"));
-        let different = (0..list.len()).find(|&place| list[place] != their_list[place]);
-        let [ours, expected] =
-            [&list, &their_list].map(|list| different.map(|place| (place, list[place])));
-        let asked = format_args!("first word that differs, {asked}");
-        self.lent.check(ours, expected, asked);
+        self.lent
+            .check_words(&list, &their_list, format_args!("{asked}"));
         let ours = Answer {
             number,
             words,

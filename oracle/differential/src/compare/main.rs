@@ -11,6 +11,7 @@ mod links;
 mod matches;
 mod records;
 mod results;
+mod score_arrays;
 mod scores;
 mod subject;
 
@@ -24,7 +25,7 @@ const BLOCK: &str = "compare";
 type Group = (&'static str, fn() -> Vec<Subject>);
 
 /// In the order of the run.
-const GROUPS: [Group; 11] = [
+const GROUPS: [Group; 12] = [
     ("codes", codes::compare),
     ("layout", layout::compare),
     ("refusals", entries::refusals),
@@ -35,6 +36,7 @@ const GROUPS: [Group; 11] = [
     ("links", links::compare),
     ("records", records::compare),
     ("matches", matches::compare),
+    ("score_arrays", score_arrays::compare),
     ("program", matches::compare_program),
 ];
 

@@ -63,6 +63,16 @@ impl Subject {
         self.check(float_bits(ours), float_bits(theirs), asked);
     }
 
+    /// The same for arrays of equal length, of which the first word that differs is shown.
+    pub fn check_words(&mut self, ours: &[u32], theirs: &[u32], asked: Arguments) {
+        let length = ours.len().max(theirs.len());
+        let different = (0..length).find(|&place| ours.get(place) != theirs.get(place));
+        let [ours, theirs] =
+            [ours, theirs].map(|list| different.map(|place| (place, list.get(place))));
+        let asked = format_args!("first word that differs, {asked}");
+        self.check(ours, theirs, asked);
+    }
+
     /// A case that the inputs should have and that never comes up is a difference.
     pub fn require(&mut self, count: u64, case: Arguments) {
         if count == 0 {

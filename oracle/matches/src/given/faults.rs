@@ -128,13 +128,22 @@ pub fn given(prng: &mut Prng, legacy: bool) -> Given {
 
 /// So many faults of any checks.
 pub fn with_faults(prng: &mut Prng, shot: Shot, count: usize) -> Given {
+    with_faults_of(prng, shot, &FAULTS, count)
+}
+
+/// The same of the checks 14 to 17, which are the last.
+pub fn with_late_faults(prng: &mut Prng, shot: Shot, count: usize) -> Given {
+    with_faults_of(prng, shot, &FAULTS[FAULTS.len() - 4..], count)
+}
+
+fn with_faults_of(prng: &mut Prng, shot: Shot, faults: &[Fault], count: usize) -> Given {
     let mut faulty = Faulty {
         shot,
         is_list_short: false,
         is_broken: false,
     };
     for _ in 0..count {
-        prng.pick(&FAULTS)(prng, &mut faulty);
+        prng.pick(faults)(prng, &mut faulty);
     }
     faulty.given(prng)
 }

@@ -21,7 +21,8 @@ use Rattle.shot_record.specs.Shots.{Shot, shot}
 use Rattle.shot_record.specs.Answers.{specOf}
 use Rattle.shot_record.specs.Index.{thresholdIn}
 use Rattle.hypothesis.specs.Placements.{cell}
-use Rattle.hypothesis.proofs.IndexedCells.{few, u-is, v-is, border-is, threshold-is}
+use Rattle.hypothesis.specs.Inputs.{SearchCell, SearchInput}
+use Rattle.hypothesis.proofs.IndexedCells.{board-is, few, threshold-is, search-input}
 use Rattle.emit.specs.declared.candidates.Expected.the-variants as expectation
 use Rattle.emit.proofs.Reading.{Sampled, sampled, unsampled, code-is, made, no-sample, by-expected, with-marker}
 use Rattle.emit.proofs.candidates.expected_in.Statement.{statement}
@@ -37,14 +38,20 @@ module _ (s : tie.Start) where
   abbrev k : ℕ
   k = s .args .k
 
+  input : SearchInput (shot bytes) (s .args .inputs) index
+  input = search-input bytes (s .args .inputs) index (s .pre .0)
+
+  at : SearchCell (shot bytes) index k
+  at = input .cells k (s .pre .3)
+
   early : k < 256
-  early = few bytes (s .args .inputs) index (s .pre .0) k (s .pre .3)
+  early = few (shot bytes) (s .args .inputs) index input k (s .pre .3)
 
 returns : tie.Need-returns
 returns c =
     let a = c .before .before in
     let s = a .before .before .before in
-    let e = sym (c .enum-told .given .1) ∙ a .border .ensures ∙ border-is (bytes s) (s .args .inputs) (index s) (s .pre .0) (k s) (s .pre .3) in
+    let e = sym (c .enum-told .given .1) ∙ a .border .ensures ∙ at s .border in
     no-sample (shot (bytes s)) (s .args .alignment) (k s) (unsampled (cell (shot (bytes s)) (k s) .sample) e)
 
 -- the cell is sampled, and its square was looked up
@@ -84,9 +91,9 @@ module _ (m : tie.After-marker-id-at) where
     was =
         let i = start .args .inputs in
         let h = start .pre in
-        sampled (cell s (k start)) u v fraction threshold (at-u .u .ensures ∙ u-is (bytes start) i (index start) (h .0) (k start) (h .3))
-        (at-v .v .ensures ∙ v-is (bytes start) i (index start) (h .0) (k start) (h .3))
-        (sym (told .border2 .given .1) ∙ looked-up .border .ensures ∙ border-is (bytes start) i (index start) (h .0) (k start) (h .3))
+        sampled (cell s (k start)) u v fraction threshold (at-u .u .ensures ∙ at start .u)
+        (at-v .v .ensures ∙ at start .v)
+        (sym (told .border2 .given .1) ∙ looked-up .border .ensures ∙ at start .border)
         (t ∙ threshold-is (bytes start) i (index start) (h .0) (k start) (h .3))
 
   u-back : toZ w16 (ofZ w16 u) ≡ u
@@ -106,7 +113,7 @@ module _ (m : tie.After-marker-id-at) where
   found-marker : m .marker-id-at .result ≡ looked
   found-marker =
       let r = placed .apply .result in
-      let eb = start .pre .0 .board in
+      let eb = board-is s (start .args .inputs) (start .pre .0 .is) in
       let eu = toZ-ofZ w32 (r .u) (record { sfits = m .before .before .struct-told .given .0 .1 }) ∙ ap (λ (q : Coord). q .u) square in
       let ev = toZ-ofZ w32 (r .v) (record { sfits = m .before .struct-told2 .given .1 .0 .1 }) ∙ ap (λ (q : Coord). q .v) square in
       m .marker-id-at .ensures ∙ (λ i. markerOn (eb i) (eu i) (ev i))
@@ -137,7 +144,7 @@ module _ (c : tie.After-known-told2) where
       id-small (boardOf (specOf (s seen))) _ _ id (h .rows) (h .cols) (sym is-expected)
 
   bits-are : first .args .inputs .board .bits ≡ s seen .bits
-  bits-are = ap (λ (b : Board). b .bits) (first .pre .0 .board)
+  bits-are = ap (λ (b : Board). b .bits) (board-is (s seen) (first .args .inputs) (first .pre .0 .is))
 
 returns-3 : tie.Need-returns-3
 returns-3 c =

@@ -10,11 +10,11 @@ use borrow.Author.Needs.{needs}
 use borrow.Author.Tests.{not-true, not-false}
 use Rattle.floats.specs.Units.{nought}
 use Rattle.lent_list.proofs.Front.{nothing-put, put-as}
-use Rattle.score_matrix.specs.Scores.{Samples, samples, evidence, nullScore, readCode}
+use Rattle.score_matrix.specs.Scores.{Samples, evidence, nullScore, readCode}
 use Rattle.score_matrix.specs.declared.BorderSample.the-variants as border
 use Rattle.score_matrix.specs.Weights.{weight}
 use Rattle.emit.specs.Markers.{Marker, quotient, markerWords}
-use Rattle.emit.specs.Candidates.{markerFrom, emittedFrom}
+use Rattle.emit.specs.Candidates.{markerFrom, samplesIn, emittedFrom}
 use Rattle.emit.proofs.words.emit_marker.Statement.{statement}
 use Rattle.emit.proofs.words.emit_marker.Tie as tie
 
@@ -32,15 +32,15 @@ one-marker a b m e f = sym (append-nil (markerWords m)) ∙ sym (ap₂ (λ (t u 
 
 module _ (s : tie.Start) where
   abbrev sampled : Samples
-  sampled = samples (s .args .bits) (s .args .border) (s .args .c .threshold) (s .args .grid .now)
+  sampled = samplesIn (s .args .inputs) (s .args .c .threshold) (s .args .grid .now)
 
   abbrev marker : Marker
   marker =
       let c = s .args .c in
-      markerFrom c (readCode sampled) (quotient (s .args .table .now) sampled (c .code)) (s .args .config .«px_per_square»)
+      markerFrom c (readCode sampled) (quotient (s .args .table .now) sampled (c .code)) (s .args .inputs .config .«px_per_square»)
 
   abbrev heavy : Bool
-  heavy = lt nought (weight (s .args .config) (border.BlackFraction (s .args .c .fraction)))
+  heavy = lt nought (weight (s .args .inputs .config) (border.BlackFraction (s .args .c .fraction)))
 
   abbrev evident : Bool
   evident = lt nought (evidence (s .args .table .now) sampled (s .args .c .code))
@@ -48,18 +48,18 @@ module _ (s : tie.Start) where
 returns : tie.Need-returns
 unfolding ofBits ofFields odd
 returns c =
-    let s = c .before .before .before .before in
+    let s = c .before .before .before .before .before in
     let e : heavy s ≡ false = ap (lt nought) (sym (c .before .cell-weight .ensures)) ∙ not-true _ (c .if1 .taken) in
     put-as (no-words (heavy s) (evident s) (marker s) (ap (λ (t : Bool). t && evident s) e)) (nothing-put (s .args .markers .now) (s .args .at))
 
 -- the evidence is that of the score
 module _ (c : tie.After-evidence) where
   abbrev start : tie.Start
-  start = c .before .before .before .before .before .before
+  start = c .before .before .before .before .before .before .before
 
   scored : evident start ≡ lt nought (c .evidence .result)
   scored =
-      let null = nullScore (start .args .bits) in
+      let null = nullScore (start .args .inputs .board .bits) in
       sym (ap (lt nought) (c .evidence .ensures ∙ ap (λ (x : Float). sub binary32 x null) (c .before .score .ensures)))
 
 returns-2 : tie.Need-returns-2
@@ -76,7 +76,7 @@ module _ (c : tie.Else2) where
   first = start (c .before)
 
   abbrev written : List ℕ
-  written = flatMap markerWords (emittedFrom (first .args .config) (first .args .table .now) (sampled first) (first .args .c))
+  written = flatMap markerWords (emittedFrom (first .args .inputs .config) (first .args .table .now) (sampled first) (first .args .c))
 
   one : markerWords (marker first) ≡ written
   unfolding ofBits ofFields odd
@@ -97,9 +97,9 @@ module _ (c : tie.After-marker-words) where
       let r = q .before in
       let x = first tested .args in
       let es = r .before .before .before .score .ensures in
-      let eq = q .quotient .ensures ∙ ap (λ (y : Float). div binary32 y (ofInt binary32 (pos (x .bits * x .bits)))) es in
+      let eq = q .quotient .ensures ∙ ap (λ (y : Float). div binary32 y (ofInt binary32 (pos (x .inputs .board .bits * x .inputs .board .bits)))) es in
       c .marker-words .ensures
-      ∙ ap₂ (λ (code : ℕ) (y : Float). markerWords (markerFrom (x .c) code y (x .config .«px_per_square»))) (r .read-code .ensures) eq
+      ∙ ap₂ (λ (code : ℕ) (y : Float). markerWords (markerFrom (x .c) code y (x .inputs .config .«px_per_square»))) (r .read-code .ensures) eq
       ∙ one tested
 
 put-requires : tie.Need-put-requires

@@ -31,10 +31,10 @@ returns c =
     let e = c .before .before .before .before .before .placement-sum in
     let t = c .before .before .before .translation in
     let t2 = c .before .translation2 in
-    same (a .turn) (word (t .result)) (word (t2 .result)) (pos (a .a) -ℤ a .frame .u) (pos (a .b) -ℤ a .frame .v) (e .result)
-    (evidenceAt (a .sums .now) (a .contributing) (a .down) (a .a) (a .b)) (c .count-at .result) (countAt (a .contributing) (a .a + a .b))
-    (reads (a .a) (a .frame .u) (t .result) (p .0) (p .3) (t .ensures))
-    (reads (a .b) (a .frame .v) (t2 .result) (p .1) (p .4) (t2 .ensures))
+    same (a .t .turn) (word (t .result)) (word (t2 .result)) (pos (a .a) -ℤ a .t .u) (pos (a .b) -ℤ a .t .v) (e .result)
+    (evidenceAt (a .sums .now) (a .contributing) (a .t .down) (a .a) (a .b)) (c .count-at .result) (countAt (a .contributing) (a .a + a .b))
+    (reads (a .a) (a .t .u) (t .result) (p .0) (p .2 .u) (t .ensures))
+    (reads (a .b) (a .t .v) (t2 .result) (p .1) (p .2 .v) (t2 .ensures))
     (e .ensures) (c .count-at .ensures)
 
 pub moved-to-spec : {M : Type 1} → statement M

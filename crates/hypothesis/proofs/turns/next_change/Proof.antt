@@ -1,11 +1,11 @@
 -- `hypothesis::turns::next_change` meets its contract. The loop's invariant: the placements before row `b` change nothing. Assumes nothing.
-use mathlib.Core.Path.{sym, _∙_}
-use Prim.Native.Nat.{_+_, _-_, _<_}
+use mathlib.Core.Path.{sym, ap, _∙_}
+use Prim.Native.Nat.{ℕ, _+_, _-_, _<_}
 use native.Mathlib.Omega.{arith}
 use borrow.Author.Tests.{not-false}
 use Rattle.ranking.specs.Ranking.{ranking}
 use Rattle.ranking.proofs.Unchanged.{held-unchanged}
-use Rattle.hypothesis.specs.Turns.{movedTo, PassesOver}
+use Rattle.hypothesis.specs.Turns.{evidenceAt, movedTo, PassesOver}
 use Rattle.hypothesis.proofs.Moves.{fits-small}
 use Rattle.hypothesis.proofs.turns.next_change.Statement.{statement}
 use Rattle.hypothesis.proofs.turns.next_change.Tie as tie
@@ -17,7 +17,7 @@ abbrev μ-loop : tie.MeasureT-loop
 μ-loop sums contributing down a from best runner-up b₀ b = down - b
 
 loop-holds : tie.Need-loop-holds Inv-loop μ-loop
-loop-holds c = (omega arith, c .pre .2, λ k frame r g. g)
+loop-holds c = (omega arith, c .pre .2, λ k t e g. g)
 
 below : (c : tie.In-loop Inv-loop μ-loop) → c .before .loop .b < 32
 below c = omega (arith, c .before .before .pre .1, c .loop-test .taken)
@@ -41,8 +41,8 @@ loop-again c =
     let test = c .before .changes-nothing in (
       omega (arith, i .0),
       omega (arith, l .loop-test .taken),
-      λ k frame r g. held-unchanged k (movedTo (a .sums .now) (a .contributing) frame r (a .down) (a .a)) b (a .held) (i .2 k frame r g) (sum .result)
-          (sum .ensures) (sym (test .ensures) ∙ not-false (test .result) (c .if1 .left)),
+      λ k t e g. held-unchanged k (movedTo (a .sums .now) (a .contributing) t (a .a)) b (a .held) (i .2 k t e g) (sum .result)
+          (sum .ensures ∙ ap (λ (d : ℕ). evidenceAt (a .sums .now) (a .contributing) d (a .a) b) (sym e)) (sym (test .ensures) ∙ not-false (test .result) (c .if1 .left)),
     )
 
 pub next-change-spec : {M : Type 1} → statement M

@@ -1,14 +1,13 @@
 -- `shot_record::index::grid_part` meets its contract. Assumes nothing.
 use mathlib.Core.Path.{_≡_, refl, ap₂, _∙_}
-use Prim.Native.Nat.{ℕ, zero, suc, _+_, _-_, _/_, _≤_, _<_, zero-le}
+use Prim.Native.Nat.{ℕ, zero, suc, _+_, _-_, _/_, _≤_, zero-le}
 use native.Mathlib.Nat.{le-refl}
 use native.Mathlib.Omega.{arith}
 use mathlib.Core.List.{List}
 use lib.ListN.{length, take, drop}
 use borrow.Author.Needs.{needs}
-use Rattle.shot_record.specs.Fields.{bitsOf, borderOf, gridSize, cellCount, sampled, samplePlace, gridFrom}
+use Rattle.shot_record.specs.Fields.{bitsOf, borderOf, gridSize, sampled, samplePlace, gridFrom}
 use Rattle.shot_record.specs.Index.{Entry, placeIn}
-use Rattle.shot_record.proofs.Reading.{Found, found}
 use Rattle.shot_record.proofs.Whole.{Whole, passed}
 use Rattle.shot_record.proofs.CellReads.{without-grid, with-grid, grid-lies}
 use Rattle.shot_record.proofs.index.grid_part.Statement.{statement}
@@ -27,17 +26,11 @@ module _ (c : tie.Start) where
   abbrev size : ℕ
   size = gridSize (bitsOf bytes) (borderOf bytes)
 
-  f : Found (c .args .f) bytes
-  f = found (c .args .f) bytes (c .pre .0 .0)
-
   is-whole : Whole bytes
-  is-whole = passed bytes (c .pre .0 .2)
-
-  inside : k < cellCount bytes
-  inside = omega (arith, f .cell-count, c .pre .1)
+  is-whole = passed bytes (c .pre .whole)
 
   entry : Entry bytes index k
-  entry = c .pre .0 .1 k inside (c .pre .2)
+  entry = c .pre .indexed k (c .pre .inside) (c .pre .early)
 
 -- a cell whose third word is 0 is not sampled
 unmarked : (b word at : ℕ) → ((b ≡ 0 → ⊥) → word / 256 ≡ gridFrom at) → word ≡ 0 → b ≡ 0
@@ -61,7 +54,7 @@ module _ (c : tie.Else1) where
   marked z = c .if1 .left (entry s .unsampled z)
 
   lies : gridFrom (samplePlace (bytes s) (k s)) + size s ≤ length (bytes s)
-  lies = grid-lies (bytes s) (is-whole s) (k s) (inside s) marked
+  lies = grid-lies (bytes s) (is-whole s) (k s) (s .pre .inside) marked
 
   place : placeIn (index s) (k s) ≡ gridFrom (samplePlace (bytes s) (k s))
   place = entry s .place marked
@@ -71,16 +64,16 @@ cast-first c = let e = c .before in omega (arith, place e, lies e, is-whole (s e
 
 add-t6 : tie.Need-add-t6
 add-t6 c =
-    let e = c .before .before in
-    omega (arith, place e, lies e, is-whole (s e) .size, f (s e) .grid-size)
+    let e = c .before in
+    omega (arith, place e, lies e, is-whole (s e) .size, s e .pre .size-is)
 
 returns-2 : tie.Need-returns-2
 returns-2 c =
-    let e = c .before .before in
+    let e = c .before in
     let x = s e in
     let at = placeIn (index x) (k x) in
-    let length : at + x .args .f .«grid_size» - at ≡ size x = omega (arith, f x .grid-size) in (
-      (omega arith, omega (arith, place e, lies e, f x .grid-size)),
+    let length : at + x .args .size - at ≡ size x = omega (arith, x .pre .size-is) in (
+      (omega arith, omega (arith, place e, lies e, x .pre .size-is)),
       ap₂ (λ (n at : ℕ). take n (drop at (bytes x))) length (place e)
           ∙ with-grid (sampled (bytes x) (k x)) (size x) (samplePlace (bytes x) (k x)) (bytes x) (marked e),
     )
