@@ -337,7 +337,7 @@ uint32_t charuco_match_board(const uint8_t *bytes, size_t bytes_len,
                              uint32_t *values, size_t values_len);
 
 /*
- * The same match by another search, faster where little of the board is seen and memory allows (README.md says when): it computes every score first
+ * The same match by another search, faster where little of the board is seen and memory allows (README.md states when): it computes every score first
  * and then looks them up.
  * scores, output: the score of cell k for marker m after turn r is scores[(k * M + m) * 4 + r], with M markers on the board; +0 for an unsampled
  * cell. Check 24, after 14, requires number of cells * M * 4 elements, where M is rows * cols / 2, rounded down; CHARUCO_MAX_SCORES suffice for every

@@ -256,7 +256,7 @@ fn answers_do_not_depend_on_the_callers_floats() {
                 assert_eq!(after, *setting, "{name}: MXCSR is not restored");
                 assert!(question.take() == expected, "{name}");
                 under(*setting, &mut question, through_c);
-                // Of the two matches; no corners are asked for.
+                // Of the two matches; the corners are not counted.
                 let answers = differing.iter_mut().zip(question.take()).zip(&expected);
                 for ((differing, answer), expected) in answers {
                     *differing += usize::from(answer != *expected);

@@ -24,7 +24,7 @@ use Rattle.hypothesis.specs.Placements.{cellTotal, cell}
 use Rattle.hypothesis.specs.Evidence.{boardIn, tableOf, weightWith, weightOf, samplesWith, codeOf}
 use Rattle.hypothesis.specs.Inputs.{SearchInput}
 use Rattle.hypothesis.specs.Filling.{CellScores}
-use Rattle.hypothesis.specs.ScoreList.{markersOf, scoreWith, scoreIn, markerScores, scoresOfCell, scoreList, scoreCount, scorePlace, HoldsScores}
+use Rattle.hypothesis.specs.ScoreList.{markerTotalIn, scoreWith, scoreIn, markerScores, scoresOfCell, scoreList, scoreCount, scorePlace, HoldsScores}
 use Rattle.hypothesis.specs.ScoreList.{PlacesOfScoresRule, InScores, Scored}
 
 -- ---- indices: equal only for the same cell, marker and turn
@@ -47,7 +47,7 @@ pub place-below : (markers n k m r : ℕ) → k < n → m < markers → r < 4 �
 place-below markers n k m r a b c = digits-lt (digits-lt a b) c
 
 -- every number below that is one of them
-pub record Spot (markers n i : ℕ) : Type 0 where
+record IsPlace (markers n i : ℕ) : Type 0 where
   pub cell : ℕ
   pub marker : ℕ
   pub turn : ℕ
@@ -58,8 +58,8 @@ parts : (markers n j : ℕ) → j < n * markers → (j / markers < n) × (j % ma
 parts zero n j h = absurd (omega (arith, mul-zero n))
 parts (suc w) n j h = let some : 0 < suc w = omega arith in (div-lt-iff-lt-mul some .1 h, mod-lt j some)
 
-pub spot : (markers n i : ℕ) → i < n * markers * 4 → Spot markers n i
-spot markers n i h =
+is-place : (markers n i : ℕ) → i < n * markers * 4 → IsPlace markers n i
+is-place markers n i h =
     record {
       cell = i / 4 / markers;
       marker = i / 4 % markers;
@@ -75,19 +75,19 @@ spot markers n i h =
 four : (s : Shot) (k m : ℕ) → length (markerScores s k m) ≡ 4
 four s k m = length-list (scoreIn s k m) 4
 
-each-cell : (s : Shot) (k : ℕ) → length (scoresOfCell s k) ≡ markersOf s * 4
-each-cell s k = up-to-length (markerScores s k) 4 (four s k) (markersOf s)
+each-cell : (s : Shot) (k : ℕ) → length (scoresOfCell s k) ≡ markerTotalIn s * 4
+each-cell s k = up-to-length (markerScores s k) 4 (four s k) (markerTotalIn s)
 
 pub places-of-scores : PlacesOfScoresRule
 unfolding scoreList
 places-of-scores s =
     record {
-      count = up-to-length (scoresOfCell s) (markersOf s * 4) (each-cell s) (cellTotal s) ∙ omega arith;
+      count = up-to-length (scoresOfCell s) (markerTotalIn s * 4) (each-cell s) (cellTotal s) ∙ omega arith;
       holds = λ k m r a b c.
-          let place : scorePlace (markersOf s) k m r ≡ k * (markersOf s * 4) + (m * 4 + r) = omega arith in
+          let place : scorePlace (markerTotalIn s) k m r ≡ k * (markerTotalIn s * 4) + (m * 4 + r) = omega arith in
           ap (λ (i : ℕ). getD (scoreList s) i nan) place
-          ∙ up-to-at (scoresOfCell s) (markersOf s * 4) (each-cell s) nan (cellTotal s) k (m * 4 + r) a (digits-lt b c)
-          ∙ up-to-at (markerScores s k) 4 (four s k) nan (markersOf s) m r b c
+          ∙ up-to-at (scoresOfCell s) (markerTotalIn s * 4) (each-cell s) nan (cellTotal s) k (m * 4 + r) a (digits-lt b c)
+          ∙ up-to-at (markerScores s k) 4 (four s k) nan (markerTotalIn s) m r b c
           ∙ getD-list (scoreIn s k m) 4 r nan c;
     }
 
@@ -98,14 +98,14 @@ pub scores-in-front : (s : Shot) (lent after : List Float) → length after ≡ 
 scores-in-front s lent after size room holds kept =
     let p = places-of-scores s in
     in-front nan (scoreList s) lent after size (rw (p .count) room)
-    (λ i h. let x = spot (markersOf s) (cellTotal s) i (rw (p .count) at h) in
+    (λ i h. let x = is-place (markerTotalIn s) (cellTotal s) i (rw (p .count) at h) in
     ap (λ (j : ℕ). getD after j nan) (x .place)
     ∙ holds (x .cell) (x .marker) (x .turn) (x .inside .0) (x .inside .1) (x .inside .2)
     ∙ sym (p .holds (x .cell) (x .marker) (x .turn) (x .inside .0) (x .inside .1) (x .inside .2))
     ∙ ap (λ (j : ℕ). getD (scoreList s) j nan) (sym (x .place)))
     (λ i h. kept i (rw (p .count) at h))
 
--- an array with the scores at its start has them at their places
+-- an array with the scores at its start has each at its index
 pub front-scores : (s : Shot) (i : Inputs) (index : List ℕ) → SearchInput s i index → (lent after : List Float) → scoreCount s ≤ length lent
     → after ≡ inFront (scoreList s) lent → Scored s i index after
 front-scores s i index input lent after room e =
@@ -116,25 +116,26 @@ front-scores s i index input lent after room e =
       input = input;
       room = omega (arith, ap length e, front-length (scoreList s) lent);
       holds = λ k m r a b c.
-          let inside : scorePlace (markersOf s) k m r < length (scoreList s) = rw (p .count) (place-below (markersOf s) (cellTotal s) k m r a b c) in
-          ap (λ (l : List Float). getD l (scorePlace (markersOf s) k m r) nan) front
-          ∙ List·getD-append (scoreList s) (drop (length (scoreList s)) lent) nan (scorePlace (markersOf s) k m r) inside
+          let inside : scorePlace (markerTotalIn s) k m r < length (scoreList s) =
+          rw (p .count) (place-below (markerTotalIn s) (cellTotal s) k m r a b c) in
+          ap (λ (l : List Float). getD l (scorePlace (markerTotalIn s) k m r) nan) front
+          ∙ List·getD-append (scoreList s) (drop (length (scoreList s)) lent) nan (scorePlace (markerTotalIn s) k m r) inside
           ∙ p .holds k m r a b c;
     }
 
 -- ---- numbers of markers
-pub few-markers : (s : Shot) → s .rows ≤ 32 → s .cols ≤ 32 → markersOf s ≤ 512
+pub few-markers : (s : Shot) → s .rows ≤ 32 → s .cols ≤ 32 → markerTotalIn s ≤ 512
 few-markers s h c = omega (arith, same-count (boardIn s), mul-le-mul {n₁ = s .rows} {m₁ = s .cols} {n₂ = 32} {m₂ = 32} h c)
 
 -- ---- what a search finds in the array: `first` is the index of the score of cell k and marker 0 after r quarter turns
 module _ (s : Shot) (i : Inputs) (index : List ℕ) (scores : List Float) (scored : Scored s i index scores) (r k : ℕ) (turn : r < 4) (inside : k < cellTotal s)
-    (first : ℕ) (is : first ≡ 4 * (k * markersOf s) + r) where
-  place : (m : ℕ) → first + 4 * m ≡ scorePlace (markersOf s) k m r
+    (first : ℕ) (is : first ≡ 4 * (k * markerTotalIn s) + r) where
+  place : (m : ℕ) → first + 4 * m ≡ scorePlace (markerTotalIn s) k m r
   place m = omega (arith, is)
 
   pub in-scores : (board : Board) → board ≡ boardIn s → InScores board first scores
   in-scores board e m h =
-      omega (arith, place m, scored .room, place-below (markersOf s) (cellTotal s) k m r inside (subst (λ (b : Board). m < markerTotal b) e h) turn)
+      omega (arith, place m, scored .room, place-below (markerTotalIn s) (cellTotal s) k m r inside (subst (λ (b : Board). m < markerTotal b) e h) turn)
 
   -- document 01's scores, of a cell with weight above 0
   pub found-scores : lt nought (weightOf s k) ≡ true → CellScores s r k (λ (m : ℕ). getD scores (first + 4 * m) nan)

@@ -42,7 +42,7 @@ pub record SearchInput (s : Shot) (i : Inputs) (index : List ℕ) : Type 0 where
   pub is : i ≡ inputsOf s
   pub cells : (k : ℕ) → k < cellTotal s → SearchCell s index k
 
--- with the record, where the index has the places of the grids
+-- with the record, where the index has the offsets of the grids
 pub record Ready (bytes : List ℕ) (i : Inputs) (index : List ℕ) : Type 0 where
   pub passed : PassedShot (shot bytes)
   pub is : i ≡ inputsOf (shot bytes)

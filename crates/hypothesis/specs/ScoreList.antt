@@ -18,8 +18,8 @@ use Rattle.hypothesis.specs.Evidence.{boardIn, tableOf, samplesWith, cod
 use Rattle.hypothesis.specs.Inputs.{SearchInput}
 
 -- the number of markers of the board; there may be more codes
-abbrev pub markersOf : Shot → ℕ
-markersOf s = markerTotal (boardIn s)
+abbrev pub markerTotalIn : Shot → ℕ
+markerTotalIn s = markerTotal (boardIn s)
 
 -- The score of a cell for a rotated code, whatever its weight.
 abbrev pub scoreWith : Shot → Option Sample → ℕ → Float
@@ -35,21 +35,21 @@ abbrev pub markerScores : Shot → ℕ → ℕ → List Float
 markerScores s k m = list (scoreIn s k m) 4
 
 abbrev pub scoresOfCell : Shot → ℕ → List Float
-scoresOfCell s k = upTo (markerScores s k) (markersOf s)
+scoresOfCell s k = upTo (markerScores s k) (markerTotalIn s)
 
 unfoldable pub scoreList : Shot → List Float
 scoreList s = upTo (scoresOfCell s) (cellTotal s)
 
 -- their number, and the index of the one of cell k, marker m and turn r on a board with so many markers
 abbrev pub scoreCount : Shot → ℕ
-scoreCount s = cellTotal s * markersOf s * 4
+scoreCount s = cellTotal s * markerTotalIn s * 4
 
 abbrev pub scorePlace : ℕ → ℕ → ℕ → ℕ → ℕ
 scorePlace markers k m r = (k * markers + m) * 4 + r
 
 -- a list that has the scores of all cells, markers and turns, each at its index
 abbrev pub HoldsScores : Shot → List Float → Type 0
-HoldsScores s l = (k m r : ℕ) → k < cellTotal s → m < markersOf s → r < 4 → getD l (scorePlace (markersOf s) k m r) nan ≡ scoreIn s k m r
+HoldsScores s l = (k m r : ℕ) → k < cellTotal s → m < markerTotalIn s → r < 4 → getD l (scorePlace (markerTotalIn s) k m r) nan ≡ scoreIn s k m r
 
 -- the list has that length, and each score at its index
 pub record PlacesOfScores (s : Shot) : Type 0 where

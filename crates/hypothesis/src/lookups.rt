@@ -1,5 +1,5 @@
-// The search by look-up (document 02, 2.6): the scores are in an array, so that it takes no record, table or codes. Its contracts ask for a shot
-// whose inputs, index and scores these are, and state the result for every such shot.
+// The search by look-up (document 02, 2.6): the scores are in an array, so that it takes no record, table or codes. Its contracts require that
+// some shot has these inputs, index and scores, and state the result for every such shot.
 ghost use mathlib.Core.Path.{_≡_};
 ghost use mathlib.Core.Bool.{true};
 ghost use Prim.Native.Nat.{ℕ, _+_, _*_, _<_, _≤_};

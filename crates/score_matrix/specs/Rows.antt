@@ -20,11 +20,11 @@ Adds f n l = (k b : ℕ) → k < n → b < 2 → getD l (2 * k + b) nan ≡ f k 
 abbrev pub Column : (ℕ → ℕ → Float) → ℕ → List Float → ℕ → Type 0
 Column f n rows x = (k b : ℕ) → k < n → b < 2 → inRow rows x (2 * k + b) ≡ f k b
 
--- l holds for each of the four turns, 64 places apart, which bit of a code each bit below n of the turned code is
+-- l has for each of the four turns, 64 elements apart, which bit of a code each bit below n of the turned code is
 abbrev pub FourSources : ℕ → ℕ → List ℕ → Type 0
 FourSources bits n l = (r k : ℕ) → r < 4 → k < n → getD l (64 * r + k) 0 ≡ sourceBit bits r k
 
--- what bit k of a code picks for cell x after turn r, and the sum of what all bits pick, in document 01's order
+-- what bit k of a code adds to the score of cell x after turn r, and the sum over all bits, in document 01's order
 abbrev pub pickedRow : List Float → List ℕ → ℕ → ℕ → ℕ → ℕ → Float
 pickedRow rows sources code x r k = inRow rows x (2 * k + bit code (getD sources (64 * r + k) 0))
 

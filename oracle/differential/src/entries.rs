@@ -96,7 +96,7 @@ impl Input for Given {
     }
 }
 
-/// The match with scores, whose array is given as bit patterns, so that no NaN loses its own.
+/// The match with scores, on an array of bit patterns, so that every NaN keeps its own.
 pub fn match_board_with_scores(
     record: &[u8],
     scores: &mut [u32],

@@ -12,7 +12,7 @@ use Rattle.shot_record.specs.Shots.{Shot, shot}
 use Rattle.hypothesis.specs.declared.Inputs.{Inputs}
 use Rattle.hypothesis.specs.Placements.{cellTotal}
 use Rattle.hypothesis.specs.Inputs.{Loaded}
-use Rattle.hypothesis.specs.ScoreList.{markersOf, scoreCount, Scored}
+use Rattle.hypothesis.specs.ScoreList.{markerTotalIn, scoreCount, Scored}
 use Rattle.hypothesis.proofs.IndexedCells.{cells-are, board-is, few-cells, search-input}
 use Rattle.hypothesis.proofs.ScoreLists.{few-markers, front-scores}
 use Rattle.board_match.proofs.Engines.{too-short, searched}
@@ -38,11 +38,11 @@ module _ (c : tie.Start) where
   loaded : Loaded bytes i (c .args .index .now) (c .args .table .now) (c .args .codes .now)
   loaded = c .pre .0
 
-  markers-are : markerTotal (i .board) ≡ markersOf s
+  markers-are : markerTotal (i .board) ≡ markerTotalIn s
   markers-are = ap markerTotal (board-is s i (loaded .ready .is))
 
   count-is : i .cells * markerTotal (i .board) * 4 ≡ scoreCount s
-  count-is = counted (i .cells) (cellTotal s) (markerTotal (i .board)) (markersOf s) (cells-are s i (loaded .ready .is)) markers-are
+  count-is = counted (i .cells) (cellTotal s) (markerTotal (i .board)) (markerTotalIn s) (cells-are s i (loaded .ready .is)) markers-are
     where
       counted : (a b m n : ℕ) → a ≡ b → m ≡ n → a * m * 4 ≡ b * n * 4
       counted a b m n e f = rw (e, f) refl

@@ -19,7 +19,7 @@ use Rattle.shot_record.proofs.Lists.{getD-list}
 use Rattle.hypothesis.specs.declared.Inputs.{Inputs}
 use Rattle.hypothesis.specs.Placements.{cellTotal}
 use Rattle.hypothesis.specs.Inputs.{Ready, Loaded}
-use Rattle.hypothesis.specs.ScoreList.{markersOf, scoreIn}
+use Rattle.hypothesis.specs.ScoreList.{markerTotalIn, scoreIn}
 use Rattle.hypothesis.proofs.IndexedCells.{cells-are, board-is, bits-are, few-bits}
 use Rattle.hypothesis.proofs.ScoreLists.{few-markers, place-below, scores-in-front}
 use Rattle.score_list.specs.Filling.{addsOf, atMostEight, Spot, SpotIn, spotPlace, spotScore}
@@ -28,12 +28,12 @@ use Rattle.score_list.proofs.CellAdds.{column-scores}
 use Rattle.score_list.proofs.fill.Statement.{statement}
 use Rattle.score_list.proofs.fill.Tie as tie
 
-abbrev scoreOf : Shot → Spot → Float
-scoreOf s p = scoreIn s (p .cell) (p .marker) (p .turn)
+abbrev scoreAtSpot : Shot → Spot → Float
+scoreAtSpot s p = scoreIn s (p .cell) (p .marker) (p .turn)
 
 abbrev Inv-loop : tie.InvT-loop
 Inv-loop scores₀ bytes inputs index table codes board cells sources lanes₀ first₀ scores lanes first =
-    (first ≤ cells) × (length lanes ≡ 1024) × Wrote nan (SpotIn (markersOf (shot bytes)) first) (wholePlace (markersOf (shot bytes))) (scoreOf (shot bytes)) scores₀ scores
+    (first ≤ cells) × (length lanes ≡ 1024) × Wrote nan (SpotIn (markerTotalIn (shot bytes)) first) (wholePlace (markerTotalIn (shot bytes))) (scoreAtSpot (shot bytes)) scores₀ scores
 
 abbrev μ-loop : tie.MeasureT-loop
 μ-loop scores₀ bytes inputs index table codes board cells sources lanes₀ first₀ scores lanes first = cells - first
@@ -57,9 +57,9 @@ block left count e = go (ltb 8 left) refl
 
 -- the scores of a block's cells, from their columns
 block-scores : (s : Shot) (rows : List Float) (sources : List ℕ) (bits : ℕ) (codes : List ℕ) (first count : ℕ) → bits ≡ s .bits → codes ≡ firstCodes s
-    → markersOf s ≤ 512 → FourSources bits (bits * bits) sources
+    → markerTotalIn s ≤ 512 → FourSources bits (bits * bits) sources
     → ((x : ℕ) → x < count → Column (addsOf s (first + x)) (bits * bits) rows x)
-    → (p : Spot) → SpotIn (markersOf s) count p → spotScore rows sources bits codes p ≡ scoreOf s (spot (first + p .cell) (p .marker) (p .turn))
+    → (p : Spot) → SpotIn (markerTotalIn s) count p → spotScore rows sources bits codes p ≡ scoreAtSpot s (spot (first + p .cell) (p .marker) (p .turn))
 block-scores s rows sources bits codes first count e f few from columns p h =
     let first-code : ℕ → ℕ = λ (j : ℕ). getD (s .codes) j 0 in
     let code : getD codes (p .marker) 0 ≡ getD (s .codes) (p .marker) 0 =
@@ -97,10 +97,10 @@ module _ (c : tie.Start Inv-loop μ-loop) where
   small : inputs .board .bits ≤ 8
   small = few-bits bytes inputs (c .args .index .now) ready
 
-  markers-are : markerTotal (inputs .board) ≡ markersOf s
+  markers-are : markerTotal (inputs .board) ≡ markerTotalIn s
   markers-are = ap markerTotal (board-is s inputs (ready .is))
 
-  few : markersOf s ≤ 512
+  few : markerTotalIn s ≤ 512
   few = few-markers s (ready .passed .rows) (ready .passed .cols)
 
 abbrev start : tie.After-four-sources Inv-loop μ-loop → tie.Start Inv-loop μ-loop
@@ -125,7 +125,7 @@ module _ (c : tie.After-at-most-eight Inv-loop μ-loop) where
 
   room : (first + count) * markerTotal (inputs b .board) * 4 ≤ length (c .before .before .loop .scores)
   room =
-      let n = markersOf (s b) in
+      let n = markerTotalIn (s b) in
       let fits : (first + count) * n * 4 ≤ length (c .before .before .loop .scores) = omega (
         arith,
         mul-le-mul-right {m = first + count} {n = cellTotal (s b)} n (omega (arith, whole, all b)),
@@ -180,7 +180,7 @@ loop-again c =
     let codes = x .args .codes .now in (
       omega (arith, whole e),
       g .fill-rows .ensures .0,
-      block-step (markersOf (s x)) (l .first) n (scoreOf (s x)) (x .args .scores .now) (l .scores) (f .fill-block .last .0) (l .inv .2)
+      block-step (markerTotalIn (s x)) (l .first) n (scoreAtSpot (s x)) (x .args .scores .now) (l .scores) (f .fill-block .last .0) (l .inv .2)
           (wrote-as (block-scores (s x) lanes sources bits codes (l .first) n (side x) (loaded x .codes-are) (few x) (four .four-sources .ensures)
           (g .fill-rows .ensures .1))
           (subst (λ (m : ℕ). Wrote nan (SpotIn m n) (spotPlace m (l .first)) (spotScore lanes sources bits codes) (l .scores) (f .fill-block .last .0))
@@ -202,7 +202,7 @@ returns c =
       arith,
       h,
       f,
-      place-below (markersOf (s x)) (cellTotal (s x)) (p .cell) (p .marker) (p .turn) (omega (arith, e, g .0)) (g .1) (g .2),
+      place-below (markerTotalIn (s x)) (cellTotal (s x)) (p .cell) (p .marker) (p .turn) (omega (arith, e, g .0)) (g .1) (g .2),
     ))))
 
 pub fill-spec : {M : Type 1} → statement M

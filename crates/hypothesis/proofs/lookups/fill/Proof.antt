@@ -15,7 +15,7 @@ use Rattle.hypothesis.specs.declared.framing.Turn.{Turn}
 use Rattle.hypothesis.specs.Placements.{cellTotal}
 use Rattle.hypothesis.specs.Turns.{turnOf}
 use Rattle.hypothesis.specs.Filling.{Turning, SumsTo}
-use Rattle.hypothesis.specs.ScoreList.{markersOf, Scored}
+use Rattle.hypothesis.specs.ScoreList.{markerTotalIn, Scored}
 use Rattle.hypothesis.proofs.IndexedCells.{cells-are, board-is}
 use Rattle.hypothesis.proofs.Moves.{fits-small}
 use Rattle.hypothesis.proofs.Summed.{summed, both-above, none-summed, begins}
@@ -98,7 +98,7 @@ module _ (c : tie.In-loop Inv-loop μ-loop) where
     inside : k < cellTotal s
     inside = omega (arith, c .loop-test .taken, cells-are s (i x) (fit .input .is))
 
-    markers-are : at .marker-count .result ≡ markersOf s
+    markers-are : at .marker-count .result ≡ markerTotalIn s
     markers-are = at .marker-count .ensures ∙ ap markerTotal (board-is s (i x) (fit .input .is))
 
   abbrev turning₁ : Turning (one x) (i x) (index x) (t x)
@@ -136,7 +136,7 @@ add-first c = record { fits = omega (arith, small (c .before .before), below (x 
 
 -- the index of the cell's first score
 first-is : (c : tie.In-loop Inv-loop μ-loop) (s : Shot) (fit : Scored s (i (x c)) (index (x c)) (scores (x c))) (is : t (x c) ≡ turnOf s (t (x c) .turn))
-    → 4 * (k c * at c .marker-count .result) + t (x c) .turn ≡ 4 * (k c * markersOf s) + t (x c) .turn
+    → 4 * (k c * at c .marker-count .result) + t (x c) .turn ≡ 4 * (k c * markerTotalIn s) + t (x c) .turn
 first-is c s fit is = ap (λ (m : ℕ). 4 * (k c * m) + t (x c) .turn) (markers-are c s fit is)
 
 add-counted-requires : tie.Need-add-counted-requires Inv-loop μ-loop
