@@ -13,7 +13,8 @@ fail() {
 
 # If standard input, output or error is closed, no pipe or file of this script may take its descriptor.
 [ -e /dev/fd/2 ] || exec 2>/dev/null
-[ -e /dev/fd/1 ] || fail 'cannot write the standard output' 3
+has_output=true
+[ -e /dev/fd/1 ] || { has_output=false && exec >/dev/null; }
 has_input=true
 [ -e /dev/fd/0 ] || { has_input=false && exec </dev/null; }
 
@@ -23,6 +24,8 @@ worst=0
 
 # Raises the exit status to $1: the highest that applies is used.
 at_least() { [ "$worst" -ge "$1" ] || worst=$1; }
+
+needs_output() { $has_output || fail 'cannot write the standard output' 3; }
 
 put() { printf '%s\n' "$1" 2>/dev/null || fail 'cannot write the standard output' 3; }
 
@@ -38,7 +41,7 @@ shown() {
 options() {
     while [ $# -gt 0 ]; do
         case $1 in
-        --help) put "$(usage)" && exit 0 ;;
+        --help) needs_output && put "$(usage)" && exit 0 ;;
         --) shift && break ;;
         -?*) fail "there is no option '$(shown "$1")'; bin/$name --help" 2 ;;
         *) break ;;
@@ -47,11 +50,12 @@ options() {
     files=("$@")
 }
 
-# Builds the program, and refusal_values for the messages, if needed; creates the temporary folder.
+# Builds the program, and refusal_values for the messages, if needed; creates the temporary folder. What is in `temporary` is removed at the end.
 begin() {
     "$root/bin/build" "$name" refusal_values </dev/null >&2 || exit 2
     work=$(mktemp -d) || fail 'cannot make a temporary folder' 2
-    trap 'rm -rf -- "$work"' EXIT
+    temporary=("$work")
+    trap 'rm -rf -- "${temporary[@]}"' EXIT
 }
 
 # Copies the record $1 to the temporary folder. A record has at most 65,535 bytes; one more byte is read to detect a longer input.

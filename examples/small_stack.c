@@ -24,9 +24,11 @@
 #define GRID_SIDE (BITS + 2 * BORDER)
 #define CELLS_ACROSS 16
 #define CODES (SIDE * SIDE / 2)
+#define COLS_AT 2046 /* offsets in the record */
+#define CODES_AT 2059
 #define LENGTH(list) (sizeof(list) / sizeof((list)[0]))
 
-static uint8_t record[CHARUCO_MAX_RECORD_BYTES];
+static uint8_t record[CHARUCO_MAX_RECORD_BYTES], legacy_record[CHARUCO_MAX_RECORD_BYTES];
 static size_t record_length;
 static uint64_t codes[CODES];
 static float scores[CHARUCO_MAX_CORNERS];
@@ -36,7 +38,7 @@ static uint32_t links[CHARUCO_MAX_LINKS * CHARUCO_LINK_WORDS];
 
 /* Everything that the entry points return and write. */
 struct answers {
-    uint32_t numbers[10];
+    uint32_t numbers[11];
     uint32_t header[CHARUCO_HEADER_WORDS];
     uint32_t entry[CHARUCO_TABLE_ENTRY_WORDS];
     uint32_t code[CHARUCO_CODE_WORDS];
@@ -44,7 +46,8 @@ struct answers {
     uint32_t part[CHARUCO_GRID_WORDS];
     uint32_t match[CHARUCO_MATCH_WORDS];
     uint32_t second_match[CHARUCO_MATCH_WORDS];
-    uint32_t counts[3];
+    uint32_t counts[4];
+    uint8_t sheet[CHARUCO_MAX_RECORD_BYTES];
     uint32_t markers[CHARUCO_MAX_CELLS * CHARUCO_MARKER_WORDS];
     uint32_t second_markers[CHARUCO_MAX_CELLS * CHARUCO_MARKER_WORDS];
     float cell_scores[CHARUCO_MAX_SCORES];
@@ -133,6 +136,25 @@ static void make_record(void)
         put_cell(k % CELLS_ACROSS, k / CELLS_ACROSS);
 }
 
+/* The same record with the legacy flag and one column less, so that nearly all codes are reversed. */
+static void make_legacy_record(void)
+{
+    memcpy(legacy_record, record, record_length);
+    legacy_record[0] |= 16;
+    legacy_record[COLS_AT] = SIDE - 1;
+}
+
+/* The code of marker 0 in the restated record is that of the last marker, rotated by 180 degrees: its bits in reverse. */
+static int is_restated(const uint8_t *sheet)
+{
+    uint64_t code = codes[SIDE * (SIDE - 1) / 2 - 1], new_code;
+    memcpy(&new_code, sheet + CODES_AT, sizeof new_code);
+    for (int k = 0; k < BITS * BITS; k++)
+        if ((code >> k & 1) != (new_code >> (BITS * BITS - 1 - k) & 1))
+            return 0;
+    return sheet[0] == 8;
+}
+
 /* Corners of a 32 by 32 grid, 17 by 15 of them inliers, and links of every marker with corners, most of them wrong. */
 static void make_lists(void)
 {
@@ -162,6 +184,7 @@ IDLE(match_board);
 IDLE(match_board_with_scores);
 IDLE(map_charuco_corners);
 IDLE(validate_marker_corner_links);
+IDLE(restate);
 
 /* One call of the idle function or of the library's, with the largest valid index and the full length of each array. */
 #define ASK(k, name, ...)                                                                     \
@@ -184,6 +207,7 @@ ASK(8, map_charuco_corners, SIDE, SIDE, BITS, BORDER, 0, 1.0f, 0.75f, codes, LEN
     a->corners, LENGTH(a->corners), &a->counts[1], 1)
 ASK(9, validate_marker_corner_links, SIDE, SIDE, BITS, BORDER, 0, 1.0f, 0.75f, codes, LENGTH(codes), links, LENGTH(links),
     CHARUCO_MUST_MATCH_ALL_4, a->violations, LENGTH(a->violations), &a->counts[2], 1)
+ASK(10, restate, legacy_record, record_length, a->sheet, LENGTH(a->sheet), &a->counts[3], 1)
 
 static const struct {
     void (*ask)(struct answers *, int);
@@ -200,6 +224,7 @@ static const struct {
     {ask_match_board_with_scores, "charuco_match_board_with_scores", CHARUCO_STACK_MATCH_BOARD_WITH_SCORES},
     {ask_map_charuco_corners, "charuco_map_charuco_corners", CHARUCO_STACK_MAP_CHARUCO_CORNERS},
     {ask_validate_marker_corner_links, "charuco_validate_marker_corner_links", CHARUCO_STACK_VALIDATE_MARKER_CORNER_LINKS},
+    {ask_restate, "charuco_restate", CHARUCO_STACK_RESTATE},
 };
 
 static void check(int holds, const char *what)
@@ -281,6 +306,7 @@ static int guard_holds(void)
 int main(void)
 {
     make_record();
+    make_legacy_record();
     make_lists();
     make_stack();
     check(guard_holds(), "the page below the stack can be touched");
@@ -295,6 +321,7 @@ int main(void)
     check(on_main.match[CHARUCO_BEST_CONTRIBUTING_CELLS] == CHARUCO_MAX_CELLS / 2, "the cells on markers' squares are not counted exactly");
     check(memcmp(on_main.match, on_main.second_match, sizeof on_main.match) == 0
           && memcmp(on_main.markers, on_main.second_markers, sizeof on_main.markers) == 0, "the match with scores has another result");
+    check(is_restated(on_main.sheet), "the record is not restated");
     check(memcmp(&on_main, &on_small, sizeof on_main) == 0, "the results differ");
     printf("small_stack: the same results on a stack of %d bytes; record of %lu bytes; stack taken, and the header's limit:\n", STACK_BYTES,
            (unsigned long)record_length);

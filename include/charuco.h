@@ -27,6 +27,7 @@
  *     21, 1 to 8, 22, 9 to 12, 23, 13, 14, 24, 15 to 17  charuco_match_board_with_scores
  *     1 to 8, 22, 18, 14                                 charuco_map_charuco_corners
  *     1 to 8, 22, 19, 14                                 charuco_validate_marker_corner_links
+ *     21, 1 to 8, 22, 25, 14                             charuco_restate
  * END generated checks
  *
  * The board
@@ -153,7 +154,7 @@ enum {
     CHARUCO_NO_CELLS = 11,                   /* Is there a cell? */
     CHARUCO_CELLS_OUT_OF_RANGE = 12,         /* Are there at most 256 cells, with u and v from -4,096 to 4,096? */
     CHARUCO_INVALID_SAMPLE = 13,             /* Has every sampled cell a whole grid and a fraction from 0 to 1? */
-    CHARUCO_LIST_TOO_SHORT = 14,             /* Has the output array as many words as the function requires? */
+    CHARUCO_LIST_TOO_SHORT = 14,             /* Has the output array as many elements as the function requires? */
     CHARUCO_TRANSLATION_WINDOW = 15,         /* Does some turn and translation put every cell on the board? */
     CHARUCO_MARGIN = 16,                     /* Is the margin not below the minimum? values: margin as its bit pattern */
     CHARUCO_NO_MARKERS = 17,                 /* Was a marker emitted? */
@@ -165,7 +166,8 @@ enum {
                                                 last field? */
     CHARUCO_CODES_ALIKE = 22,                /* Are no two codes of markers equal up to rotation? */
     CHARUCO_REPEATED_POINT = 23,             /* Have no two cells, sampled or not, the same (u, v)? */
-    CHARUCO_SCORE_LIST_TOO_SHORT = 24        /* Has the score array cells * markers * 4 elements? */
+    CHARUCO_SCORE_LIST_TOO_SHORT = 24,       /* Has the score array cells * markers * 4 elements? */
+    CHARUCO_EVEN_LEGACY_BOARD = 25           /* Is it no legacy board with rows and cols both even? */
 };
 /* END generated refusals */
 
@@ -212,10 +214,11 @@ enum {
 #define CHARUCO_STACK_CELL 216
 #define CHARUCO_STACK_GRID 504
 #define CHARUCO_STACK_BUILD_MARKER_CELLS 22616
-#define CHARUCO_STACK_MATCH_BOARD 22360
-#define CHARUCO_STACK_MATCH_BOARD_WITH_SCORES 22200
+#define CHARUCO_STACK_MATCH_BOARD 22536
+#define CHARUCO_STACK_MATCH_BOARD_WITH_SCORES 22376
 #define CHARUCO_STACK_MAP_CHARUCO_CORNERS 6728
 #define CHARUCO_STACK_VALIDATE_MARKER_CORNER_LINKS 37416
+#define CHARUCO_STACK_RESTATE 8824
 
 /*
  * Reading a shot record. Check 21 alone: no field is validated, and a record with 0 rows or two cells at one position is read like any other. An
@@ -458,6 +461,19 @@ enum charuco_violation {
     CHARUCO_DUPLICATE_CORNER = 4,           /* the link repeats an earlier one; words 0 to 6 */
     CHARUCO_MISSING_CORNERS = 5             /* corners of the marker without a link; words 0, 1 and 3 to 11; not with CHARUCO_SUBSET_OK */
 };
+
+/*
+ * A record of a legacy board in the current layout, for readers that do not know the legacy flag. A legacy board with even rows and odd columns is a
+ * current board rotated by 180 degrees: the codes of its M markers are listed in reverse, each rotated by 180 degrees, and the flag is cleared. With
+ * odd rows only the flag is cleared. With even rows and even columns the record is refused 25. A record without the flag is copied as it is. Further
+ * codes and every other byte stay: fields that only a match checks are not checked here.
+ * A match of the new record has turn (r + 2) mod 4 and translation (cols - 1, rows - 1) - (tx, ty), corner translation (cols, rows) - (tx, ty), the
+ * same evidence, marker ids M - 1 - id, and corner ids C - 1 - id with C inner corners, unless placements tie (docs/DIFFERENCES.md).
+ * sheet, output, which must not overlap bytes: as many bytes as the record has (check 14). values: that number.
+ */
+uint32_t charuco_restate(const uint8_t *bytes, size_t bytes_len,
+                         uint8_t *sheet, size_t sheet_len,
+                         uint32_t *values, size_t values_len);
 
 #ifdef __cplusplus
 }

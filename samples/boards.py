@@ -3,6 +3,7 @@
 Boards, markers and codes are OpenCV's. The script stops if a drawing differs from the layout of documents 01 and 02.
 """
 
+import copy
 import sys
 
 try:
@@ -35,8 +36,7 @@ class Board:
         return cv2.aruco.drawMarker(self.dictionary, id, self.side, borderBits=BORDER)
 
     def code(self, id):
-        inner = self.marker(id)[BORDER:-BORDER, BORDER:-BORDER]
-        return sum(1 << k for k, grey in enumerate(inner.flatten()) if grey == 0)
+        return read(self.marker(id))
 
     def drawn(self):
         """OpenCV's image of the board.
@@ -51,23 +51,39 @@ class Board:
         picture = board.draw((self.cols * SQUARE_PX, (self.rows + cut) * SQUARE_PX), marginSize=0, borderBits=BORDER)
         return picture[cut * SQUARE_PX:]
 
-    def drawing(self):
-        """The image, compared module by module with the layout of documents 01 and 02."""
-        picture = self.drawn()
+    def squares(self, picture):
+        """The squares with a marker in an image of the board, in row-major order, and the modules seen there; the others must be plain."""
         rim = round(SQUARE_PX * (1 - MARKER_REL) / 2)
         module = (SQUARE_PX - 2 * rim) // self.side
-        next_id = 0
         for j in range(self.rows):
             for i in range(self.cols):
                 square = picture[j * SQUARE_PX:(j + 1) * SQUARE_PX, i * SQUARE_PX:(i + 1) * SQUARE_PX]
                 if (i + j) % 2 != self.parity:
                     assert (square == 0).all(), f"square ({i}, {j}) should be plain"
                     continue
-                seen = square[rim:-rim, rim:-rim][module // 2::module, module // 2::module]
                 assert (square[0] == 255).all(), f"square ({i}, {j}) should have a white rim"
-                assert (seen == self.marker(next_id)).all(), f"square ({i}, {j}) should hold marker {next_id}"
-                next_id += 1
+                yield (i, j), square[rim:-rim, rim:-rim][module // 2::module, module // 2::module]
+
+    def drawing(self):
+        """The image, compared module by module with the layout of documents 01 and 02."""
+        picture = self.drawn()
+        for id, (square, seen) in enumerate(self.squares(picture)):
+            assert (seen == self.marker(id)).all(), f"square {square} should hold marker {id}"
         return picture
+
+    def restated(self):
+        """This legacy board as a current one: rotated by 180 degrees, with the codes read off its image. Codes without a marker stay."""
+        board = copy.copy(self)
+        board.legacy, board.parity = False, 1
+        codes = [read(seen) for _, seen in board.squares(np.rot90(self.drawing(), 2))]
+        board.codes = codes + self.codes[len(codes):]
+        return board
+
+
+def read(modules):
+    """The code of a marker, of which each module is one pixel."""
+    inner = modules[BORDER:-BORDER, BORDER:-BORDER]
+    return sum(1 << k for k, grey in enumerate(inner.flatten()) if grey == 0)
 
 
 LANE = Board(5, 7, cv2.aruco.DICT_4X4_50, 50)

@@ -17,6 +17,10 @@ from pathlib import Path
 
 import numpy as np
 
+sys.dont_write_bytecode = True  # no __pycache__ beside the sources
+
+from restated import LEGACY, restated, turned
+
 HERE = Path(__file__).resolve().parent
 TABLE = HERE / "../crates/score_matrix/specs/Table.antt"
 
@@ -114,7 +118,7 @@ class Match:
         ask(7, len(s.codes) >= len(self.squares))
         ask(8, all(code < 1 << s.bits ** 2 for code in s.codes))
         # document 02: after 8, before 9
-        used = [min(self.turned(code, turn) for turn in range(4)) for code in s.codes[:len(self.squares)]]
+        used = [min(turned(code, s.bits, turn) for turn in range(4)) for code in s.codes[:len(self.squares)]]
         ask(22, len(set(used)) == len(used))
         ask(9, np.isfinite([s.minimum, s.border_threshold, s.px_per_square]).all())
         ask(10, all(-8 <= entry <= 0 for entry in s.table))
@@ -131,15 +135,6 @@ class Match:
             return f32(1)
         return min(max(samples[0] / self.shot.border_threshold, f32(0)), f32(1))
 
-    def turned(self, code, turn):
-        n = self.shot.bits
-        out = 0
-        for y in range(n):
-            for x in range(n):
-                sx, sy = [(x, y), (y, n - 1 - x), (n - 1 - x, n - 1 - y), (n - 1 - y, x)][turn]
-                out |= (code >> (sy * n + sx) & 1) << (y * n + x)
-        return out
-
     def inner(self, grid):
         """The grey levels at the code's bits, in the order of the bits."""
         n, border = self.shot.bits, self.shot.border
@@ -148,7 +143,7 @@ class Match:
     def score(self, cell, id, turn):
         if (cell, id, turn) not in self.scores:
             _, threshold, grid = self.shot.cells[cell][2]
-            code = self.turned(self.shot.codes[id], turn)
+            code = turned(self.shot.codes[id], self.shot.bits, turn)
             total = f32(0)
             for k, grey in enumerate(self.inner(grid)):
                 d = threshold - grey
@@ -205,7 +200,7 @@ class Match:
                 continue
             _, threshold, grid = samples
             code = sum(1 << k for k, grey in enumerate(self.inner(grid)) if grey < threshold)
-            differing = bin(code ^ self.turned(self.shot.codes[id], turn)).count("1")
+            differing = bin(code ^ turned(self.shot.codes[id], self.shot.bits, turn)).count("1")
             du, dv = [(0, 0), (1, 0), (1, 1), (0, 1)][turn]
             quotient = score / f32(self.shot.bits ** 2)
             yield f"marker {cell} {id} {u + du} {v + dv} {turn} {differing} {code:016X} {hex_bits(quotient)}\n"
@@ -251,10 +246,10 @@ marker 0 0 0 0 0 0 0000000000000001 00000000
 
 
 def truth_rows():
-    """Per sheet its name, its true placement or None, and the last word: `wrong`, `repeats` or ''."""
+    """Per sheet its name, its true placement or None, and the last word: `wrong`, `repeats`, `restated` or ''."""
     for line in (HERE / "truth.tsv").read_text().splitlines():
         name, *placement = line.split("\t")
-        word = placement.pop() if placement[3:] in (["wrong"], ["repeats"]) else ""
+        word = placement.pop() if placement[3:] in (["wrong"], ["repeats"], ["restated"]) else ""
         yield name, None if placement == ["none"] else tuple(int(number) for number in placement), word
 
 
@@ -266,7 +261,7 @@ def without_table(data):
 
 def without_mark(data):
     """The record without the legacy flag."""
-    return bytes([data[0] & ~16]) + data[1:]
+    return bytes([data[0] & ~LEGACY]) + data[1:]
 
 
 def without_repeats(shot):
@@ -283,13 +278,46 @@ def placement(text):
     return tuple(int(number) for number in text.splitlines()[1].split()[1:4]) if text.startswith("placed") else None
 
 
+def paired(text, shot):
+    """The text for the record restated, from the text for a legacy record with even rows and odd cols (document 02, 2.7)."""
+    markers = shot.rows * shot.cols // 2
+    lines = []
+    for line in text.splitlines():
+        word, *values = line.split()
+        if word in ("best", "next", "corners"):
+            turn, tx, ty = map(int, values[:3])
+            last = 0 if word == "corners" else 1
+            values[:3] = (turn + 2) % 4, shot.cols - last - tx, shot.rows - last - ty
+        if word == "marker":
+            cell, id, u, v, turn = map(int, values[:5])
+            left, top, _ = shot.cells[cell]
+            # the opposite corner of the cell, from (left, top) to (left + 1, top + 1)
+            values[1:5] = markers - 1 - id, 2 * left + 1 - u, 2 * top + 1 - v, (turn + 2) % 4
+        lines.append(" ".join(map(str, [word, *values])) + "\n")
+    return "".join(lines)
+
+
+def restating_faults(name, data, text, word):
+    """Yields a message for each check of the record restated that fails."""
+    if bool(data[0] & LEGACY) == (restated(data) == data):
+        yield "restating changes it without a legacy flag, or not with one"
+    if restated(restated(data)) != restated(data):
+        yield "restating twice differs from restating once"
+    if word == "restated":
+        source = (HERE / f"{name.removesuffix('-restated')}.shot").read_bytes()
+        if restated(source) != data:
+            yield "not the other sheet restated"
+        if paired(model(source), Shot(source)) != text:
+            yield "its text does not pair with that of the other sheet"
+
+
 def faults(name, truth, word):
     """Yields a message for each check that fails for one sheet."""
     data = (HERE / f"{name}.shot").read_bytes()
     text = model(data)
     if text != (HERE / f"{name}.txt").read_text():
         yield "not the stored text"
-    if word != "repeats" and not (HERE / f"{name}.png").exists():
+    if word not in ("repeats", "restated") and not (HERE / f"{name}.png").exists():
         yield "no image"
     placed = placement(text)
     if word == "wrong":
@@ -306,8 +334,9 @@ def faults(name, truth, word):
         yield f"placed {placed}, drawn {truth}"
     if data[0] & 8 and model(without_table(data)) == text:
         yield "its own table changes nothing"
-    if data[0] & 16 and placement(model(without_mark(data))) == truth:
+    if data[0] & LEGACY and placement(model(without_mark(data))) == truth:
         yield "without its legacy flag it is placed the same"
+    yield from restating_faults(name, data, text, word)
 
 
 def check():

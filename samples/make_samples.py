@@ -3,12 +3,13 @@
 usage: python3 make_samples.py [--full] [directory]
 
 Writes the sheets to the given directory, or to that of this file, each with a small image, and `truth.tsv`: the true
-placement of each sheet. One sheet is another one with a cell recorded twice, without an image of its own. With --full it
-also writes the images that were sampled, as NAME-full.png. All noise comes from fixed seeds, so a second run writes the
-same bytes. Nothing here comes from the library: boards, markers and codes are OpenCV's, the record is written from
-documents 01 and 02.
+placement of each sheet. Two sheets are others with a cell recorded twice or with the board restated, without an image of
+their own. With --full it also writes the images that were sampled, as NAME-full.png. All noise comes from fixed seeds, so
+a second run writes the same bytes. Nothing here comes from the library: boards, markers and codes are OpenCV's, the record
+is written from documents 01 and 02.
 """
 
+import copy
 import math
 import struct
 import sys
@@ -205,8 +206,19 @@ def truth(shot, cells):
     return shot.turn, *shifts.pop()
 
 
+def restated(shot, cells):
+    """The same image and cells, recorded with the legacy board rotated by 180 degrees, which is a current board (document 02, 2.7)."""
+    board = shot.board.restated()
+    other = copy.copy(shot)
+    other.board, other.asked, other.turn = board, shot.asked._replace(board=board), (shot.turn + 2) % 4
+    return other, [(point, (board.cols - 1 - i, board.rows - 1 - j), samples) for point, (i, j), samples in cells]
+
+
 # A sheet that repeats a cell of another one as its last cell: its name, the other sheet, and the index of the cell.
 REPEATED, SOURCE, CELL = "repeated", "narrow", 7
+
+# A sheet that is another one restated: its name and the other sheet.
+RESTATED, LEGACY_SHEET = "legacy-restated", "legacy"
 
 # The study's sheets are not made here. Their truth was found from the study's images (README.md).
 STUDY = ["glare-two-squares\t0\t-33\t21\twrong\n",
@@ -260,6 +272,8 @@ def main():
         rows.append(write_sheet(directory, shot.name, shot, cells))
         if shot.name == SOURCE:
             rows.append(write_sheet(directory, REPEATED, shot, [*cells, cells[CELL]], "\trepeats"))
+        if shot.name == LEGACY_SHEET:
+            rows.append(write_sheet(directory, RESTATED, *restated(shot, cells), "\trestated"))
         cv2.imwrite(str(directory / f"{shot.name}.png"), small(shot.picture), [cv2.IMWRITE_PNG_COMPRESSION, 9])
         if full:
             cv2.imwrite(str(directory / f"{shot.name}-full.png"), shot.picture)

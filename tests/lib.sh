@@ -9,9 +9,10 @@ cd -- "$root"
 work=$(mktemp -d)
 trap 'rm -rf -- "$work"' EXIT
 cases=0
+section= # what is tested, for the message of a case that fails
 
 fail() {
-    printf 'tests/%s: FAILED: %s\n' "$test" "$1"
+    printf 'tests/%s: FAILED: %s%s\n' "$test" "${section:+$section: }" "$1"
     exit 1
 }
 

@@ -1,7 +1,7 @@
 /*
  * Tests what the header states. Sizes, on both sides of each limit: the most codes and cells of a well-formed record, and the most corners of a
  * board. Arrays of corners: which words check 18 reads, and which corner is taken for an id. The legacy flag, codes that are equal up to rotation,
- * two cells with the same (u, v), and the score array: its lengths and its elements.
+ * two cells with the same (u, v), the score array: its lengths and its elements, and restated records.
  */
 #include <stdio.h>
 #include <stdlib.h>
@@ -237,6 +237,54 @@ static void check_most_scores(void)
     check(match_with_scores(length, room, CHARUCO_MAX_SCORES, zeros, CHARUCO_MAX_SCORES) == CHARUCO_MARGIN, "the most scores are not enough");
 }
 
+/* The error number of restating the record in front with this map byte and board into an array of so many bytes, which hold 255 before. After the call
+ * the first n bytes are the expected ones, and no other has changed. */
+static uint32_t restate(uint8_t *front, size_t length, int map, int rows, int cols, size_t room, const uint8_t *expected, size_t n)
+{
+    uint8_t sheet[64];
+    uint32_t count = 0;
+    memset(sheet, 255, sizeof sheet);
+    front[0] = (uint8_t)map;
+    front[1] = (uint8_t)rows;
+    front[2] = (uint8_t)cols;
+    uint32_t number = charuco_restate(front, length, sheet, room, &count, 1);
+    check(number != 0 || count == length, "another number of bytes is returned");
+    check(memcmp(sheet, expected, n) == 0, "the record is not restated as it should be");
+    for (size_t k = n; k < sizeof sheet; k++)
+        check(sheet[k] == 255, "a byte is written that should not be");
+    return number;
+}
+
+/* Codes 1, 3, 7 and 0 of side 2: a board of 2 by 3 has three markers, and rotated by 180 degrees 7, 3 and 1 are 14, 12 and 8. */
+static void check_restated(void)
+{
+    uint8_t front[] = {0, 0, 0, 2, 1, 0, 0, 128, 63, 0, 0, 0, 63, 4, 0, 1, 0, 0, 0, 0, 0, 0, 0, 3, 0, 0, 0, 0, 0, 0, 0,
+                       7, 0, 0, 0, 0, 0, 0, 0, 0, 0, 0, 0, 0, 0, 0, 0, 0, 0};
+    uint8_t expected[sizeof front];
+    const size_t length = sizeof front;
+    memcpy(expected, front, length);
+    expected[1] = 2;
+    expected[2] = 3;
+    check(restate(front, length, 0, 2, 3, length, expected, length) == 0, "a record without the flag is refused");
+    expected[15] = 14;
+    expected[23] = 12;
+    expected[31] = 8;
+    check(restate(front, length, 16, 2, 3, length, expected, length) == 0, "an array that is just long enough is refused");
+    check(restate(front, length, 16, 2, 3, 64, expected, length) == 0, "a longer array is refused");
+    for (size_t room = 0; room < length; room++)
+        check(restate(front, length, 16, 2, 3, room, expected, 0) == CHARUCO_LIST_TOO_SHORT, "a short array is not refused");
+    check(restate(front, length, 16, 2, 4, 0, expected, 0) == CHARUCO_EVEN_LEGACY_BOARD, "check 14 is made before check 25");
+    check(restate(front, length, 16, 2, 5, length, expected, 0) == CHARUCO_NOT_ENOUGH_DICTIONARY_CODES, "too few codes are not refused");
+    check(restate(front, length, 48, 2, 3, length, expected, 0) == CHARUCO_INVALID_RECORD, "a spare bit is not refused");
+    memcpy(expected, front, length);
+    expected[0] = 0;
+    expected[1] = 3;
+    expected[2] = 2;
+    check(restate(front, length, 16, 3, 2, length, expected, length) == 0, "a legacy board with odd rows is refused");
+    front[23] = 2;
+    check(restate(front, length, 16, 2, 4, length, expected, 0) == CHARUCO_CODES_ALIKE, "check 25 is made before check 22");
+}
+
 int main(void)
 {
     uint32_t words[CHARUCO_HEADER_WORDS], count = 0;
@@ -253,6 +301,7 @@ int main(void)
     check_same_cells();
     check_scores();
     check_most_scores();
+    check_restated();
     printf("limits: %d codes, %d cells, %d corners, %d scores\n", CHARUCO_MAX_RECORD_CODES, CHARUCO_MAX_RECORD_CELLS, CHARUCO_MAX_BOARD_CORNERS,
            CHARUCO_MAX_SCORES);
     return 0;

@@ -9,6 +9,17 @@ neighbours.shot   samples/lane4.shot with a minimum margin that is the next floa
 high.shot     samples/glare.shot with a minimum margin of 100
 unsampled.shot    samples/lane4.shot with one more cell, unsampled, at the position of its last cell
 none.shot     a board of 2 x 3 squares that fits in two turns only; in one of them no cell contributes
+
+For `restate`:
+
+small.shot    a legacy board of 2 x 3 squares with two more codes; settings, table and cells are such that a match refuses it
+large.shot    whole.shot with a legacy board of 32 x 31 squares, 104 more codes, and a minimum margin that is not a number
+odd.shot      samples/lane4.shot, of 7 rows, with the legacy flag
+even.shot     a legacy board of 2 x 4 squares without cells
+alike.shot    the same with two codes that are equal up to rotation
+
+NAME.restated is what `restate` prints for NAME.shot on standard output, NAME.refused on standard error. The former is in samples/, written out here, or
+made by samples/restated.py; it is NAME.shot itself if that has no legacy flag.
 """
 
 import struct
@@ -16,6 +27,10 @@ import sys
 from pathlib import Path
 
 SAMPLES = Path(__file__).resolve().parent.parent / "samples"
+sys.dont_write_bytecode = True
+sys.path.insert(0, str(SAMPLES))
+
+from restated import LEGACY, restated, turned
 
 
 class Numbers:
@@ -27,15 +42,6 @@ class Numbers:
     def below(self, limit):
         self.state = (self.state * 6364136223846793005 + 1442695040888963407) % 2**64
         return (self.state >> 33) % limit
-
-
-def turned(code, n, turn):
-    out = 0
-    for y in range(n):
-        for x in range(n):
-            sx, sy = [(x, y), (y, n - 1 - x), (n - 1 - x, n - 1 - y), (n - 1 - y, x)][turn]
-            out |= (code >> (sy * n + sx) & 1) << (y * n + x)
-    return out
 
 
 def grid(code, bits, border, numbers):
@@ -92,6 +98,43 @@ def half_turn():
     return out + struct.pack("<2h", 2, 1)
 
 
+# By `restate`; it refuses no other record here.
+REFUSED = {"longer": 21, "longest": 21, "seven": 7, "even": 25, "alike": 22}
+
+
+def small(flag, codes):
+    """Only the flag and the first three codes, those of markers, differ between the record and the record restated."""
+    not_a_number, infinite = bytes.fromhex("010080FF"), bytes.fromhex("000080FF")
+    out = bytes([15 + flag]) + not_a_number + infinite + not_a_number + 511 * not_a_number
+    out += bytes([2, 3, 2, 1]) + struct.pack("<2f", 1.0, 0.5) + struct.pack("<H5Q", 5, *codes)
+    cell = struct.pack("<2h", -32768, 32767)
+    return out + struct.pack("<HH", 9, 0b000000010) + cell + cell + not_a_number + bytes(range(17)) + 7 * cell
+
+
+def even(codes):
+    return struct.pack("<5B2f", LEGACY, 2, 4, 2, 1, 1.0, 0.5) + struct.pack("<H4QH", 4, *codes, 0)
+
+
+def for_restate(out, whole, lane4):
+    # bit k of a code of 2 x 2 bits is bit 3 - k of the code turned twice
+    (out / "small.shot").write_bytes(small(LEGACY, [0b0001, 0b0011, 0b0111, 0b1000, 0b0001]))
+    (out / "small.restated").write_bytes(small(0, [0b1110, 0b1100, 0b1000, 0b1000, 0b0001]))
+    assert whole[0] == 1 and whole[5:7] == bytes([32, 32])
+    large = bytes([1 + LEGACY]) + bytes.fromhex("0100A07F") + bytes([32, 31]) + whole[7:]
+    (out / "large.shot").write_bytes(large)
+    (out / "large.restated").write_bytes(restated(large))
+    (out / "odd.shot").write_bytes(bytes([LEGACY]) + lane4[1:])
+    (out / "odd.restated").write_bytes(lane4)
+    (out / "even.shot").write_bytes(even([1, 3, 7, 15]))
+    (out / "alike.shot").write_bytes(even([1, 3, 7, 8]))
+    (out / "legacy.restated").write_bytes((SAMPLES / "legacy-restated.shot").read_bytes())
+    for sheet in [*SAMPLES.glob("*.shot"), *out.glob("*.shot")]:
+        data, number = sheet.read_bytes(), REFUSED.get(sheet.stem)
+        (out / f"{sheet.stem}.refused").write_text(f"refused {number}\n" if number else "")
+        if number or not data[0] & LEGACY:
+            (out / f"{sheet.stem}.restated").write_bytes(b"" if number else data)
+
+
 def main(out):
     markers = [(i, j) for j in range(32) for i in range(32) if (i + j) % 2 == 1]
     full = sheet((None, None, None), 8, 1, 512, markers[128:384], 2, -3900, -3890, Numbers(1))
@@ -115,6 +158,7 @@ def main(out):
     count = 15 + 8 * lane4[13]
     assert lane4[count:count + 4] == b"\x0F\0\xFF\x7F" and len(lane4) == count + 4 + 15 * 45
     (out / "unsampled.shot").write_bytes(lane4[:count] + b"\x10" + lane4[count + 1:] + lane4[-45:-41])
+    for_restate(out, whole, lane4)
 
 
 if __name__ == "__main__":

@@ -165,6 +165,15 @@ fn matched(
     Ok(Match::new(values, markers))
 }
 
+/// The record of a legacy board in the current layout, written to the start of `sheet`; returns its length, which is that of `record`. With even rows
+/// and odd columns the codes of the markers are listed in reverse, each rotated by 180°, and the legacy flag is cleared; with odd rows only the flag
+/// is cleared; with even rows and even columns the record is refused. Every other byte stays, also where a match refuses it, and a record without the
+/// flag is copied. `sheet` needs as many bytes as `record` has; later bytes are unchanged, and on a refusal all of them.
+pub fn restate(record: &[u8], sheet: &mut [u8]) -> Result<usize, Refusal> {
+    let [count] = told(|values| words::restate(record, sheet, values))?;
+    Ok(count as usize)
+}
+
 /// The inner corner of the board for each corner, by increasing id. `alignment` is that of the corners.
 pub fn map_charuco_corners(
     spec: &BoardSpec,

@@ -38,6 +38,7 @@ pub enum Refusal {
     CodesAlike,
     RepeatedPoint,
     ScoreListTooShort,
+    EvenLegacyBoard,
     // END generated variants
     /// A number that this crate does not know, from a later library.
     Unknown(u32),
@@ -78,6 +79,7 @@ impl Refusal {
             22 => Self::CodesAlike,
             23 => Self::RepeatedPoint,
             24 => Self::ScoreListTooShort,
+            25 => Self::EvenLegacyBoard,
             // END generated from-number
             _ => Self::Unknown(number),
         }
@@ -110,6 +112,7 @@ impl Refusal {
             Self::CodesAlike => 22,
             Self::RepeatedPoint => 23,
             Self::ScoreListTooShort => 24,
+            Self::EvenLegacyBoard => 25,
             // END generated number
             Self::Unknown(number) => *number,
         }
@@ -118,7 +121,7 @@ impl Refusal {
 
 // BEGIN generated messages
 #[rustfmt::skip]
-const MESSAGES: [(u32, &str); 24] = [
+const MESSAGES: [(u32, &str); 25] = [
     (1, "the board has fewer than 2 rows or fewer than 2 columns"),
     (2, "cell_size is not finite or is not above 0"),
     (3, "marker_size_rel is not finite, is not above 0, or is above 1"),
@@ -143,6 +146,7 @@ const MESSAGES: [(u32, &str); 24] = [
     (22, "the codes of two markers are equal up to rotation"),
     (23, "two cells, sampled or not, have the same position (u, v)"),
     (24, "the score array has fewer than cells * markers * 4 elements"),
+    (25, "a legacy board with even rows and even columns cannot be restated"),
 ];
 // END generated messages
 

@@ -95,6 +95,14 @@ unsafe extern "C" {
         values: *mut u32,
         n_values: usize,
     ) -> u32;
+    fn charuco_restate(
+        bytes: *const u8,
+        n: usize,
+        sheet: *mut u8,
+        n_sheet: usize,
+        values: *mut u32,
+        n_values: usize,
+    ) -> u32;
     fn charuco_map_charuco_corners(
         rows: u32,
         cols: u32,
@@ -229,6 +237,19 @@ pub fn match_board_with_scores(
             scores.len(),
             markers.as_mut_ptr(),
             markers.len(),
+            values.as_mut_ptr(),
+            values.len(),
+        )
+    })
+}
+
+pub fn restate(record: &[u8], sheet: &mut [u8], values: &mut [u32]) -> u32 {
+    with_default(|| unsafe {
+        charuco_restate(
+            record.as_ptr(),
+            record.len(),
+            sheet.as_mut_ptr(),
+            sheet.len(),
             values.as_mut_ptr(),
             values.len(),
         )

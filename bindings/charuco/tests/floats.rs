@@ -70,6 +70,8 @@ struct Question {
     corners: [u32; 961 * 6],
     number: u32,
     count: [u32; 1],
+    restated: u32,
+    sheet: Vec<u8>,
 }
 
 #[derive(Clone)]
@@ -85,7 +87,7 @@ const NOTHING: Matched = Matched {
     markers: [0; 256 * 18],
 };
 
-/// The words of a match, of one with its scores, and of the corners.
+/// The words of a match, of one with its scores, and of the corners, with the restated record.
 type Answers = [Vec<u32>; 3];
 
 impl Question {
@@ -98,6 +100,7 @@ impl Question {
                 .expect("a code");
         }
         let markers = header.spec.rows * header.spec.cols / 2;
+        let sheet = vec![0; record.len()];
         Self {
             spec: header.spec,
             record,
@@ -107,6 +110,8 @@ impl Question {
             corners: [0; 961 * 6],
             number: 0,
             count: [0; 1],
+            restated: 0,
+            sheet,
         }
     }
 
@@ -119,11 +124,15 @@ impl Question {
         second.extend(self.scores.iter().map(|score| score.to_bits()));
         let mut mapped = vec![self.number, self.count[0]];
         mapped.extend(self.corners);
+        mapped.push(self.restated);
+        mapped.extend(self.sheet.iter().map(|byte| u32::from(*byte)));
         self.matches = [NOTHING; 2];
         self.scores.fill(0.0);
         self.corners.fill(0);
         self.number = 0;
         self.count.fill(0);
+        self.restated = 0;
+        self.sheet.fill(0);
         [first, second, mapped]
     }
 }
@@ -143,6 +152,7 @@ extern "C" fn through_the_crate(q: &mut Question) {
         alignment: (0, 1, 1),
     };
     q.number = words::map_charuco_corners(&q.spec, &q.codes, input, &mut q.corners, &mut q.count);
+    q.restated = words::restate(&q.record, &mut q.sheet, &mut []);
 }
 
 extern "C" fn through_c(q: &mut Question) {
@@ -256,7 +266,7 @@ fn answers_do_not_depend_on_the_callers_floats() {
                 assert_eq!(after, *setting, "{name}: MXCSR is not restored");
                 assert!(question.take() == expected, "{name}");
                 under(*setting, &mut question, through_c);
-                // Of the two matches; the corners are not counted.
+                // Of the two matches; corners and restated records are not counted.
                 let answers = differing.iter_mut().zip(question.take()).zip(&expected);
                 for ((differing, answer), expected) in answers {
                     *differing += usize::from(answer != *expected);

@@ -37,6 +37,7 @@ values-are refusal.InvalidRecord = refl
 values-are refusal.CodesAlike = refl
 values-are refusal.RepeatedPoint = refl
 values-are refusal.ScoreListTooShort = refl
+values-are refusal.EvenLegacyBoard = refl
 
 -- END generated values-are
 

@@ -21,6 +21,8 @@ use Rattle.marker_sampling.specs.declared.MarkerCells.the-variants as found
 use Rattle.board.specs.declared.CharucoBoardSpec.{CharucoBoardSpec}
 use Rattle.corner_mapping.specs.declared.MappedCorners.{MappedCorners}
 use Rattle.corner_mapping.specs.declared.MappedCorners.the-variants as mapped
+use Rattle.shot_record.specs.declared.Converted.{Converted}
+use Rattle.shot_record.specs.declared.Converted.the-variants as converted
 use Rattle.link_check.specs.declared.LinkCheckMode.{LinkCheckMode}
 use Rattle.link_check.specs.declared.LinkCheckMode.the-variants as mode
 use Rattle.link_check.specs.declared.CheckedLinks.{CheckedLinks}
@@ -99,3 +101,8 @@ cornersTold (mapped.Refused r) = refused r
 abbrev pub linksTold : CheckedLinks → Answer
 linksTold (checked.Checked count) = counted count
 linksTold (checked.Refused r) = refused r
+
+-- the number of bytes of a converted record
+abbrev pub convertedTold : Converted → Answer
+convertedTold (converted.Written count) = counted count
+convertedTold (converted.Refused r) = refused r

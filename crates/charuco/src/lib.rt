@@ -2,6 +2,7 @@
 // No entry point has a `requires`. A C function returns 0 or the error number, and writes words to an output array; `include/charuco.h` lists them.
 mod boards;
 mod cells;
+mod converters;
 mod corners;
 mod links;
 mod matches;
@@ -54,6 +55,11 @@ pub use link_check::LinkCheckMode;
 pub use link_check::LinkViolationKind;
 pub use link_check::validate_marker_corner_links;
 pub use links::charuco_validate_marker_corner_links;
+
+// Converters of records.
+pub use converters::charuco_restate;
+pub use legacy_record::restate;
+pub use shot_record::Converted;
 
 // Types of more than one entry point.
 pub use board::CharucoBoardSpec;

@@ -9,6 +9,7 @@ use lib.ListN.{length-map}
 use lib.Ieee.{Float}
 use Rattle.grid_alignment.specs.declared.GridAlignment.{GridAlignment}
 use Rattle.shot_record.specs.Shots.{Shot, list}
+use Rattle.shot_record.proofs.Lists.{last-listed}
 use Rattle.ranking.specs.declared.Evidence.{Evidence}
 use Rattle.ranking.specs.declared.Choice.{Choice}
 use Rattle.ranking.specs.declared.Choice.the-variants as choice
@@ -31,12 +32,6 @@ use Rattle.hypothesis.proofs.Places.{start, many, start-next}
 use Rattle.hypothesis.proofs.Placements.{positive}
 
 -- ---- lists
-module _ {A : Type 0} where
-  last-listed : (f : ℕ → A) (n : ℕ) → list f (suc n) ≡ list f n ++ (f n ∷ [])
-  unfolding list
-  last-listed f zero = refl
-  last-listed f (suc n) = ap (λ (xs : List A). f 0 ∷ xs) (last-listed (λ (k : ℕ). f (suc k)) n)
-
 module _ {A B : Type 0} where
   map-last : (f : A → B) (xs : List A) (x : A) → map f (xs ++ (x ∷ [])) ≡ map f xs ++ (f x ∷ [])
   map-last f [] x = refl

@@ -153,14 +153,16 @@ number-small refusal.InvalidRecord = lit< tt
 number-small refusal.CodesAlike = lit< tt
 number-small refusal.RepeatedPoint = lit< tt
 number-small refusal.ScoreListTooShort = lit< tt
+number-small refusal.EvenLegacyBoard = lit< tt
 
 -- END generated number-small
 
-refusal-room : (r : Refusal) → length (refusalLine r) ≤ 32768
+-- and 16 has a bit pattern of eight digits
+pub refusal-room : (r : Refusal) → length (refusalLine r) ≤ 20
 unfolding refusalLine
 refusal-room r = go (eqb (numberOf r) 16)
   where
-    go : (b : Bool) → length (line the-refused (decimal (numberOf r) ∷ cond b (hex8 (getD (valuesOf r) 0 0) ∷ []) [])) ≤ 32768
+    go : (b : Bool) → length (line the-refused (decimal (numberOf r) ∷ cond b (hex8 (getD (valuesOf r) 0 0) ∷ []) [])) ≤ 20
     go true =
         simp length-append (omega (arith, decimal-room 1 (numberOf r) (number-small r), hex8-room (getD (valuesOf r) 0 0)))
     go false = simp length-append (omega (arith, decimal-room 1 (numberOf r) (number-small r)))
@@ -170,4 +172,4 @@ room bytes lent small sizes = go (matchAnswer bytes lent) (small-answer bytes le
   where
     go : (a : Matched) → SmallAnswer bytes a → length (textOf a (matchList bytes lent)) ≤ 32768
     go (matched.Placed m) s = match-room (matchList bytes lent) sizes _ m s
-    go (matched.Refused r) s = refusal-room r
+    go (matched.Refused r) s = omega (arith, refusal-room r)

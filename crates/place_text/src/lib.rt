@@ -8,7 +8,7 @@ ghost use Rattle.place_text.specs.Text.{matchLines, textOf};
 ghost use Rattle.lent_list.specs.Front.{inFront};
 ghost use Rattle.place_text.specs.Writing.{Printed};
 
-mod lines;
+pub mod lines;
 mod markers;
 pub mod words;
 pub mod writer;

@@ -8,7 +8,7 @@ use Rattle.refusal.specs.declared.Refusal.the-variants.{BoardOutOfRange,
 use Rattle.refusal.specs.declared.Refusal.the-variants.{SettingsNotFinite, InvalidTable, NoCells, CellsOutOfRange, InvalidSample, ListTooShort}
 use Rattle.refusal.specs.declared.Refusal.the-variants.{TranslationWindow, Margin, NoMarkers}
 use Rattle.refusal.specs.declared.Refusal.the-variants.{CornersOutOfRange, TooManyLinks, TooManyCells, InvalidRecord, CodesAlike, RepeatedPoint}
-use Rattle.refusal.specs.declared.Refusal.the-variants.{ScoreListTooShort}
+use Rattle.refusal.specs.declared.Refusal.the-variants.{ScoreListTooShort, EvenLegacyBoard}
 
 -- error number: the number of the question that failed
 abbrev pub numberOf : Refusal → ℕ
@@ -60,6 +60,8 @@ numberOf CodesAlike = 22
 numberOf RepeatedPoint = 23
 -- Has the score array cells × markers × 4 elements?
 numberOf ScoreListTooShort = 24
+-- Is it no legacy board with rows and cols both even?
+numberOf EvenLegacyBoard = 25
 
 -- the values of an error: 7 needed and available, 16 the margin as its bit pattern
 abbrev pub valuesOf : Refusal → List ℕ
@@ -87,3 +89,4 @@ valuesOf InvalidRecord = []
 valuesOf CodesAlike = []
 valuesOf RepeatedPoint = []
 valuesOf ScoreListTooShort = []
+valuesOf EvenLegacyBoard = []

@@ -29,10 +29,11 @@ pub enum Refusal {
     TooManyLinks,
     TooManyCells,
     InvalidRecord,
-    // Document 02: the board, and Match.
+    // Document 02: the board, Match, and converters of records.
     CodesAlike,
     RepeatedPoint,
     ScoreListTooShort,
+    EvenLegacyBoard,
 }
 
 impl Refusal {
@@ -68,6 +69,7 @@ impl Refusal {
             Refusal::CodesAlike => 22,
             Refusal::RepeatedPoint => 23,
             Refusal::ScoreListTooShort => 24,
+            Refusal::EvenLegacyBoard => 25,
         }
     }
 

@@ -1,4 +1,4 @@
-// Kinds 5 to E, 19, 10D and 10E: calls of the entry points through their C functions, and the text of `place` for a record.
+// Kinds 5 to E, 19, 1A, 10D and 10E: calls of the entry points through their C functions, and the text of `place` for a record.
 use stored_rows::answers;
 use stored_rows::answers::Answer;
 use stored_rows::answers::BEFORE;
@@ -177,5 +177,17 @@ pub fn with_scores(bytes: &[u8], scores: &mut [f32], list: &mut [u32]) -> Answer
         number,
         words: told,
         digest: answers::with_scores(answers::of_words(list), scores),
+    }
+}
+
+// Kind 1A, whose output array has bytes.
+pub fn restated(bytes: &[u8], sheet: &mut [u8]) -> Answer {
+    let mut told = BEFORE;
+    lists::fill_bytes(sheet);
+    let number = charuco::charuco_restate(bytes, sheet, &mut told);
+    Answer {
+        number,
+        words: told,
+        digest: answers::of_bytes(sheet),
     }
 }

@@ -47,6 +47,7 @@ fn shape_of(kind: u64) -> Shape {
         0x17 => shape(3, 1),
         0x18 => shape(4, 4),
         0x19 => shape(2, 19),
+        0x1A => shape(1, 2),
         0x10D => shape(14, 2),
         0x10E => shape(11, 2),
         0x111 => shape(3, 3),
@@ -79,6 +80,13 @@ fn answer_with_scores(bytes: &[u8], row: [u64; 32]) -> Answer {
     entries::with_scores(bytes, &mut scores[..elements], &mut list[..places])
 }
 
+// Kind 1A: length of the output array.
+fn answer_restated(bytes: &[u8], row: [u64; 32]) -> Answer {
+    let mut sheet: [u8; 4096] = [0; 4096];
+    let places = numbers::least(row[1], 4096);
+    entries::restated(bytes, &mut sheet[..places])
+}
+
 // The result for a row, from the used bytes and words.
 fn answer(bytes: &[u8], words: &[u64], row: [u64; 32]) -> Answer {
     let kind = numbers::kind(row[0]);
@@ -89,6 +97,7 @@ fn answer(bytes: &[u8], words: &[u64], row: [u64; 32]) -> Answer {
         0xE => answer_with_list(bytes, words, row),
         0xF => texts::of_match(words),
         0x19 => answer_with_scores(bytes, row),
+        0x1A => answer_restated(bytes, row),
         _ => {
             if kind < 0x10 {
                 entries::read(bytes, kind, row[1] as usize)

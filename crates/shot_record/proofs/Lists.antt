@@ -1,9 +1,9 @@
 -- Lists f 0, …, f (n − 1), and their elements. Assumes nothing.
-use mathlib.Core.Path.{_≡_, refl, ap}
+use mathlib.Core.Path.{_≡_, refl, ap, ap₂}
 use Prim.Native.Nat.{ℕ, zero, suc, _≤_, _<_}
 use native.Mathlib.Nat.{le-of-suc-le-suc}
 use native.Mathlib.Omega.{arith}
-use mathlib.Core.List.{List, [], _∷_}
+use mathlib.Core.List.{List, [], _∷_, _++_}
 use mathlib.Core.Option.{none, some}
 use lib.ListN.{length, getD, getElem?}
 use Rattle.shot_record.specs.Shots.{list}
@@ -38,3 +38,15 @@ module _ {A : Type 0} where
 
   pub getElem?-list-past : (f : ℕ → A) (n k : ℕ) → n ≤ k → getElem? (list f n) k ≡ none
   getElem?-list-past f n k h = getElem?-past (list f n) k (rw (length-list f n) h)
+
+  pub last-listed : (f : ℕ → A) (n : ℕ) → list f (suc n) ≡ list f n ++ (f n ∷ [])
+  unfolding list
+  last-listed f zero = refl
+  last-listed f (suc n) = ap (λ (xs : List A). f 0 ∷ xs) (last-listed (λ (k : ℕ). f (suc k)) n)
+
+  pub list-as : (f g : ℕ → A) (n : ℕ) → ((k : ℕ) → k < n → f k ≡ g k) → list f n ≡ list g n
+  unfolding list
+  list-as f g zero e = refl
+  list-as f g (suc n) e =
+      ap₂ (λ (x : A) (xs : List A). x ∷ xs) (e 0 (omega arith))
+      (list-as (λ (k : ℕ). f (suc k)) (λ (k : ℕ). g (suc k)) n (λ k h. e (suc k) (omega (arith, h))))

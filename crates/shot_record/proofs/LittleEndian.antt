@@ -26,6 +26,11 @@ unfolding littleEndian
 le-length zero x = refl
 le-length (suc n) x = ap suc (le-length n (x / 256))
 
+pub le-bytes : (n x : ℕ) → Bytes (littleEndian n x)
+unfolding littleEndian
+le-bytes zero x = tt
+le-bytes (suc n) x = (omega arith, le-bytes n (x / 256))
+
 -- ---- parsing an encoded number
 number-drop : (n at k : ℕ) (bytes : List ℕ) → number n (at + k) bytes ≡ number n k (drop at bytes)
 unfolding number

@@ -14,7 +14,7 @@ use Rattle.shot_record.proofs.Sequences.{each-length}
 use Rattle.shot_record.proofs.Whole.{Whole, parsed}
 use Rattle.shot_record.proofs.WrittenBack as written
 
-joined-append : (xs ys : List (List ℕ)) → joined (xs ++ ys) ≡ joined xs ++ joined ys
+pub joined-append : (xs ys : List (List ℕ)) → joined (xs ++ ys) ≡ joined xs ++ joined ys
 joined-append [] ys = refl
 joined-append (x ∷ xs) ys = ap (λ (l : List ℕ). x ++ l) (joined-append xs ys) ∙ sym (append-assoc x (joined xs) (joined ys))
 

@@ -1,14 +1,15 @@
 -- A list whose elements are contiguous in a record. Assumes nothing.
-use mathlib.Core.Path.{_≡_, refl, ap₂, _∙_}
-use Prim.Native.Nat.{ℕ, zero, suc, _+_, _*_, _^_, _<_}
+use mathlib.Core.Path.{_≡_, refl, sym, ap, ap₂, _∙_}
+use Prim.Native.Nat.{ℕ, zero, suc, _+_, _*_, _^_, _≤_, _<_}
 use mathlib.Core.List.{List, [], _∷_, _++_, append-assoc}
 use native.Mathlib.Omega.{arith}
 use lib.ListN.{length, take, drop, length-append}
+use lib.Seq.{drop-append-seam, drop-drop}
 use Rattle.shot_record.specs.Fields.{number}
 use Rattle.shot_record.specs.Shots.{list, numbers}
-use Rattle.shot_record.specs.Writing.{littleEndian, each, All}
+use Rattle.shot_record.specs.Writing.{littleEndian, each, All, Bytes}
 use Rattle.shot_record.proofs.Reading.{Small, number-below}
-use Rattle.shot_record.proofs.LittleEndian.{le-length}
+use Rattle.shot_record.proofs.LittleEndian.{le-length, le-bytes}
 use Rattle.shot_record.proofs.Runs.{Runs, Read, after, number-read, number-written}
 
 module _ {A : Type 0} where
@@ -16,6 +17,10 @@ module _ {A : Type 0} where
   unfolding list
   list-all P f zero h = tt
   list-all P f (suc n) h = (h 0 (omega arith), list-all P (λ (k : ℕ). f (suc k)) n (λ k l. h (suc k) (omega arith)))
+
+  pub all-append : (P : A → Type 0) (xs ys : List A) → All P xs → All P ys → All P (xs ++ ys)
+  all-append P [] ys a b = b
+  all-append P (x ∷ xs) ys a b = (a .0, all-append P xs ys (a .1) b)
 
   pub all-take : (P : A → Type 0) (n : ℕ) (l : List A) → All P l → All P (take n l)
   all-take P zero l a = tt
@@ -80,3 +85,28 @@ numbers-below bytes s w n at =
 pub each-length : (w : ℕ) (xs : List ℕ) → length (each (littleEndian w) xs) ≡ w * length xs
 each-length w [] = omega arith
 each-length w (x ∷ xs) = length-append (littleEndian w x) (each (littleEndian w) xs) ∙ omega (arith, le-length w x, each-length w xs)
+
+-- ---- their bytes, in parts
+module _ (w : ℕ) where
+  pub each-bytes : (xs : List ℕ) → Bytes (each (littleEndian w) xs)
+  each-bytes [] = tt
+  each-bytes (x ∷ xs) = all-append (λ (y : ℕ). y < 256) (littleEndian w x) (each (littleEndian w) xs) (le-bytes w x) (each-bytes xs)
+
+  pub each-append : (xs ys : List ℕ) → each (littleEndian w) (xs ++ ys) ≡ each (littleEndian w) xs ++ each (littleEndian w) ys
+  each-append [] ys = refl
+  each-append (x ∷ xs) ys =
+      ap (λ (l : List ℕ). littleEndian w x ++ l) (each-append xs ys)
+      ∙ sym (append-assoc (littleEndian w x) (each (littleEndian w) xs) (each (littleEndian w) ys))
+
+  pub each-drop : (n : ℕ) (xs rest : List ℕ) → n ≤ length xs
+      → drop (w * n) (each (littleEndian w) xs ++ rest) ≡ each (littleEndian w) (drop n xs) ++ rest
+  each-drop zero xs rest h = let none-left : w * 0 ≡ 0 = omega arith in ap (λ (k : ℕ). drop k (each (littleEndian w) xs ++ rest)) none-left
+  each-drop (suc n) [] rest h = absurd (omega arith)
+  each-drop (suc n) (x ∷ xs) rest h =
+      let first = littleEndian w x in
+      let others = each (littleEndian w) xs ++ rest in
+      let size : w * suc n ≡ length first + w * n = omega (arith, le-length w x) in
+      ap₂ drop size (append-assoc first (each (littleEndian w) xs) rest)
+      ∙ sym (drop-drop (w * n) (length first) (first ++ others))
+      ∙ ap (drop (w * n)) (drop-append-seam first others)
+      ∙ each-drop n xs rest (omega (arith, h))

@@ -66,3 +66,11 @@ whole-if bytes answer e n = passes-whole bytes (subst T (sym (not-false answer n
 
 pub passed : (bytes : List ℕ) → wholeRecord bytes ≡ true → Whole bytes
 passed bytes e = passes-whole bytes (subst T (sym e) tt)
+
+pub parses-whole : (bytes : List ℕ) (s : Shot) → parse bytes ≡ some s → wholeRecord bytes ≡ true
+unfolding parse
+parses-whole bytes s = go (wholeRecord bytes)
+  where
+    go : (t : Bool) → cond t (some (shot bytes)) none ≡ some s → t ≡ true
+    go true e = refl
+    go false e = absurd (Option·none-ne-some s e)

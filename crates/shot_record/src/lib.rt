@@ -59,6 +59,12 @@ pub enum ReadCell {
     Refused(Refusal),
 }
 
+// The result of a converter of records: the number of bytes that it wrote.
+pub enum Converted {
+    Written(usize),
+    Refused(Refusal),
+}
+
 pub fn read_header(bytes: &[u8]) -> ReadHeader
     ensures { λ r. ⌜ r ≡ headerAnswer (now (bytes .entry)) ⌝ }
 {

@@ -231,6 +231,15 @@ pub fn fill_scores(scores: &mut [f32]) {
     }
 }
 
+// The same for bytes, modulo 256.
+pub fn fill_bytes(bytes: &mut [u8]) {
+    let mut i = 0;
+    while i < bytes.len() {
+        bytes[i] = (filling(i) % 256) as u8;
+        i += 1;
+    }
+}
+
 // The same for signed words.
 pub fn fill_signed() -> [i32; 3000]
     ensures { λ r. ⌜ 3000 ≡ length r ⌝ }

@@ -1,9 +1,9 @@
 -- Laws of records and matches that no other proof cites, at two small records. Assumes nothing.
 use mathlib.Core.Path.{_≡_, refl, sym, subst, _∙_}
-use mathlib.Core.Bool.{Bool, true, false, cond}
+use mathlib.Core.Bool.{true, false}
 use mathlib.Core.List.{List, [], _∷_}
 use mathlib.Core.Logic.{_⊎_, inl, inr}
-use mathlib.Core.Option.{none, some, Option·none-ne-some, Option·some-ne-none}
+use mathlib.Core.Option.{none, some, Option·some-ne-none}
 use Prim.Native.Nat.{ℕ, _+_, _-_, _≤_, _<_}
 use native.Mathlib.Nat.{zero-add, add-sub-of-le}
 use native.Mathlib.Omega.{arith}
@@ -31,12 +31,12 @@ use Rattle.board.specs.Questions.{askedOfSize, askedOfBoard}
 use Rattle.score_matrix.specs.Scores.{readCode}
 use Rattle.score_matrix.specs.Table.{patterns}
 use Rattle.shot_record.specs.Fields.{byte, mapByte, number, thresholdAt, pxAt, tableAt, rowsAt, codesAt, codeCount, cellCountAt, cellMap, cellAt, samplePlace, thresholdFrom, gridFrom}
-use Rattle.shot_record.specs.Shots.{Shot, list, shot, wholeRecord, parse, defaultMargin}
+use Rattle.shot_record.specs.Shots.{Shot, list, wholeRecord, parse, defaultMargin}
 use Rattle.shot_record.specs.Answers.{gridAnswer}
 use Rattle.shot_record.specs.Writing.{littleEndian, joined, cellFields, bytesOf, Bytes, Fit, Sections}
 use Rattle.shot_record.specs.Unchanged.{SameBetween, SameOutline, partOf}
 use Rattle.shot_record.proofs.LittleEndian.{all-bytes}
-use Rattle.shot_record.proofs.Whole.{parsed}
+use Rattle.shot_record.proofs.Whole.{parsed, parses-whole}
 use Rattle.shot_record.proofs.Laws.{read-back, written-back, one-to-one}
 use Rattle.shot_record.proofs.Sections.{sections}
 use Rattle.shot_record.proofs.Unchanged.{unchanged}
@@ -70,7 +70,7 @@ same-between : (a b : List ℕ) (first n end : ℕ) → end ≡ first + n → ev
     → SameBetween first end a b
 same-between a b first n end is e i l h = rw (add-sub-of-le l) at (same-bytes a b n first first e (i - first) (omega arith))
 
-small-bytes : (a : List ℕ) → every (λ (i : ℕ). ltb (getD a i 0) 256) (length a) ≡ true → (i : ℕ) → getD a i 0 < 256
+pub small-bytes : (a : List ℕ) → every (λ (i : ℕ). ltb (getD a i 0) 256) (length a) ≡ true → (i : ℕ) → getD a i 0 < 256
 small-bytes a e i = go (lt-or-le i (length a))
   where
     go : (i < length a) ⊎ (length a ≤ i) → getD a i 0 < 256
@@ -260,19 +260,11 @@ unfolding pair
 apart p = one-square-each (pair 200) 36 (pair-passes 36 (lit≤ tt)) p 0 1 (lit< tt) (lit< tt)
 
 -- ---- question 16
-whole : (bytes : List ℕ) (s : Shot) → parse bytes ≡ some s → wholeRecord bytes ≡ true
-unfolding parse
-whole bytes s e = go (wholeRecord bytes) e
-  where
-    go : (b : Bool) → cond b (some (shot bytes)) none ≡ some s → b ≡ true
-    go true e = refl
-    go false e = absurd (Option·none-ne-some s e)
-
 gate : (bytes : List ℕ) (s : Shot) (words : ℕ) → ((i : ℕ) → getD bytes i 0 < 256) → parse bytes ≡ some s → askedBefore15 s words ≡ none
     → 0 < length (placements s) → Gate s words
 gate bytes s words small e asked fits =
     subst (λ (x : Shot). askedBefore15 x words ≡ none → 0 < length (placements x) → Gate x words) (parsed bytes s e .1)
-    (margin-gate bytes words small (whole bytes s e))
+    (margin-gate bytes words small (parses-whole bytes s e))
     asked
     fits
 

@@ -1,13 +1,13 @@
 -- Laws that no other proof cites, at concrete values: a consequence of each, as a statement about the definitions. A field has the name of the law
 -- that it follows from.
 use mathlib.Core.Path.{_≡_}
-use Prim.Native.Nat.{ℕ, suc, _+_, _*_, _≤_, _<_}
-use mathlib.Core.Bool.{true, false, not}
+use Prim.Native.Nat.{ℕ, suc, _+_, _-_, _*_, _≤_, _<_}
+use mathlib.Core.Bool.{Bool, true, false, not}
 use mathlib.Core.List.{List, [], _∷_, _++_}
 use mathlib.Core.Option.{Option, none, some}
 use lib.Dec.{T, eqb}
 use lib.ListN.{length, take, drop, getD, getElem?}
-use lib.IntN.{ℤ, pos, negsuc}
+use lib.IntN.{ℤ, pos, negsuc, _-ℤ_}
 use lib.Ieee.{Float, isNan}
 use mir.Syntax.{w16, w32}
 use mir.Val.{SFits, ofZ}
@@ -25,7 +25,7 @@ use Rattle.board.specs.declared.Numbered.the-variants as numbered
 use Rattle.board.specs.declared.Located.the-variants as located
 use Rattle.board.specs.declared.Surrounding.the-variants as surrounding
 use Rattle.board.specs.Numbering.{numberAt}
-use Rattle.board.specs.Layout.{holdsMarker, oddParity, parityOf, squareOf, cornerAt, cornerPlace, fourCorners}
+use Rattle.board.specs.Layout.{holdsMarker, oddParity, parityOf, squareOf, cornerAt, cornerPlace, cornerCount, fourCorners}
 use Rattle.score_matrix.specs.Scores.{score, readCode}
 use Rattle.score_matrix.specs.Table.{patterns}
 use Rattle.shot_record.specs.Fields.{byte, mapByte, samplePlace, thresholdFrom, gridFrom}
@@ -34,12 +34,17 @@ use Rattle.shot_record.specs.Answers.{gridAnswer, partAnswer}
 use Rattle.shot_record.specs.Unchanged.{SameBetween}
 use Rattle.shot_record.specs.Writing.{joined, cellFields, bytesOf, Bytes}
 use Rattle.hypothesis.specs.Placements.{cellTotal, cell, placements}
-use Rattle.hypothesis.specs.Evidence.{tableOf, samplesOf}
+use Rattle.hypothesis.specs.Evidence.{boardIn, tableOf, samplesOf, expected, reported, exact}
 use Rattle.emit.specs.Markers.{idIn}
-use Rattle.board_match.specs.Match.{marginOf, refusedBy, matchList}
+use Rattle.board_match.specs.declared.Match.{Match}
+use Rattle.board_match.specs.declared.Matched.the-variants as matched
+use Rattle.board_match.specs.Match.{marginOf, refusedBy, matchAnswer, matchList}
 use Rattle.marker_sampling.specs.Cells.{Corners, cornersOf, pointAt, cells}
 use Rattle.corner_mapping.specs.Corners.{Input, MappedCorner, idOf, bears, chosen, mapped, cornerWords}
-use Rattle.corner_mapping.specs.Entry.{alignmentAnswer}
+use Rattle.corner_mapping.specs.Entry.{alignmentAnswer, input}
+use Rattle.legacy_record.specs.Restated.{restated}
+use Rattle.legacy_record.specs.Restating.{restatedBytes}
+use Rattle.legacy_record.specs.Rules.{OfBoard}
 use Rattle.place_text.specs.Numerals.{hex8, decimal, signedWord}
 use Rattle.worked_examples.specs.Table.{oneFloat, twoFloat, half, align, showing, board}
 use Rattle.worked_examples.specs.Requests.{blackBorder}
@@ -255,6 +260,74 @@ pub record OfCorners : Type 0 where
       × (cornerWords (board 4 5) (result 1 0) ≡ 1 ∷ 0 ∷ 2 ∷ 1 ∷ 0x40000000 ∷ 0x3F800000 ∷ [])
   -- cell (0, 0) is mapped to the square of marker 3, which has corners 1, 2, 6, 5, after one turn: the cell's lower right corner gets 2
   pub corners-of-marker : idOf (board 4 5) (cornerAlignment (align 1 (pos 2) (pos 1))) (pos 1 ∷ pos 1 ∷ pos 1 ∷ []) 0 ≡ numbered.Id 2
+
+-- a shot of a board with two rows and three columns; the cells (0, 0) and (2, 0) read 1 and 3, and the other settings are defaults
+abbrev pub twoByThree : Bool → List ℕ → Shot
+twoByThree legacy codes =
+    record {
+      minimumMargin = defaultMargin;
+      borderThreshold = defaultThreshold;
+      pxPerSquare = defaultPx;
+      table = patterns;
+      rows = 2;
+      cols = 3;
+      bits = 2;
+      border = 1;
+      legacyPattern = legacy;
+      cellSize = 0x3F800000;
+      markerSizeRel = 0x3F000000;
+      codes = codes;
+      cells =
+          record { u = pos 0; v = pos 0; sample = blackBorder 100 (greys 10 200 200 200) }
+          ∷ record { u = pos 2; v = pos 0; sample = blackBorder 100 (greys 10 10 200 200) }
+          ∷ [];
+    }
+
+-- a legacy shot, whose markers 0 and 1 are on (0, 0) and (2, 0), and the shot restated, by hand: codes 1, 3 and 7 in reverse, each rotated by 180°. Not
+-- unfolded
+unfoldable pub legacyShot : Shot
+legacyShot = twoByThree true (1 ∷ 3 ∷ 7 ∷ 0 ∷ [])
+
+unfoldable pub currentShot : Shot
+currentShot = twoByThree false (14 ∷ 12 ∷ 8 ∷ 0 ∷ [])
+
+abbrev pub currentRecord : List ℕ
+currentRecord = bytesOf 0 currentShot
+
+-- laws of a legacy shot and the shot restated (2.7)
+pub record OfRestated : Type 0 where
+  -- every record with a board that passes keeps its length and byte 1; so does the map byte of a record without the flag, and of one restated before
+  pub restates-rule :
+      (bytes : List ℕ) (s : Shot) → OfBoard bytes s
+      → (length (restatedBytes bytes s) ≡ length bytes)
+      × (byte 1 (restatedBytes bytes s) ≡ byte 1 bytes)
+      × (mapByte (restatedBytes (restatedBytes bytes s) (restated s)) ≡ mapByte (restatedBytes bytes s))
+      × (s .legacyPattern ≡ false → mapByte (restatedBytes bytes s) ≡ mapByte bytes)
+  -- the legacy record is placed at turn 0 and (0, 0), so the restated one at turn 2 and (2, 1), with that evidence; its two markers are 2 and 1
+  pub answers-rule :
+      (lent : List ℕ) → 36 ≤ length lent → (m : Match)
+      × (matchAnswer currentRecord lent ≡ matched.Placed m)
+      × (m .best .alignment ≡ align 2 (pos 2) (pos 1))
+      × (m .best .evidence ≡ reported legacyShot (align 0 (pos 0) (pos 0)))
+      × (m .corners ≡ align 2 (pos 3) (pos 2))
+      × (idIn (matchList currentRecord lent) 0 ≡ 2)
+      × (idIn (matchList currentRecord lent) 1 ≡ 1)
+  -- for every translation: the exact evidence, and where marker 0 was expected marker 2 is
+  pub pair-rule :
+      (tx ty : ℤ)
+      → (exact currentShot (align 3 (pos 2 -ℤ tx) (pos 1 -ℤ ty)) ≡ exact legacyShot (align 1 tx ty))
+      × ((k : ℕ) → expected legacyShot (align 1 tx ty) k ≡ numbered.Id 0
+      → expected currentShot (align 3 (pos 2 -ℤ tx) (pos 1 -ℤ ty)) k ≡ numbered.Id 2)
+  -- the corners 0 and 1 of P3's board become 11 and 10, whatever the input corners
+  pub mapped-rule :
+      (s : Shot) (first second : Option Sample) (scores : List Float) (grid : List ℤ)
+      → mapped (input (boardIn (showing s 2 first second)) (align 0 (pos 0) (pos 0)) scores grid) ≡ result 0 2 ∷ result 1 0 ∷ []
+      → mapped (input (boardIn (restated (showing s 2 first second))) (align 2 (pos 5) (pos 4)) scores grid) ≡ result 10 0 ∷ result 11 2 ∷ []
+  -- the last corner of a board of any size is (cols − 1, rows − 1), as corner 0 is (1, 1)
+  pub corner-words :
+      (s : Shot) (index : ℕ) → 2 ≤ s .rows → 2 ≤ s .cols
+      → take 4 (cornerWords (boardIn (restated s)) (result (cornerCount (s .rows) (s .cols) - 1) index))
+      ≡ (cornerCount (s .rows) (s .cols) - 1) ∷ index ∷ (s .cols - 1) ∷ (s .rows - 1) ∷ []
 
 -- laws of texts
 pub record OfTexts : Type 0 where

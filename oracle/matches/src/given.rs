@@ -8,6 +8,7 @@ mod numbers;
 mod points;
 mod reach;
 mod repeats;
+mod restate;
 mod scene;
 mod score_arrays;
 mod ties;
@@ -18,6 +19,7 @@ use cases::prng::Prng;
 use records::{Shot, damage, settings, write};
 use std::ops::Range;
 
+pub use restate::sheet;
 pub use scene::{Look, Scene, markers_of};
 pub use score_arrays::{LENGTHS, Length, ScoreArray};
 
@@ -93,6 +95,35 @@ pub const SCORE_KINDS: [Kind; 3] = [
 ];
 
 pub const LEGACY_SCORE_KINDS: [Kind; SCORE_KINDS.len()] = of_legacy_boards(SCORE_KINDS, 1);
+
+/// Records to restate (document 02, 2.7).
+pub const RESTATE_KINDS: [Kind; 5] = [
+    kind("restated sizes", 8 * 961, Make::OfSize(restate::of_size)).titled("boards of every size"),
+    shots("restated small boards", 3_000, restate::small)
+        .titled("boards of 2 × 2 to 4 × 4 squares"),
+    kind(
+        "restated with faults",
+        20_000,
+        Make::Given(restate::with_faults),
+    )
+    .titled("one fault or two of the checks before 25"),
+    kind(
+        "restated and not matched",
+        10_000,
+        Make::Given(restate::refused_by_match),
+    )
+    .titled("one fault or two of checks that only a match makes"),
+    shots("restated longest", 40, restate::longest).titled("records of 65,535 bytes"),
+];
+
+pub const LEGACY_RESTATE_KINDS: [Kind; RESTATE_KINDS.len()] = of_legacy_boards(RESTATE_KINDS, 1);
+
+/// Further shots of legacy boards with even rows and odd columns, which are placed on both boards.
+pub const PAIRED_KINDS: [Kind; 1] = of_legacy_boards(
+    [shots("ties below 0", 200, restate::tied_below_0)
+        .titled("ties of the best with evidence below 0")],
+    1,
+);
 
 /// With as many records of each, divided by this.
 const fn of_legacy_boards<const N: usize>(mut kinds: [Kind; N], divisor: usize) -> [Kind; N] {

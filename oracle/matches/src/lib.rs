@@ -7,7 +7,9 @@ pub mod counts;
 pub mod exact;
 pub mod given;
 mod model;
+mod paired;
 mod questions;
+pub mod restated;
 mod rust;
 pub mod scores;
 mod text;
@@ -18,9 +20,11 @@ pub use answer::{
     ANSWER_WORDS, Alignment, Hypothesis, MARKER_WORDS, MOST_PLACES, Marker, Matched, Placed,
     Selected, told,
 };
+pub use paired::{PairedShot, Ties};
 pub use questions::{
-    WithScores, by_rust_and_model, by_rust_without_22, by_rust_without_23,
-    by_turned_rust_and_model, match_record, match_record_with_scores, match_shot,
+    WithScores, by_paired_rust_and_model, by_rust_and_model, by_rust_without_22,
+    by_rust_without_23, by_turned_rust_and_model, match_record, match_record_with_scores,
+    match_shot, refused_by_match_alone,
 };
 pub use rust::{Matching, Samples};
 pub use text::text;

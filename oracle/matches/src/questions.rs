@@ -6,7 +6,7 @@
 use crate::answer::{MARKER_WORDS, Matched, told};
 use crate::scores;
 use crate::turned::{self, Compared, TurnedShot};
-use crate::{model, rust};
+use crate::{model, paired, rust};
 use calib_targets_charuco::CharucoBoard;
 use cases::answer::Answer;
 use cases::boards::BoardArguments;
@@ -114,6 +114,25 @@ pub fn by_turned_rust_and_model(shot: &Shot) -> Option<[Compared; 2]> {
     (!shot.cells.is_empty()).then(|| turned::by_rust_and_model(shot, slope_and_floor))
 }
 
+/// What upstream returns for the restated shot, carried to the shot as it is, and the rules alone for the shot, which comes so
+/// far and has a legacy board with even rows and odd columns; and whether it is upstream, or the rules in its place.
+pub fn by_paired_rust_and_model(shot: &Shot) -> Option<([Compared; 2], bool)> {
+    asked_first(shot, Lengths::ENOUGH).ok()?;
+    let formula = slope_and_floor(&shot.table);
+    let both = paired::is_paired(shot) && !shot.cells.is_empty();
+    both.then(|| (paired::by_rust_and_model(shot, formula), formula.is_some()))
+}
+
+/// The check from 9 to 13, or 23, by which a match refuses a shot whose board is accepted.
+pub fn refused_by_match_alone(shot: &Shot) -> Option<u32> {
+    let questions = after_board(shot, Lengths::ENOUGH);
+    let (settings_and_table, of_cells) = questions.split_at(2);
+    let has_cells = [(11, !shot.cells.is_empty())];
+    let all = [settings_and_table, &has_cells, of_cells].concat();
+    let refused = first_refused(&all).err();
+    refused.map(|answer| answer.number)
+}
+
 /// What is returned for a shot without check 22: a refusal by a check from 1 to 8, else what upstream returns, where no
 /// check from 9 to 14 that it lacks refuses the shot and the table is by the formula.
 pub fn by_rust_without_22(shot: &Shot) -> Option<Matched> {
@@ -183,7 +202,7 @@ fn first_refused(questions: &[Asked]) -> Result<(), Answer> {
 }
 
 /// The board of a shot, or the refusal of one of its checks.
-fn accepted(shot: &Shot) -> Result<CharucoBoard, Answer> {
+pub(crate) fn accepted(shot: &Shot) -> Result<CharucoBoard, Answer> {
     accepted_board(&arguments(shot), kept_codes(&shot.codes))
 }
 

@@ -125,6 +125,8 @@ pub struct Compared {
     /// of contributing cells.
     pub answer: Option<Answer>,
     pub is_same_runner_up: bool,
+    /// That of the match: 0, or the refusal. Another best may have no marker.
+    pub number: u32,
 }
 
 #[derive(Clone, Copy, Debug, PartialEq, Eq, PartialOrd, Ord)]
@@ -147,15 +149,18 @@ pub struct Chosen {
 }
 
 /// One side of a comparison.
-struct Side {
-    all: Vec<Hypothesis>,
-    selected: Option<Selected>,
-    matched: Matched,
+pub struct Side {
+    pub all: Vec<Hypothesis>,
+    pub selected: Option<Selected>,
+    pub matched: Matched,
 }
 
 /// Of a shot that passes the checks up to 14.
 pub fn by_rust_and_model(shot: &Shot, slope_and_floor: [f32; 2]) -> [Compared; 2] {
-    let sides = [by_rust(shot, slope_and_floor), by_model(shot)];
+    compared([by_rust(shot, slope_and_floor), Side::by_model(shot)])
+}
+
+pub fn compared(sides: [Side; 2]) -> [Compared; 2] {
     let is_same = |chosen: fn(Selected) -> Option<Hypothesis>| {
         let [rust, model] = sides.each_ref().map(|side| {
             let chosen = side.selected.and_then(chosen);
@@ -184,17 +189,18 @@ fn by_rust(shot: &Shot, slope_and_floor: [f32; 2]) -> Side {
     }
 }
 
-fn by_model(shot: &Shot) -> Side {
-    let model = Model::new(shot);
-    let all = model.hypotheses();
-    Side {
-        selected: model.selected(&all),
-        all,
-        matched: model::match_shot(shot),
-    }
-}
-
 impl Side {
+    /// Of a shot that passes the checks up to 14.
+    pub fn by_model(shot: &Shot) -> Self {
+        let model = Model::new(shot);
+        let all = model.hypotheses();
+        Self {
+            selected: model.selected(&all),
+            all,
+            matched: model::match_shot(shot),
+        }
+    }
+
     fn compared(self, is_same_best: bool, is_same_runner_up: bool) -> Compared {
         let bits = |found: &Hypothesis| found.evidence.map(f32::to_bits);
         let placements = self.all.iter().map(|found| Placement {
@@ -204,6 +210,7 @@ impl Side {
         });
         let mut placements: Vec<_> = placements.collect();
         placements.sort_unstable();
+        let number = told(&self.matched).number;
         let matched = if is_same_runner_up {
             self.matched
         } else {
@@ -219,6 +226,7 @@ impl Side {
             }),
             answer: is_same_best.then(|| told(&matched)),
             is_same_runner_up,
+            number,
         }
     }
 }

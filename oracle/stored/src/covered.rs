@@ -1,7 +1,7 @@
 //! Whether the answers in the file would show that any two words or fields are exchanged, that a word is left out, or that a
 //! kind of line is spelled otherwise; whether every number of a refusal comes up; whether cells at the same position are
 //! read; whether wrong counts of contributing cells would show; whether it would show that one of many codes is not checked;
-//! and whether wrong score arrays would show.
+//! whether wrong score arrays would show; and whether wrong converters of records would.
 
 use crate::kinds::{self, Kind};
 use crate::script::{Asked, Script};
@@ -10,6 +10,7 @@ use cases::codes::all_ones;
 use matches::codes::{alike as alike_codes, too_large};
 use matches::counts::{PAIRS, Shown, WRONG};
 use matches::given::{Length, markers_of};
+use matches::restated::{WRONG_CODES, WRONG_FLAG, WRONG_REVERSED, is_reversed};
 use matches::scores::CASES;
 use matches::{match_shot, told};
 use records::Shot;
@@ -93,6 +94,26 @@ pub fn check(script: &Script) {
     check_counts("matches", without_mark);
     check_counts("matches of legacy boards", marked);
     check_scores(script);
+    check_restated(&script.restated);
+}
+
+/// Every wrong converter would show, that of boards whose codes stay with even and with odd rows.
+fn check_restated(shots: &[Shot]) {
+    let by_parity = |is_odd: bool| {
+        let shots = shots.iter();
+        shots.filter(move |shot| (shot.rows % 2 == 1) == is_odd)
+    };
+    let reversed = || shots.iter().filter(|shot| is_reversed(shot));
+    for wrong in &WRONG_CODES {
+        let is_shown = reversed().any(|shot| wrong.is_shown_by(shot));
+        assert!(is_shown, "restated: {}", wrong.name);
+    }
+    for is_odd in [false, true] {
+        let mut legacy = by_parity(is_odd).filter(|shot| shot.is_legacy());
+        assert!(legacy.any(|shot| WRONG_FLAG.is_shown_by(shot)));
+        let mut staying = by_parity(is_odd).filter(|shot| !is_reversed(shot));
+        assert!(staying.any(|shot| WRONG_REVERSED.is_shown_by(shot)));
+    }
 }
 
 /// Every case of a filled score array comes up. Arrays are filled that are just long enough, and longer ones. 24 fails where the

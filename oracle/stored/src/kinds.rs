@@ -95,6 +95,10 @@ kinds! {
         ],
         ..part(0x19, "charuco_match_board_with_scores", 2, MATCH.words)
     };
+    RESTATED = Kind {
+        numbers: &[0, 1, 2, 3, 4, 5, 6, 7, 8, 14, 21, 22, 25],
+        ..part(0x1A, "charuco_restate", 1, 2)
+    };
     LEGACY_CORNERS = of_legacy(CORNERS, "charuco_map_charuco_corners, legacy board");
     LEGACY_LINKS = of_legacy(LINKS, "charuco_validate_marker_corner_links, legacy board");
     LEGACY_LAYOUT = of_legacy(LAYOUT, "layout, legacy board");

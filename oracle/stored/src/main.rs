@@ -9,6 +9,7 @@ mod many_codes;
 mod matches;
 mod parts;
 mod records;
+mod restated;
 mod score_arrays;
 mod scores;
 mod script;
@@ -27,7 +28,7 @@ fn main() -> io::Result<()> {
     entries::ask_links(&mut script, false);
     matches::ask(&mut script);
     // Legacy boards come after all others, equal codes after them, then cells at the same position, then counts, then many
-    // codes, and matches with scores last, so that the rows before stay.
+    // codes, then matches with scores, and restated records last, so that the rows before stay.
     parts::ask_layouts(&mut script, true);
     records::ask_marked(&mut script);
     entries::ask_corners(&mut script, true);
@@ -42,6 +43,7 @@ fn main() -> io::Result<()> {
     many_codes::ask(&mut script);
     score_arrays::ask(&mut script, false);
     score_arrays::ask(&mut script, true);
+    restated::ask(&mut script);
     covered::check(&script);
     for &kind in kinds::ALL {
         let rows = script.asked.iter().filter(|asked| asked.kind == kind);

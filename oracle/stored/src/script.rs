@@ -1,10 +1,11 @@
 //! The rows of the file in their order: those that build up the two lists, and those with an answer.
 
-use crate::kinds::{Kind, MATCH, MATCH_WITH_SCORES};
+use crate::kinds::{Kind, MATCH, MATCH_WITH_SCORES, RESTATED};
 use cases::answer::{Answer, after};
 use matches::WithScores;
 use matches::counts::Shown;
 use matches::given::Length;
+use matches::restated::restate;
 use matches::scores::{Filled, Shown as ShownScores};
 use records::{Shot, read, settings};
 use std::collections::{HashMap, HashSet};
@@ -15,6 +16,7 @@ pub const MOST_PLACES: usize = 147_500;
 pub const MOST_BYTES: usize = 65_536;
 pub const MOST_PLACES_WITH_SCORES: usize = 4_704;
 pub const MOST_SCORES: usize = 8_200;
+const MOST_RESTATED: usize = 4_096;
 const MOST_WORDS: usize = 8_600;
 const WORDS_OF_A_ROW: usize = 32;
 
@@ -50,6 +52,8 @@ pub struct Script {
     pub counts: [Shown; 2],
     /// The same of the score arrays.
     pub scores: [ShownScores; 2],
+    /// The shots that are restated.
+    pub restated: Vec<Shot>,
     bytes: Vec<u8>,
     words: Vec<u64>,
 }
@@ -154,7 +158,23 @@ impl Script {
         }
     }
 
-    /// A row about bytes, which are those that the answer names.
+    /// The bytes restated, with an output array of so many bytes.
+    pub fn ask_restated(&mut self, places: usize) {
+        assert!(places <= MOST_RESTATED);
+        let mut sheet: Vec<u8> = before(places).into_iter().map(|word| word as u8).collect();
+        let answer = match restate(&self.bytes, places) {
+            Ok(new) => {
+                sheet[..new.len()].copy_from_slice(&new);
+                let read = read(&self.bytes);
+                self.restated.extend(read.map(|read| read.shot));
+                Answer::of_words([new.len() as u32])
+            }
+            Err(refused) => refused,
+        };
+        self.ask_with_bytes(RESTATED, &[places as u64], answer, &sheet);
+    }
+
+    /// A row about bytes, which are those that the answer names or those of the output array.
     pub fn ask_with_bytes(&mut self, kind: Kind, arguments: &[u64], answer: Answer, bytes: &[u8]) {
         self.ask_with_digest(kind, arguments, answer, digest(bytes.iter().copied()));
     }

@@ -10,6 +10,7 @@ mod layout;
 mod links;
 mod matches;
 mod records;
+mod restated;
 mod results;
 mod score_arrays;
 mod scores;
@@ -25,7 +26,7 @@ const BLOCK: &str = "compare";
 type Group = (&'static str, fn() -> Vec<Subject>);
 
 /// In the order of the run.
-const GROUPS: [Group; 12] = [
+const GROUPS: [Group; 13] = [
     ("codes", codes::compare),
     ("layout", layout::compare),
     ("refusals", entries::refusals),
@@ -37,6 +38,7 @@ const GROUPS: [Group; 12] = [
     ("records", records::compare),
     ("matches", matches::compare),
     ("score_arrays", score_arrays::compare),
+    ("restated", restated::compare),
     ("program", matches::compare_program),
 ];
 

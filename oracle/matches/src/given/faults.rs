@@ -136,6 +136,16 @@ pub fn with_late_faults(prng: &mut Prng, shot: Shot, count: usize) -> Given {
     with_faults_of(prng, shot, &FAULTS[FAULTS.len() - 4..], count)
 }
 
+/// The same of the checks 21, 1 to 8 and 22, which are the first.
+pub fn with_board_faults(prng: &mut Prng, shot: Shot, count: usize) -> Given {
+    with_faults_of(prng, shot, &FAULTS[..10], count)
+}
+
+/// The same of the checks 9 to 13, which only a match makes.
+pub fn with_faults_of_match(prng: &mut Prng, shot: Shot, count: usize) -> Given {
+    with_faults_of(prng, shot, &FAULTS[10..15], count)
+}
+
 fn with_faults_of(prng: &mut Prng, shot: Shot, faults: &[Fault], count: usize) -> Given {
     let mut faulty = Faulty {
         shot,

@@ -17,7 +17,7 @@ use Rattle.refusal.proofs.Refusal.value.Tie as tie
 -- the tags of the refusals that give nothing
 -- BEGIN generated nothing
 abbrev silent : List ℕ
-silent = 0 ∷ 1 ∷ 2 ∷ 3 ∷ 4 ∷ 5 ∷ 7 ∷ 8 ∷ 9 ∷ 10 ∷ 11 ∷ 12 ∷ 13 ∷ 14 ∷ 16 ∷ 17 ∷ 18 ∷ 19 ∷ 20 ∷ 21 ∷ 22 ∷ 23 ∷ []
+silent = 0 ∷ 1 ∷ 2 ∷ 3 ∷ 4 ∷ 5 ∷ 7 ∷ 8 ∷ 9 ∷ 10 ∷ 11 ∷ 12 ∷ 13 ∷ 14 ∷ 16 ∷ 17 ∷ 18 ∷ 19 ∷ 20 ∷ 21 ∷ 22 ∷ 23 ∷ 24 ∷ []
 
 nothing : (r : Refusal) → OneOf silent (tagOf the-type r) → valuesOf r ≡ []
 nothing refusal.InvalidSize h = refl
@@ -44,6 +44,7 @@ nothing refusal.InvalidRecord h = refl
 nothing refusal.CodesAlike h = refl
 nothing refusal.RepeatedPoint h = refl
 nothing refusal.ScoreListTooShort h = refl
+nothing refusal.EvenLegacyBoard h = refl
 
 -- END generated nothing
 

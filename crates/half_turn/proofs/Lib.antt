@@ -1,0 +1,11 @@
+pub mod HalfTurn
+pub mod CodedCells
+pub mod Pairs
+pub mod Emitted
+pub mod Mapped
+pub mod Results
+pub mod TiedFloats
+pub mod Margins
+pub mod Ranks
+pub mod Ties
+pub mod Answers

@@ -1,0 +1,5 @@
+pub mod Pairs
+pub mod Markers
+pub mod Corners
+pub mod Ties
+pub mod Answers
