@@ -237,8 +237,8 @@ static void check_most_scores(void)
     check(match_with_scores(length, room, CHARUCO_MAX_SCORES, zeros, CHARUCO_MAX_SCORES) == CHARUCO_MARGIN, "the most scores are not enough");
 }
 
-/* The error number of restating the record in front with this map byte and board into an array of so many bytes, which hold 255 before. After the call
- * the first n bytes are the expected ones, and no other has changed. */
+/* The error number of restating `front` with this map byte, rows and cols into an array of so many bytes, each 255 before. After the call the first n
+ * bytes are the expected ones, and no other has changed. */
 static uint32_t restate(uint8_t *front, size_t length, int map, int rows, int cols, size_t room, const uint8_t *expected, size_t n)
 {
     uint8_t sheet[64];

@@ -7,5 +7,6 @@ pub mod Compare
 pub mod Order
 pub mod Ranges
 pub mod Signs
+pub mod Ties
 pub mod Folds
 mod Examples

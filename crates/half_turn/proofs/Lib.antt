@@ -4,7 +4,6 @@ pub mod Pairs
 pub mod Emitted
 pub mod Mapped
 pub mod Results
-pub mod TiedFloats
 pub mod Margins
 pub mod Ranks
 pub mod Ties

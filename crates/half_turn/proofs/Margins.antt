@@ -23,7 +23,7 @@ use Rattle.ranking.specs.declared.Choice.the-variants as choice
 use Rattle.ranking.specs.Greatest.{liesBelow}
 use Rattle.ranking.specs.Margin.{epsilon, atLeast, share, lead, margin}
 use Rattle.ranking.proofs.Margins.{Small}
-use Rattle.half_turn.proofs.TiedFloats.{Positive, is-positive, tied-positive, same-difference, sub-self, div-nought}
+use Rattle.floats.proofs.Ties.{Positive, is-positive, tied-positive, same-difference, sub-self, div-nought}
 
 -- ---- a gap of 0
 abbrev Number : Float → Type 0

@@ -51,7 +51,7 @@ module _ (bits n : ℕ) (codes : List ℕ) where
       codes-append bits (list code n) (drop n codes)
       (codes-list bits code n (λ k. turned-below bits 2 (getD codes (n - 1 - k) 0))) (codes-drop bits n codes a)
 
-  -- two of them that are alike were alike before
+  -- two of them that are equal up to rotation were so before
   pub reversed-apart : twoAlike bits codes n ≡ false → twoAlike bits (reversedCodes bits n codes) n ≡ false
   reversed-apart a = go (twoAlike bits (reversedCodes bits n codes) n) refl
     where

@@ -1,4 +1,4 @@
--- Small legacy boards, with the codes and the refusals that document 02, 2.7 gives them, by hand.
+-- Small legacy boards: the codes of the restated shot and the errors by document 02, 2.7, computed by hand.
 use mathlib.Core.Path.{_≡_}
 use mathlib.Core.Bool.{true}
 use mathlib.Core.List.{List, [], _∷_}
@@ -34,7 +34,7 @@ pub record Examples : Type 0 where
   pub even-rows : restated (legacySheet 2 3 (1 ∷ 3 ∷ 7 ∷ 0 ∷ 5 ∷ [])) .codes ≡ 14 ∷ 12 ∷ 8 ∷ 0 ∷ 5 ∷ []
   -- with three rows every code stays
   pub odd-rows : restated (legacySheet 3 2 (1 ∷ 3 ∷ 7 ∷ 0 ∷ 5 ∷ [])) .codes ≡ 1 ∷ 3 ∷ 7 ∷ 0 ∷ 5 ∷ []
-  -- 2 is 1 after a quarter turn: 22 is asked before 25, and 25 before 14
+  -- 2 is 1 after a quarter turn: 22 is checked before 25, and 25 before 14
   pub alike-first : restateRefusedBy (legacySheet 2 2 (1 ∷ 2 ∷ [])) 10 10 ≡ some refusal.CodesAlike
   pub even-sides : restateRefusedBy (legacySheet 2 2 (1 ∷ 3 ∷ [])) 10 9 ≡ some refusal.EvenLegacyBoard
   pub one-byte-short : restateRefusedBy (legacySheet 2 3 (1 ∷ 3 ∷ 7 ∷ [])) 10 9 ≡ some refusal.ListTooShort

@@ -93,7 +93,7 @@ fn opposite(at: Alignment, [right, down]: [i32; 2]) -> Alignment {
 }
 
 /// What upstream finds for the restated shot, carried to the shot, and what the rules find for the shot, which has cells and
-/// passes the checks up to 14. Without a formula the rules stand for upstream.
+/// passes the checks up to 14. Without a formula the rules are used in upstream's place.
 pub fn by_rust_and_model(shot: &Shot, slope_and_floor: Option<[f32; 2]>) -> [Compared; 2] {
     let paired = PairedShot::new(shot);
     let side = match slope_and_floor {

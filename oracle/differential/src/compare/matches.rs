@@ -7,7 +7,7 @@ mod unknown_to_rust;
 use crate::entry::{Both, Entry};
 use crate::subject::{Bytes, Subject, of_legacy_boards};
 use matches::counts::Shown as ShownCounts;
-use matches::given::{Given, KINDS, Kind, LEGACY_KINDS};
+use matches::given::{Given, KINDS, Kind, LEGACY_KINDS, LENGTHS, Length};
 use matches::{Compared, by_rust_and_model, by_turned_rust_and_model, told};
 use records::REFUSED;
 use std::fmt::{self, Display, Formatter};
@@ -123,6 +123,31 @@ impl Turned {
         );
         [self.placements, self.chosen, self.answers, up]
     }
+}
+
+/// Asks about each record of the kinds, and returns how many there are.
+pub fn each_record(kinds: &[Kind], mut ask: impl FnMut(&Shown)) -> u64 {
+    let mut records = 0;
+    for kind in kinds {
+        for (place, given) in kind.all().enumerate() {
+            ask(&Shown(kind, place, &given));
+            records += 1;
+        }
+    }
+    records
+}
+
+/// The same with each length of a further array; for each kind a subject with the number of its records.
+pub fn each_length(kinds: &[Kind], mut ask: impl FnMut(&Shown, Length)) -> Vec<Subject> {
+    let of_kind = |kind: &Kind| {
+        let records = each_record(std::slice::from_ref(kind), |shown| {
+            for length in LENGTHS {
+                ask(shown, length);
+            }
+        });
+        Subject::of_cases(format!("kind: {}", kind.title), [("records", records)])
+    };
+    kinds.iter().map(of_kind).collect()
 }
 
 /// The kind of a record and its place in it, by which it can be made again, and its first bytes.

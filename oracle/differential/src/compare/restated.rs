@@ -5,7 +5,7 @@ mod corners;
 mod pairing;
 
 use crate::entry::Entry;
-use crate::matches::Shown as ShownRecord;
+use crate::matches::{Shown as ShownRecord, each_length, each_record};
 use crate::subject::{Subject, of_legacy_boards};
 use came_up::CameUp;
 use cases::answer::Answer;
@@ -21,36 +21,26 @@ use records::REFUSED;
 const NUMBERS: [u32; 13] = [0, REFUSED, 1, 2, 3, 4, 5, 6, 7, 8, 22, 25, 14];
 
 pub fn compare() -> Vec<Subject> {
-    let unmarked = compare_kinds(&KINDS, &RESTATE_KINDS, false);
+    let current = compare_kinds(&KINDS, &RESTATE_KINDS, false);
     let legacy = compare_kinds(&LEGACY_KINDS, &LEGACY_RESTATE_KINDS, true);
     let paired = pairing::compare();
     let corners = corners::compare();
     let of_legacy = [legacy, paired, corners].concat();
-    [unmarked, of_legacy_boards(of_legacy)].concat()
+    [current, of_legacy_boards(of_legacy)].concat()
 }
 
 /// The kinds of the match, each record with an array of some length, and further ones, with every length.
 fn compare_kinds(of_matches: &[Kind], further: &[Kind], legacy: bool) -> Vec<Subject> {
     let mut run = Run::new(legacy);
-    let mut records = 0u64;
-    for kind in of_matches {
-        for (place, given) in kind.all().enumerate() {
-            let length = run.prng.pick(&LENGTHS);
-            run.compare(&ShownRecord(kind, place, &given), length);
-            records += 1;
-        }
-    }
+    let records = each_record(of_matches, |shown| {
+        let length = run.prng.pick(&LENGTHS);
+        run.compare(shown, length);
+    });
     let name = "the kinds of the match";
     let mut subjects = vec![Subject::of_cases(name, [("records", records)])];
-    for kind in further {
-        for (place, given) in kind.all().enumerate() {
-            for length in LENGTHS {
-                run.compare(&ShownRecord(kind, place, &given), length);
-            }
-        }
-        let records = [("records", kind.count as u64)];
-        subjects.push(Subject::of_cases(format!("kind: {}", kind.title), records));
-    }
+    subjects.extend(each_length(further, |shown, length| {
+        run.compare(shown, length)
+    }));
     subjects.extend(run.subjects());
     subjects
 }

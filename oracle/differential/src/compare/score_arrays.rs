@@ -1,7 +1,7 @@
 //! The match with scores (document 02, 2.6): its answer, every word of the output array, and every bit of the score array.
 
 use crate::entry::Entry;
-use crate::matches::Shown as ShownRecord;
+use crate::matches::{Shown as ShownRecord, each_length, each_record};
 use crate::subject::{Subject, of_legacy_boards};
 use cases::answer::after;
 use cases::layout::SIDES;
@@ -25,34 +25,24 @@ const NUMBERS: [u32; 22] = [
 const FILLED: [u32; 4] = [0, 15, 16, 17];
 
 pub fn compare() -> Vec<Subject> {
-    let unmarked = compare_kinds(&KINDS, &SCORE_KINDS, 61);
+    let current = compare_kinds(&KINDS, &SCORE_KINDS, 61);
     let legacy = compare_kinds(&LEGACY_KINDS, &LEGACY_SCORE_KINDS, 62);
-    [unmarked, of_legacy_boards(legacy)].concat()
+    [current, of_legacy_boards(legacy)].concat()
 }
 
 /// The kinds of the match without scores, each record with an array of some length, and further ones, with every length.
 fn compare_kinds(of_matches: &[Kind], further: &[Kind], seed: u64) -> Vec<Subject> {
     let mut run = Run::new(seed);
-    let mut records = 0u64;
-    for kind in of_matches {
-        for (place, given) in kind.all().enumerate() {
-            let array = ScoreArray::any(&mut run.prng, &given.record);
-            run.compare(&ShownRecord(kind, place, &given), &array);
-            records += 1;
-        }
-    }
+    let records = each_record(of_matches, |shown| {
+        let array = ScoreArray::any(&mut run.prng, &shown.2.record);
+        run.compare(shown, &array);
+    });
     let name = "the kinds of the match without scores";
     let mut subjects = vec![Subject::of_cases(name, [("records", records)])];
-    for kind in further {
-        for (place, given) in kind.all().enumerate() {
-            for length in LENGTHS {
-                let array = ScoreArray::of_length(&mut run.prng, &given.record, length);
-                run.compare(&ShownRecord(kind, place, &given), &array);
-            }
-        }
-        let records = [("records", kind.count as u64)];
-        subjects.push(Subject::of_cases(format!("kind: {}", kind.title), records));
-    }
+    subjects.extend(each_length(further, |shown, length| {
+        let array = ScoreArray::of_length(&mut run.prng, &shown.2.record, length);
+        run.compare(shown, &array);
+    }));
     subjects.extend(run.subjects());
     subjects
 }

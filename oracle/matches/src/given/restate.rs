@@ -3,6 +3,7 @@
 use super::faults::{with_board_faults, with_faults_of_match};
 use super::repeats;
 use super::scene::{Look, Scene, markers_of};
+use super::score_arrays::FOR_REFUSED;
 use super::{Given, Length};
 use cases::cells::Cell as Grid;
 use cases::codes::{
@@ -14,26 +15,14 @@ use cases::prng::Prng;
 use records::{LONGEST, Shape, Shot, UNSAMPLED, settings, write};
 use std::collections::HashSet;
 
-/// What is needed of a record that is too short for the lengths below; it is refused by 21.
-const FOR_REFUSED: usize = 40;
-
-/// By which an array may be longer than needed.
-const MORE: [usize; 6] = [1, 2, 3, 5, 8, 100];
-
 /// An output array before a call. Half of the time every byte in the record's place is another than the record's, so that a
 /// byte that is left out shows.
 pub fn sheet(prng: &mut Prng, record: &[u8], length: Length) -> Vec<u8> {
     let needed = match record.len() {
-        0 | 1 => FOR_REFUSED,
+        0 | 1 => FOR_REFUSED, // too short for all lengths
         needed => needed,
     };
-    let places = match length {
-        Length::Empty => 0,
-        Length::Shorter => 1 + prng.place(needed - 1),
-        Length::OneShort => needed - 1,
-        Length::Exact => needed,
-        Length::Longer => needed + prng.pick(&MORE),
-    };
+    let places = length.elements(prng, needed);
     let mut sheet = prng.many(places, Prng::byte);
     if prng.one_in(2) {
         for (byte, other) in sheet.iter_mut().zip(record) {

@@ -29,13 +29,24 @@ pub const LENGTHS: [Length; 5] = [
 ];
 
 impl Length {
+    /// How many elements that is, for an array that needs at least two.
+    pub fn elements(self, prng: &mut Prng, needed: usize) -> usize {
+        match self {
+            Self::Empty => 0,
+            Self::Shorter => 1 + prng.place(needed - 1),
+            Self::OneShort => needed - 1,
+            Self::Exact => needed,
+            Self::Longer => needed + prng.pick(&MORE),
+        }
+    }
+
     pub const fn is_enough(self) -> bool {
         matches!(self, Self::Exact | Self::Longer)
     }
 }
 
 /// What is needed of a record that is refused before the length matters, if it states no number or none that can be had.
-const FOR_REFUSED: usize = 40;
+pub(super) const FOR_REFUSED: usize = 40;
 
 /// By which an array may be longer than needed.
 const MORE: [usize; 6] = [1, 2, 3, 5, 8, 100];
@@ -63,13 +74,7 @@ impl ScoreArray {
             1..=MOST_SCORES => needed,
             _ => FOR_REFUSED,
         };
-        let places = match length {
-            Length::Empty => 0,
-            Length::Shorter => 1 + prng.place(needed - 1),
-            Length::OneShort => needed - 1,
-            Length::Exact => needed,
-            Length::Longer => needed + prng.pick(&MORE),
-        };
+        let places = length.elements(prng, needed);
         Self {
             length,
             words: patterns(prng, places),

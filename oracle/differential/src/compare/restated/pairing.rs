@@ -185,7 +185,7 @@ impl Pairing {
     }
 }
 
-/// This library's answer, with the whole arrays. They are long enough, since both sides make check 14 alike.
+/// This library's answer, with the whole arrays. They are long enough, since both sides make check 14 in the same way.
 fn ours(record: &[u8]) -> Answer {
     let [mut values, mut list] = [ANSWER_WORDS, MOST_PLACES].map(before);
     Answer {
