@@ -1,7 +1,7 @@
 /*
  * Runs every function on a thread with a 64 KiB stack above a guard page, compares the results with those on the main thread, and measures
  * the stack that each function takes. The record is as large as a match allows: 256 cells of 8 by 8 bits on a board of 32 by 32, with its own
- * likelihood table.
+ * likelihood table and a least weight.
  *
  * The stack below the caller is filled with a pattern before a call; afterwards the lowest changed byte is searched. The same call of a
  * function that only returns shows the position of the return address; bytes are counted from there, including the return address.
@@ -24,8 +24,9 @@
 #define GRID_SIDE (BITS + 2 * BORDER)
 #define CELLS_ACROSS 16
 #define CODES (SIDE * SIDE / 2)
-#define COLS_AT 2046 /* offsets in the record */
-#define CODES_AT 2059
+#define FIELDS (8 + 32) /* map byte: likelihood table and least weight */
+#define COLS_AT 2050    /* offsets in the record */
+#define CODES_AT 2063
 #define LENGTH(list) (sizeof(list) / sizeof((list)[0]))
 
 static uint8_t record[CHARUCO_MAX_RECORD_BYTES], legacy_record[CHARUCO_MAX_RECORD_BYTES];
@@ -115,9 +116,10 @@ static void put_cell(int x, int y)
 
 static void make_record(void)
 {
-    put_byte(8);
+    put_byte(FIELDS);
     for (int d = -255; d <= 255; d++)
         put_float(d < 0 ? (float)d / 64 : 0.0f);
+    put_float(1.0f); /* the weight of every cell, so that none is cut */
     put_byte(SIDE);
     put_byte(SIDE);
     put_byte(BITS);
@@ -152,7 +154,7 @@ static int is_restated(const uint8_t *sheet)
     for (int k = 0; k < BITS * BITS; k++)
         if ((code >> k & 1) != (new_code >> (BITS * BITS - 1 - k) & 1))
             return 0;
-    return sheet[0] == 8;
+    return sheet[0] == FIELDS;
 }
 
 /* Corners of a 32 by 32 grid, 17 by 15 of them inliers, and links of every marker with corners, most of them wrong. */

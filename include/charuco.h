@@ -58,13 +58,15 @@
  *   At most CHARUCO_MAX_RECORD_BYTES bytes; read one byte more of a file, so that a longer one is refused 21 and not truncated. Numbers are
  *   little-endian. The fields follow each other without gaps, and the last one ends the record. Bytes, and what they are:
  * BEGIN generated record
- *     1                  map byte: presence flags of the next four fields in bits 0 to 3; bit 4, the legacy flag, adds no field; bits 5 to 7 are 0
+ *     1                  map byte: presence flags of the next five fields in bits 0 to 3 and 5; bit 4, the legacy flag, adds no field; bits 6 and 7
+ *                        are 0
  *     4, if bit 0        minimum margin: a match with a smaller margin is refused 16; default 0.05 (3D4CCCCD)
  *     4, if bit 1        border threshold: a sampled cell has the weight fraction / border threshold, at most 1, and weight 1 if the border threshold
  *                        is not above 0; default 0.5 (3F000000)
  *     4, if bit 2        px_per_square: side of a cell in the rectified image, for words 10 to 17 of a marker; default 60 (42700000)
  *     2,044, if bit 3    likelihood table: 511 f32 from -8 to 0, natural logarithms: with d = the cell's threshold - grey, a bit adds entry 255 + d
  *                        to the cell's score if it is black on the marker, entry 255 - d if it is white; default the built-in table
+ *     4, if bit 5        least weight: a number from 0 to 1; a cell with a smaller weight has weight 0; default 0 (00000000)
  *     1                  rows
  *     1                  cols
  *     1                  bits: side of the codes
@@ -149,7 +151,7 @@ enum {
     CHARUCO_BOARD_OUT_OF_RANGE = 6,          /* Are rows and cols at most 32, border at most 4, bits 1 to 8, codes at most 1,024? */
     CHARUCO_NOT_ENOUGH_DICTIONARY_CODES = 7, /* Are there at least as many codes as markers? values: needed, available */
     CHARUCO_CODE_OUT_OF_RANGE = 8,           /* Is every code below 2^(bits^2)? */
-    CHARUCO_SETTINGS_NOT_FINITE = 9,         /* Are minimum margin, border threshold and px_per_square finite? */
+    CHARUCO_INVALID_SETTINGS = 9,            /* Are minimum margin, border threshold and px_per_square finite, and is the least weight from 0 to 1? */
     CHARUCO_INVALID_TABLE = 10,              /* Has the likelihood table 511 entries, each from -8 to 0? */
     CHARUCO_NO_CELLS = 11,                   /* Is there a cell? */
     CHARUCO_CELLS_OUT_OF_RANGE = 12,         /* Are there at most 256 cells, with u and v from -4,096 to 4,096? */
@@ -173,7 +175,7 @@ enum {
 
 /* BEGIN generated constants */
 /* Words in `values`. */
-#define CHARUCO_HEADER_WORDS 13
+#define CHARUCO_HEADER_WORDS 14
 #define CHARUCO_TABLE_ENTRY_WORDS 2
 #define CHARUCO_CODE_WORDS 3
 #define CHARUCO_CELL_WORDS 5
@@ -208,17 +210,17 @@ enum {
  * the frames of the compiled functions; examples/small_stack.c measures them. What memcpy and memset take beyond a return address is not included,
  * nor is a dynamic linker that resolves these at their first call.
  */
-#define CHARUCO_STACK_READ_HEADER 424
-#define CHARUCO_STACK_TABLE_ENTRY 2248
-#define CHARUCO_STACK_CODE 184
-#define CHARUCO_STACK_CELL 216
-#define CHARUCO_STACK_GRID 504
+#define CHARUCO_STACK_READ_HEADER 432
+#define CHARUCO_STACK_TABLE_ENTRY 2272
+#define CHARUCO_STACK_CODE 208
+#define CHARUCO_STACK_CELL 224
+#define CHARUCO_STACK_GRID 512
 #define CHARUCO_STACK_BUILD_MARKER_CELLS 22616
-#define CHARUCO_STACK_MATCH_BOARD 22536
-#define CHARUCO_STACK_MATCH_BOARD_WITH_SCORES 22376
+#define CHARUCO_STACK_MATCH_BOARD 22552
+#define CHARUCO_STACK_MATCH_BOARD_WITH_SCORES 22408
 #define CHARUCO_STACK_MAP_CHARUCO_CORNERS 6728
 #define CHARUCO_STACK_VALIDATE_MARKER_CORNER_LINKS 37416
-#define CHARUCO_STACK_RESTATE 8824
+#define CHARUCO_STACK_RESTATE 8840
 
 /*
  * Reading a shot record. Check 21 alone: no field is validated, and a record with 0 rows or two cells at one position is read like any other. An
@@ -243,7 +245,8 @@ enum charuco_header_word {
     CHARUCO_HEADER_MARKER_SIZE_REL = 9,  /* f32 bit pattern */
     CHARUCO_HEADER_CODES = 10,           /* number of codes */
     CHARUCO_HEADER_CELLS = 11,           /* number of cells */
-    CHARUCO_HEADER_LEGACY_PATTERN = 12   /* 1 for a legacy board, else 0: bit 4 of the map byte */
+    CHARUCO_HEADER_LEGACY_PATTERN = 12,  /* 1 for a legacy board, else 0: bit 4 of the map byte */
+    CHARUCO_HEADER_LEAST_WEIGHT = 13     /* f32 bit pattern; 0 where the record leaves the field out */
 };
 /* END generated words-header */
 

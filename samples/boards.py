@@ -89,6 +89,7 @@ def read(modules):
 LANE = Board(5, 7, cv2.aruco.DICT_4X4_50, 50)
 OTHER = Board(5, 7, cv2.aruco.DICT_5X5_50, 50)
 WALL = Board(12, 9, cv2.aruco.DICT_6X6_100, 100)
+FAR_WALL = Board(12, 9, cv2.aruco.DICT_4X4_100, 100)
 OLD = Board(7, 6, cv2.aruco.DICT_4X4_50, 50, legacy=True)
 
 

@@ -19,10 +19,11 @@ import numpy as np
 
 sys.dont_write_bytecode = True  # no __pycache__ beside the sources
 
-from restated import LEGACY, restated, turned
+from fields import LEAST_WEIGHT, LEGACY, TABLE, without
+from restated import restated, turned
 
 HERE = Path(__file__).resolve().parent
-TABLE = HERE / "../crates/score_matrix/specs/Table.antt"
+PATTERNS = HERE / "../crates/score_matrix/specs/Table.antt"
 
 f32 = np.float32
 LN_2 = np.array([0x3F317218], np.uint32).view(f32)[0]
@@ -35,12 +36,12 @@ def hex_bits(x):
 
 def built_in_table():
     """`patterns`: lists of bit patterns and runs `replicate COUNT BITS`, concatenated in the order of the text."""
-    text = TABLE.read_text(encoding="utf-8").split("patterns =", 1)[1].split("\n\n", 1)[0]
+    text = PATTERNS.read_text(encoding="utf-8").split("patterns =", 1)[1].split("\n\n", 1)[0]
     bits = []
     for count, run, one in re.findall(r"replicate (\d+) 0x([0-9A-F]{8})|0x([0-9A-F]{8})", text):
         bits += [int(run, 16)] * int(count) if count else [int(one, 16)]
     if len(bits) != 511:
-        raise ValueError(f"{TABLE} has {len(bits)} entries, not 511")
+        raise ValueError(f"{PATTERNS} has {len(bits)} entries, not 511")
     return np.array(bits, np.uint32).view(f32)
 
 
@@ -62,12 +63,13 @@ class Shot:
         ask(21, len(data) <= 65535)
         self.data, self.at = data, 0
         given = self.take("B")
-        ask(21, given < 32)
-        self.legacy = bool(given & 16)
+        ask(21, given < 64)
+        self.legacy = bool(given & LEGACY)
         self.minimum = self.take("f") if given & 1 else f32(0.05)
         self.border_threshold = self.take("f") if given & 2 else f32(0.5)
         self.px_per_square = self.take("f") if given & 4 else f32(60)
-        self.table = [self.take("f") for _ in range(511)] if given & 8 else built_in_table()
+        self.table = [self.take("f") for _ in range(511)] if given & TABLE else built_in_table()
+        self.least_weight = self.take("f") if given & LEAST_WEIGHT else f32(0)
         self.rows, self.cols, self.bits, self.border = (self.take("B") for _ in range(4))
         self.cell_size, self.marker_size_rel = self.take("f"), self.take("f")
         self.codes = [self.take("Q") for _ in range(self.take("H"))]
@@ -103,7 +105,7 @@ class Match:
         self.questions()
         self.ids = {square: id for id, square in enumerate(self.squares)}
         self.null = f32(shot.bits ** 2) * -LN_2
-        self.weights = [self.weight(samples) for _, _, samples in shot.cells]
+        self.weights = [self.cut(self.weight(samples)) for _, _, samples in shot.cells]
         self.scores = {}
 
     def questions(self):
@@ -120,7 +122,7 @@ class Match:
         # document 02: after 8, before 9
         used = [min(turned(code, s.bits, turn) for turn in range(4)) for code in s.codes[:len(self.squares)]]
         ask(22, len(set(used)) == len(used))
-        ask(9, np.isfinite([s.minimum, s.border_threshold, s.px_per_square]).all())
+        ask(9, np.isfinite([s.minimum, s.border_threshold, s.px_per_square]).all() and 0 <= s.least_weight <= 1)
         ask(10, all(-8 <= entry <= 0 for entry in s.table))
         ask(11, len(s.cells) > 0)
         ask(12, len(s.cells) <= 256 and all(abs(u) <= 4096 and abs(v) <= 4096 for u, v, _ in s.cells))
@@ -134,6 +136,10 @@ class Match:
         if self.shot.border_threshold <= 0:
             return f32(1)
         return min(max(samples[0] / self.shot.border_threshold, f32(0)), f32(1))
+
+    def cut(self, weight):
+        """Document 02: a weight below the least one is 0; an equal one stays."""
+        return f32(0) if weight < self.shot.least_weight else weight
 
     def inner(self, grid):
         """The grey levels at the code's bits, in the order of the bits."""
@@ -253,17 +259,6 @@ def truth_rows():
         yield name, None if placement == ["none"] else tuple(int(number) for number in placement), word
 
 
-def without_table(data):
-    """The record with the built-in table in place of its own."""
-    start = 1 + 4 * bin(data[0] & 7).count("1")
-    return bytes([data[0] & ~8]) + data[1:start] + data[start + 4 * 511:]
-
-
-def without_mark(data):
-    """The record without the legacy flag."""
-    return bytes([data[0] & ~LEGACY]) + data[1:]
-
-
 def without_repeats(shot):
     """The shot with only the first cell at each point."""
     first = {}
@@ -332,10 +327,11 @@ def faults(name, truth, word):
             yield f"without its repeats it is not placed at {truth}"
     elif placed != truth:
         yield f"placed {placed}, drawn {truth}"
-    if data[0] & 8 and model(without_table(data)) == text:
+    if data[0] & TABLE and model(without(data, TABLE)) == text:
         yield "its own table changes nothing"
-    if data[0] & LEGACY and placement(model(without_mark(data))) == truth:
-        yield "without its legacy flag it is placed the same"
+    for bit, field in (LEGACY, "legacy flag"), (LEAST_WEIGHT, "least weight"):
+        if data[0] & bit and placement(model(without(data, bit))) == truth:
+            yield f"without its {field} it is placed the same"
     yield from restating_faults(name, data, text, word)
 
 

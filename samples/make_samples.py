@@ -19,7 +19,7 @@ from typing import NamedTuple
 
 sys.dont_write_bytecode = True  # no __pycache__ beside the sources
 
-from boards import (BORDER, LANE, MARKER_REL, OLD, OTHER, ROOM, SQUARE_PX, WALL,
+from boards import (BORDER, FAR_WALL, LANE, MARKER_REL, OLD, OTHER, ROOM, SQUARE_PX, WALL,
                     Board, cv2, np, printed, tiles)
 
 WIDTH, HEIGHT = 640, 480        # of the image
@@ -52,6 +52,7 @@ class Asked(NamedTuple):
     border_threshold: float = None
     px_per_square: float = None
     table: list = None
+    least_weight: float = None
 
 
 class Shot:
@@ -176,12 +177,13 @@ def likelihood_table(slope, floor):
 
 
 def record(asked, cells):
-    """The shot record of document 01, with the legacy flag of document 02."""
-    board, *settings, table = asked
-    given = [*(value is not None for value in (*settings, table)), board.legacy]
-    out = bytes([sum(1 << k for k in range(5) if given[k])])
+    """The shot record of document 01, with the legacy flag and the least weight of document 02."""
+    board, *settings, table, least_weight = asked
+    given = [*(value is not None for value in (*settings, table)), board.legacy, least_weight is not None]
+    out = bytes([sum(1 << k for k in range(6) if given[k])])
     out += b"".join(struct.pack("<f", value) for value in settings if value is not None)
     out += struct.pack("<511f", *table) if table else b""
+    out += struct.pack("<f", least_weight) if least_weight is not None else b""
     out += bytes([board.rows, board.cols, board.bits, BORDER])
     out += struct.pack("<ff", 0.04, MARKER_REL)
     out += struct.pack("<H", len(board.codes)) + b"".join(struct.pack("<Q", code) for code in board.codes)
@@ -240,6 +242,8 @@ SHOTS = [
     lambda: Shot("table", 11, LANE, View(2, [(201, 66), (441, 43), (462, 421), (187, 434)], (-8, 3)),
                  Light(blur=4.5), Asked(LANE, table=likelihood_table(12.0, -2.0))),
     lambda: Shot("legacy", 13, OLD, View(3, [(158, 41), (473, 33), (498, 447), (136, 429)], (5, -7))),
+    lambda: Shot("far-wall", 17, FAR_WALL, View(0, [(379, 264), (924, 265), (907, 682), (357, 686)], (-1, -9)),
+                 Light(glare=(602, 382, 35), blur=3.6), Asked(FAR_WALL, border_threshold=1.0, least_weight=0.95)),
 ]
 
 

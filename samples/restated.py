@@ -9,7 +9,9 @@ import struct
 import sys
 from pathlib import Path
 
-LEGACY = 1 << 4  # bit of the map byte
+sys.dont_write_bytecode = True  # no __pycache__ beside the sources
+
+from fields import LEGACY, offsets
 
 
 def turned(code, n, turn):
@@ -25,7 +27,7 @@ def turned(code, n, turn):
 def restated(data):
     """The codes used by markers in reverse, each turned twice; the legacy flag cleared; all else as it was."""
     given = data[0]
-    board = 1 + 4 * bin(given & 7).count("1") + (4 * 511 if given & 8 else 0)
+    *_, board = offsets(given)
     rows, cols, bits = data[board:board + 3]
     codes = board + 4 + 8 + 2
     used = 0

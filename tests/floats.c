@@ -140,7 +140,7 @@ static uint64_t new_code(const uint64_t *codes, uint32_t count, uint32_t n)
 static void make_record(void)
 {
     static uint64_t codes[CHARUCO_MAX_CODES];
-    uint32_t given = below(16) | 1, rows = 2 + below(6), cols = 2 + below(6), bits = 3 + below(3), border = 1 + below(2);
+    uint32_t given = below(16) | 1 | below(2) << 5, rows = 2 + below(6), cols = 2 + below(6), bits = 3 + below(3), border = 1 + below(2);
     uint32_t n_codes = rows * cols / 2 + below(3);
     record_length = 0;
     put(given, 1);
@@ -151,6 +151,8 @@ static void make_record(void)
         put(fraction_bits() + 0x2000000 * below(2), 4);
     for (int k = 0; given & 8 && k < 511; k++)
         put(entry_bits(), 4);
+    if (given & 32)
+        put(fraction_bits(), 4);
     put(rows, 1);
     put(cols, 1);
     put(bits, 1);

@@ -1,6 +1,7 @@
 /*
- * Prints the result of charuco_match_board for each shot record, and its numbered corners. Written from include/charuco.h alone, not from the
- * library's sources: where the header and the library disagree the output is wrong. examples/run compares it with the output in samples/.
+ * Prints the settings of each shot record, the result of charuco_match_board for it, and its numbered corners. Written from include/charuco.h
+ * alone, not from the library's sources: where the header and the library disagree the output is wrong. examples/run compares it with the output in
+ * samples/ and the settings with the bytes of the record.
  *
  *     from_header FILE...
  *     from_header --fields FILE...    rows, columns and cell size of the board, then u and v of each cell, for examples/expected_corners.awk
@@ -200,6 +201,23 @@ static void show_fields(size_t len)
     }
 }
 
+static void print_setting(const char *name, uint32_t word, const char *end)
+{
+    printf("%s %.9g%s", name, (double)word_float(word), end);
+}
+
+static void show_settings(size_t len)
+{
+    uint32_t head[CHARUCO_HEADER_WORDS] = {0};
+
+    if (!read_header(len, head))
+        return;
+    print_setting("minimum margin", head[CHARUCO_HEADER_MINIMUM_MARGIN], ", ");
+    print_setting("border threshold", head[CHARUCO_HEADER_BORDER_THRESHOLD], ", ");
+    print_setting("px_per_square", head[CHARUCO_HEADER_PX_PER_SQUARE], ", ");
+    print_setting("least weight", head[CHARUCO_HEADER_LEAST_WEIGHT], "\n");
+}
+
 static void show(size_t len)
 {
     uint32_t match[CHARUCO_MATCH_WORDS] = {0};
@@ -253,6 +271,7 @@ int main(int argc, char **argv)
         } else if (fields) {
             show_fields(len);
         } else {
+            show_settings(len);
             show(len);
         }
     }

@@ -1,7 +1,7 @@
 /*
  * Tests what the header states. Sizes, on both sides of each limit: the most codes and cells of a well-formed record, and the most corners of a
  * board. Arrays of corners: which words check 18 reads, and which corner is taken for an id. The legacy flag, codes that are equal up to rotation,
- * two cells with the same (u, v), the score array: its lengths and its elements, and restated records.
+ * two cells with the same (u, v), the score array: its lengths and its elements, restated records, and the least weight.
  */
 #include <stdio.h>
 #include <stdlib.h>
@@ -275,7 +275,8 @@ static void check_restated(void)
         check(restate(front, length, 16, 2, 3, room, expected, 0) == CHARUCO_LIST_TOO_SHORT, "a short array is not refused");
     check(restate(front, length, 16, 2, 4, 0, expected, 0) == CHARUCO_EVEN_LEGACY_BOARD, "check 14 is made before check 25");
     check(restate(front, length, 16, 2, 5, length, expected, 0) == CHARUCO_NOT_ENOUGH_DICTIONARY_CODES, "too few codes are not refused");
-    check(restate(front, length, 48, 2, 3, length, expected, 0) == CHARUCO_INVALID_RECORD, "a spare bit is not refused");
+    check(restate(front, length, 16 + 64, 2, 3, length, expected, 0) == CHARUCO_INVALID_RECORD
+          && restate(front, length, 16 + 128, 2, 3, length, expected, 0) == CHARUCO_INVALID_RECORD, "a spare bit is not refused");
     memcpy(expected, front, length);
     expected[0] = 0;
     expected[1] = 3;
@@ -283,6 +284,39 @@ static void check_restated(void)
     check(restate(front, length, 16, 3, 2, length, expected, length) == 0, "a legacy board with odd rows is refused");
     front[23] = 2;
     check(restate(front, length, 16, 2, 4, length, expected, 0) == CHARUCO_CODES_ALIKE, "check 25 is made before check 22");
+}
+
+/* The error number of both matches of the cells of check_scores, the sampled one with this fraction, and a least weight of this bit pattern. */
+static uint32_t match_with_least(float fraction, uint32_t least_weight)
+{
+    uint32_t markers[2 * CHARUCO_MARKER_WORDS], match[CHARUCO_MATCH_WORDS], header[CHARUCO_HEADER_WORDS] = {0};
+    const size_t length = put_cells(0, 0, -1, 0, 0, fraction) + sizeof least_weight;
+    memmove(record + 1 + sizeof least_weight, record + 1, length - 1 - sizeof least_weight);
+    record[0] = 32;
+    memcpy(record + 1, &least_weight, sizeof least_weight);
+    const uint32_t word = (least_weight & 0x7FFFFFFF) > 0x7F800000 ? 0x7FC00000 : least_weight; /* every NaN is 7FC00000 */
+    check(charuco_read_header(record, length, header, CHARUCO_HEADER_WORDS) == 0 && header[CHARUCO_HEADER_LEAST_WEIGHT] == word,
+          "the least weight is not read");
+    uint32_t number = charuco_match_board(record, length, markers, 2 * CHARUCO_MARKER_WORDS, match, CHARUCO_MATCH_WORDS);
+    check(charuco_match_board_with_scores(record, length, cell_scores, 16, markers, 2 * CHARUCO_MARKER_WORDS, match, CHARUCO_MATCH_WORDS) == number,
+          "the match with scores has another result");
+    return number;
+}
+
+/* The border threshold is 0.5, so that fraction 0.25 is weight 0.5. Without a weight above 0 the margin is 0. */
+static void check_least_weight(void)
+{
+    static const uint32_t refused[] = {0x80000001, 0xBF800000, 0x3F800001, 0x7F7FFFFF, 0x7F800000, 0xFF800000, 0x7FC00000, 0x7F800001, UINT32_MAX};
+    static const uint32_t passed[] = {0, 0x80000000, 1, 0x3EFFFFFF, 0x3F000000}; /* 0, -0, the least float, the next below 0.5, 0.5 */
+    for (size_t k = 0; k < sizeof refused / sizeof *refused; k++)
+        check(match_with_least(1.0f, refused[k]) == CHARUCO_INVALID_SETTINGS, "a least weight out of range is not refused");
+    for (size_t k = 0; k < sizeof passed / sizeof *passed; k++) {
+        check(match_with_least(0.25f, passed[k]) == CHARUCO_OK, "a weight that is not below the least one is 0");
+        check(match_with_least(0.0f, passed[k]) == CHARUCO_MARGIN, "weight 0 contributes");
+    }
+    check(match_with_least(0.25f, 0x3F000001) == CHARUCO_MARGIN && match_with_least(0.25f, 0x3F800000) == CHARUCO_MARGIN,
+          "a weight below the least one is not 0");
+    check(match_with_least(0.5f, 0x3F800000) == CHARUCO_OK && match_with_least(1.0f, 0x3F800000) == CHARUCO_OK, "weight 1 is below 1");
 }
 
 int main(void)
@@ -302,6 +336,7 @@ int main(void)
     check_scores();
     check_most_scores();
     check_restated();
+    check_least_weight();
     printf("limits: %d codes, %d cells, %d corners, %d scores\n", CHARUCO_MAX_RECORD_CODES, CHARUCO_MAX_RECORD_CELLS, CHARUCO_MAX_BOARD_CORNERS,
            CHARUCO_MAX_SCORES);
     return 0;

@@ -8,11 +8,16 @@ seven.shot    samples/lane4.shot with a board of 32 x 32 squares, for which its 
 neighbours.shot   samples/lane4.shot with a minimum margin that is the next float above its margin
 high.shot     samples/glare.shot with a minimum margin of 100
 unsampled.shot    samples/lane4.shot with one more cell, unsampled, at the position of its last cell
+uncut.shot    samples/far-wall.shot without its least weight
+above.shot    samples/far-wall.shot with a least weight that is the next float above 1
+short.shot    samples/far-wall.shot, which ends within its least weight
+spare6.shot, spare7.shot    samples/lane4.shot with a spare bit of the map byte set
 none.shot     a board of 2 x 3 squares that fits in two turns only; in one of them no cell contributes
 
 For `restate`:
 
 small.shot    a legacy board of 2 x 3 squares with two more codes; settings, table and cells are such that a match refuses it
+least.shot    the same with a least weight
 large.shot    whole.shot with a legacy board of 32 x 31 squares, 104 more codes, and a minimum margin that is not a number
 odd.shot      samples/lane4.shot, of 7 rows, with the legacy flag
 even.shot     a legacy board of 2 x 4 squares without cells
@@ -30,7 +35,8 @@ SAMPLES = Path(__file__).resolve().parent.parent / "samples"
 sys.dont_write_bytecode = True
 sys.path.insert(0, str(SAMPLES))
 
-from restated import LEGACY, restated, turned
+from fields import LEAST_WEIGHT, LEGACY, offsets, without
+from restated import restated, turned
 
 
 class Numbers:
@@ -99,14 +105,14 @@ def half_turn():
 
 
 # By `restate`; it refuses no other record here.
-REFUSED = {"longer": 21, "longest": 21, "seven": 7, "even": 25, "alike": 22}
+REFUSED = {"longer": 21, "longest": 21, "short": 21, "spare6": 21, "spare7": 21, "seven": 7, "even": 25, "alike": 22}
 
 
-def small(flag, codes):
+def small(flag, least_weight, codes):
     """Only the flag and the first three codes, those of markers, differ between the record and the record restated."""
     not_a_number, infinite = bytes.fromhex("010080FF"), bytes.fromhex("000080FF")
-    out = bytes([15 + flag]) + not_a_number + infinite + not_a_number + 511 * not_a_number
-    out += bytes([2, 3, 2, 1]) + struct.pack("<2f", 1.0, 0.5) + struct.pack("<H5Q", 5, *codes)
+    out = bytes([15 + flag + (LEAST_WEIGHT if least_weight else 0)]) + not_a_number + infinite + not_a_number + 511 * not_a_number
+    out += least_weight + bytes([2, 3, 2, 1]) + struct.pack("<2f", 1.0, 0.5) + struct.pack("<H5Q", 5, *codes)
     cell = struct.pack("<2h", -32768, 32767)
     return out + struct.pack("<HH", 9, 0b000000010) + cell + cell + not_a_number + bytes(range(17)) + 7 * cell
 
@@ -117,8 +123,9 @@ def even(codes):
 
 def for_restate(out, whole, lane4):
     # bit k of a code of 2 x 2 bits is bit 3 - k of the code turned twice
-    (out / "small.shot").write_bytes(small(LEGACY, [0b0001, 0b0011, 0b0111, 0b1000, 0b0001]))
-    (out / "small.restated").write_bytes(small(0, [0b1110, 0b1100, 0b1000, 0b1000, 0b0001]))
+    for name, least_weight in ("small", b""), ("least", bytes.fromhex("030281FF")):
+        (out / f"{name}.shot").write_bytes(small(LEGACY, least_weight, [0b0001, 0b0011, 0b0111, 0b1000, 0b0001]))
+        (out / f"{name}.restated").write_bytes(small(0, least_weight, [0b1110, 0b1100, 0b1000, 0b1000, 0b0001]))
     assert whole[0] == 1 and whole[5:7] == bytes([32, 32])
     large = bytes([1 + LEGACY]) + bytes.fromhex("0100A07F") + bytes([32, 31]) + whole[7:]
     (out / "large.shot").write_bytes(large)
@@ -158,6 +165,14 @@ def main(out):
     count = 15 + 8 * lane4[13]
     assert lane4[count:count + 4] == b"\x0F\0\xFF\x7F" and len(lane4) == count + 4 + 15 * 45
     (out / "unsampled.shot").write_bytes(lane4[:count] + b"\x10" + lane4[count + 1:] + lane4[-45:-41])
+    far_wall = (SAMPLES / "far-wall.shot").read_bytes()
+    _, at, rows = offsets(far_wall[0])
+    assert far_wall[0] & LEAST_WEIGHT and rows == at + 4
+    (out / "uncut.shot").write_bytes(without(far_wall, LEAST_WEIGHT))
+    (out / "above.shot").write_bytes(far_wall[:at] + struct.pack("<I", 0x3F800001) + far_wall[rows:])
+    (out / "short.shot").write_bytes(far_wall[:rows - 1])
+    for bit in 6, 7:
+        (out / f"spare{bit}.shot").write_bytes(bytes([lane4[0] | 1 << bit]) + lane4[1:])
     for_restate(out, whole, lane4)
 
 

@@ -31,6 +31,8 @@ pub struct Header {
     pub minimum_margin: f32,
     pub border_threshold: f32,
     pub px_per_square: f32,
+    /// A cell with a smaller weight has weight 0.
+    pub least_weight: f32,
     pub spec: crate::BoardSpec,
     pub codes: usize,
     pub cells: usize,
@@ -43,6 +45,7 @@ impl Header {
             minimum_margin: f32::from_bits(words[1]),
             border_threshold: f32::from_bits(words[2]),
             px_per_square: f32::from_bits(words[3]),
+            least_weight: f32::from_bits(words[13]),
             spec: crate::BoardSpec {
                 rows: words[4],
                 cols: words[5],

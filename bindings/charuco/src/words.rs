@@ -5,7 +5,7 @@ use crate::floats::with_default;
 
 // BEGIN generated constants
 // Words in `values`.
-pub const HEADER_WORDS: usize = 13;
+pub const HEADER_WORDS: usize = 14;
 pub const TABLE_ENTRY_WORDS: usize = 2;
 pub const CODE_WORDS: usize = 3;
 pub const CELL_WORDS: usize = 5;

@@ -1,9 +1,12 @@
 //! Single requests of document 02, through the wrapper.
 
+mod shots;
+
 use charuco::{
     BoardSpec, Hypothesis, LinkCheckMode, Refusal, cell, grid, match_board,
     match_board_with_scores, read_header, validate_marker_corner_links, words,
 };
+use shots::{Seen, sample, whole_board};
 
 const BOARD: BoardSpec = BoardSpec {
     rows: 4,
@@ -17,10 +20,6 @@ const BOARD: BoardSpec = BoardSpec {
 
 /// No two are equal up to rotation: 8 would be a rotation of 1.
 const CODES: [u64; 10] = [1, 2, 3, 4, 5, 6, 7, 9, 10, 11];
-
-fn sample(name: &str) -> Vec<u8> {
-    std::fs::read(format!("../../samples/{name}.shot")).expect("a sample")
-}
 
 /// The four corners that are expected of a marker, from a link to a corner that no board has.
 fn expected(spec: &BoardSpec, marker: u32) -> Option<[u32; 4]> {
@@ -80,7 +79,7 @@ fn codes_are_equal_up_to_rotation() {
     assert_eq!(check(&[16, 16]), Err(Refusal::CodeOutOfRange));
 }
 
-/// Bit 4 of the map byte is the legacy flag, and adds no field; bits 5 to 7 are spare.
+/// Bit 4 of the map byte is the legacy flag, and adds no field; bits 6 and 7 are spare.
 #[test]
 fn map_byte_has_the_legacy_flag() {
     let sheet = sample("legacy");
@@ -94,7 +93,7 @@ fn map_byte_has_the_legacy_flag() {
         ..header.spec
     };
     assert!(!header.spec.legacy_pattern && spec == marked.spec);
-    for bit in 5..8 {
+    for bit in 6..8 {
         cleared[0] = sheet[0] | 1 << bit;
         assert_eq!(
             read_header(&cleared)
@@ -153,37 +152,6 @@ fn points_beside_are_not_repeated() {
         }
         assert_eq!(refused, others.len());
     }
-}
-
-/// A cell of the records below: unsampled, or its fraction and its code.
-type Seen = Option<(f32, u64)>;
-
-/// A record of a board of 2 rows and 3 columns, codes of side 2 and a border of 1, with a cell at every (u, v), in row-major order.
-fn whole_board(cells: [Seen; 6]) -> Vec<u8> {
-    let mut record = vec![0, 2, 3, 2, 1];
-    for size in [1.0_f32, 0.5] {
-        record.extend(size.to_le_bytes());
-    }
-    record.extend([3, 0]);
-    for code in [1_u64, 15, 7] {
-        record.extend(code.to_le_bytes());
-    }
-    let sampled = (0..6).filter(|&k| cells[k].is_some());
-    record.extend([6, 0, sampled.map(|k| 1 << k).sum()]);
-    for (k, seen) in (0_i16..).zip(cells) {
-        record.extend((k % 3).to_le_bytes());
-        record.extend((k / 3).to_le_bytes());
-        if let Some((fraction, code)) = seen {
-            record.extend(fraction.to_le_bytes());
-            record.push(128);
-            // The border and set bits are black.
-            record.extend((0..16).map(|at| match (at % 4, at / 4) {
-                (x @ 1..=2, y @ 1..=2) if code >> (2 * (y - 1) + x - 1) & 1 == 0 => 255,
-                _ => 0_u8,
-            }));
-        }
-    }
-    record
 }
 
 /// Counts of the best and of the runner-up, and whether the runner-up's evidence is a number. The best is the identity.
@@ -375,7 +343,7 @@ fn earlier_refusals_leave_the_score_array() {
         (Refusal::InvalidRecord, record[..record.len() - 1].to_vec()),
         (Refusal::InvalidSize, no_row),
         (
-            Refusal::SettingsNotFinite,
+            Refusal::InvalidSettings,
             with_scores_to_tell(SEEN, f32::NAN),
         ),
         (

@@ -1,6 +1,8 @@
 //! The caller's floating-point settings: results for records under other settings of MXCSR. Through the crate every result is that of the default
 //! setting, bit for bit. Through the C function some result differs under each setting, so that the comparison can fail.
 
+mod shots;
+
 use charuco::words::{self, BoardSpec, CornerInput};
 use std::arch::asm;
 
@@ -201,14 +203,16 @@ impl Random {
     }
 }
 
-/// The record with other fractions, sizes and grey levels.
+/// The record with other fractions, sizes and grey levels, and if it has a least weight with another one.
 fn vary(sheet: &[u8], random: &mut Random) -> Vec<u8> {
     let mut record = sheet.to_vec();
     let header = charuco::read_header(sheet).expect("a whole record");
-    let settings = 4 * (header.map & 7).count_ones() + 2044 * (header.map >> 3 & 1);
-    let sizes = 1 + settings as usize + 4;
+    let sizes = shots::rows_at(header.map) + 4;
     let all_subnormal = random.below(2) == 0;
     record[sizes..sizes + 4].copy_from_slice(&random.fraction().to_le_bytes());
+    if header.map & 0x20 != 0 {
+        record[sizes - 8..sizes - 4].copy_from_slice(&random.fraction().to_le_bytes());
+    }
     for k in 0..header.cells {
         let mut words = [0; 2];
         assert_eq!(words::grid(sheet, k, &mut words), 0);
@@ -229,20 +233,13 @@ fn vary(sheet: &[u8], random: &mut Random) -> Vec<u8> {
     record
 }
 
-fn sheets() -> Vec<Vec<u8>> {
-    let folder = concat!(env!("CARGO_MANIFEST_DIR"), "/../../samples");
-    let files = std::fs::read_dir(folder).expect("the folder of the samples");
-    let mut paths: Vec<_> = files.map(|file| file.expect("a file").path()).collect();
-    paths.retain(|path| path.extension().is_some_and(|end| end == "shot"));
-    paths.sort();
-    let read = |path| std::fs::read(path).expect("a sheet");
-    paths.into_iter().map(read).collect()
-}
-
 #[test]
 fn answers_do_not_depend_on_the_callers_floats() {
     let mut random = Random(0x2545_F491_4F6C_DD1D);
-    let sheets = sheets();
+    let sheets: Vec<_> = shots::sample_names()
+        .iter()
+        .map(|name| shots::sample(name))
+        .collect();
     assert!(sheets.len() >= 5);
     let varied = 150;
     let mut differing = [[0; 2]; SETTINGS.len()];

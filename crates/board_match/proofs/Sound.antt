@@ -30,6 +30,7 @@ pub record Sound (s : Shot) (words : ℕ) : Type 0 where
   pub margin : Finite (ofPattern (s .minimumMargin))
   pub threshold : Finite (ofPattern (s .borderThreshold))
   pub px : Finite (ofPattern (s .pxPerSquare))
+  pub least-weight : Between nought unity (ofPattern (s .leastWeight))
   pub table : T (isTable (map ofPattern (s .table)))
   pub some-cells : 0 < length (s .cells)
   pub few-cells : length (s .cells) ≤ 256
@@ -68,6 +69,8 @@ sound s words e =
     let size = gridSize (s .bits) (s .border) in
     let settings = both (finite (ofPattern (s .minimumMargin))) _ (q9 .0) in
     let others = both (finite (ofPattern (s .borderThreshold))) _ (settings .1) in
+    let rest = both (finite (ofPattern (s .pxPerSquare))) _ (others .1) in
+    let least = both (le nought (ofPattern (s .leastWeight))) _ (rest .1) in
     let cells = both (leb count 256) _ (q12 .0) in
     let point : (k : ℕ) → k < count → (isWithin 4096 (cell s k .u) ≡ true) × (isWithin 4096 (cell s k .v) ≡ true) =
     λ k h. both (isWithin 4096 (cell s k .u)) (isWithin 4096 (cell s k .v)) (each (λ (i : ℕ). placedAnswer (cell s i)) count (cells .1) k h) in
@@ -77,7 +80,8 @@ sound s words e =
       board = b .0;
       margin = true-holds _ (settings .0);
       threshold = true-holds _ (others .0);
-      px = true-holds _ (others .1);
+      px = true-holds _ (rest .0);
+      least-weight = (true-holds _ (least .0), true-holds _ (least .1));
       table = true-holds _ (q10 .0);
       some-cells = ltb-true 0 count (q11 .0);
       few-cells = leb-true count 256 (cells .0);

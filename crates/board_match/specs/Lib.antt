@@ -5,4 +5,5 @@ pub mod Scores
 pub mod Accuracy
 pub mod Corners
 pub mod Sizes
+pub mod SameShot
 pub mod Repeats

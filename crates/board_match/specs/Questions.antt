@@ -27,9 +27,14 @@ use Rattle.board_match.specs.declared.Asked.the-variants as asked
 use Rattle.board_match.specs.declared.questions.Answer.{Answer}
 use Rattle.board_match.specs.declared.questions.Answer.the-variants as answer
 
--- 9: Are minimum margin, border threshold and px_per_square finite?
+abbrev pub inUnitInterval : Float → Bool
+inUnitInterval x = le nought x && le x unity
+
+-- 9: Are minimum margin, border threshold and px_per_square finite? Document 02: "question 9 also asks that the least weight lies from 0 to 1".
 abbrev pub settingsAnswer : BoardMatchConfig → Bool
-settingsAnswer c = finite (c .«alignment_min_margin») && (finite (c .«cell_weight_border_threshold») && finite (c .«px_per_square»))
+settingsAnswer c =
+    finite (c .«alignment_min_margin»)
+    && (finite (c .«cell_weight_border_threshold») && (finite (c .«px_per_square») && inUnitInterval (c .«least_weight»)))
 
 -- 10: Has the table 511 entries, each from −8 to 0?
 abbrev pub tableAnswer : Shot → Bool
@@ -51,12 +56,9 @@ abbrev pub pointsAnswer : Shot → Bool
 pointsAnswer s = allApart (cellPoint s) (length (s .cells))
 
 -- 13: Has every sampled cell a whole grid and a fraction from 0 to 1?
-abbrev pub fractionAnswer : Float → Bool
-fractionAnswer x = le nought x && le x unity
-
 abbrev pub sampleAnswer : ℕ → Option Sample → Bool
 sampleAnswer size none = true
-sampleAnswer size (some x) = eqb (length (x .grid)) size && fractionAnswer (ofPattern (x .fraction))
+sampleAnswer size (some x) = eqb (length (x .grid)) size && inUnitInterval (ofPattern (x .fraction))
 
 abbrev pub samplesAnswer : Shot → Bool
 samplesAnswer s = every (λ (k : ℕ). sampleAnswer (gridSize (s .bits) (s .border)) (cell s k .sample)) (length (s .cells))
@@ -68,7 +70,7 @@ roomAnswer s words = leb (18 * length (s .cells)) words
 -- questions 9 to 14 with 23, then the rest
 unfoldable pub askedFrom9 : Shot → ℕ → Option Refusal → Option Refusal
 askedFrom9 s words rest =
-    ask (settingsAnswer (configOf s)) refusal.SettingsNotFinite
+    ask (settingsAnswer (configOf s)) refusal.InvalidSettings
     (ask (tableAnswer s) refusal.InvalidTable
     (ask (someAnswer s) refusal.NoCells
     (ask (cellsAnswer s) refusal.CellsOutOfRange

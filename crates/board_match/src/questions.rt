@@ -10,7 +10,7 @@ ghost use Rattle.shot_record.specs.Shots.{shot};
 ghost use Rattle.shot_record.specs.Answers.{ofPattern, configOf};
 ghost use Rattle.shot_record.specs.Index.{Indexed};
 ghost use Rattle.integers.specs.Distance.{isWithin as withinOf};
-ghost use Rattle.board_match.specs.Questions.{settingsAnswer, tableAnswer, fractionAnswer, askedFrom9, toldAnswer};
+ghost use Rattle.board_match.specs.Questions.{inUnitInterval, settingsAnswer, tableAnswer, askedFrom9, toldAnswer};
 ghost use Rattle.board_match.specs.Entries.{placedIn, borderAnswer, sampledIn};
 ghost use Rattle.board_match.specs.Match.{marginPasses};
 use refusal::Refusal;
@@ -26,6 +26,12 @@ pub enum Answer {
     Refused(Refusal),
 }
 
+fn in_unit_interval(x: f32) -> bool
+    ensures { λ r. ⌜ r ≡ inUnitInterval x ⌝ }
+{
+    0.0 <= x && x <= 1.0
+}
+
 // Question 9.
 fn settings(config: BoardMatchConfig) -> bool
     ensures { λ r. ⌜ r ≡ settingsAnswer config ⌝ }
@@ -36,7 +42,10 @@ fn settings(config: BoardMatchConfig) -> bool
     if !floats::is_finite(config.cell_weight_border_threshold) {
         return false;
     }
-    floats::is_finite(config.px_per_square)
+    if !floats::is_finite(config.px_per_square) {
+        return false;
+    }
+    in_unit_interval(config.least_weight)
 }
 
 // Question 10. Only the record's own table is checked: the built-in one passes.
@@ -80,17 +89,11 @@ fn all_placed(index: &[u32; 768], count: usize) -> bool
     true
 }
 
-fn fraction(x: f32) -> bool
-    ensures { λ r. ⌜ r ≡ fractionAnswer x ⌝ }
-{
-    0.0 <= x && x <= 1.0
-}
-
 fn sample(border: BorderSample) -> bool
     ensures { λ r. ⌜ r ≡ borderAnswer border ⌝ }
 {
     match border {
-        BorderSample::BlackFraction(x) => fraction(x),
+        BorderSample::BlackFraction(x) => in_unit_interval(x),
         BorderSample::Unsampled => true,
     }
 }
@@ -123,7 +126,7 @@ pub fn from_9(
     ensures { λ r. ⌜ r ≡ toldAnswer (askedFrom9 (shot (now (bytes .entry))) words none) ⌝ }
 {
     if !settings(config) {
-        return Answer::Refused(Refusal::SettingsNotFinite);
+        return Answer::Refused(Refusal::InvalidSettings);
     }
     if !table_passes(bytes, f, entries) {
         return Answer::Refused(Refusal::InvalidTable);

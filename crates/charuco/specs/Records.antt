@@ -23,7 +23,7 @@ use Rattle.shot_record.specs.Answers.{partAnswer}
 use Rattle.charuco.specs.Answers.{Answer, worked, refused, countWord}
 
 -- map, minimum margin, border threshold, px_per_square, rows, cols, bits, border, cell_size, marker_size_rel, numbers of codes and cells, 1 for a
--- legacy board
+-- legacy board, least weight
 abbrev pub headerWords : Header → List ℕ
 headerWords h =
     h .map
@@ -39,6 +39,7 @@ headerWords h =
     ∷ countWord (h .«code_count»)
     ∷ countWord (h .«cell_count»)
     ∷ asOne (h .spec .«legacy_pattern»)
+    ∷ toBits binary32 (h .config .«least_weight»)
     ∷ []
 
 abbrev pub headerTold : ReadHeader → Answer

@@ -22,7 +22,7 @@ fn mark_word(legacy_pattern: bool) -> u32
     0
 }
 
-fn header_words(h: Header) -> [u32; 13]
+fn header_words(h: Header) -> [u32; 14]
     ensures { λ r. ⌜ r ≡ headerWords h ⌝ }
 {
     let config = h.config;
@@ -41,6 +41,7 @@ fn header_words(h: Header) -> [u32; 13]
         values::count_word(h.code_count),
         values::count_word(h.cell_count),
         mark_word(spec.legacy_pattern),
+        floats::to_bits(config.least_weight),
     ]
 }
 

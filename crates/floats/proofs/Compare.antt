@@ -5,7 +5,7 @@ use Prim.Native.Nat.{ℕ, _+_, _*_, _^_, _≤_, _<_}
 use native.Mathlib.Nat.{le-of-eq, eq-or-lt-of-le, eq-zero-or-pos, eq-of-mul-eq-mul-right, mul-pos, lt-of-mul-lt-mul-right, mul-lt-mul-of-pos-right}
 use native.Mathlib.Omega.{arith}
 use mathlib.Core.Bool.{Bool, true, false, not, _&&_, _||_, Bool·beq}
-use lib.Dec.{T, ltb, eqb, ltb→lt, lt→ltb, nltb→le, eqb→eq}
+use lib.Dec.{T, not-T, ltb, eqb, ltb→lt, lt→ltb, nltb→le, eqb→eq}
 use lib.Pow.{pow-pos}
 use lib.Ieee.{Float, nan, inf, fin, Format, low, up, down, below, level, lt, le, eq, fits, isNan}
 use lib.Ieee.Fits.{down-pos, and-l, and-r, and-i, eq→eqb}
@@ -176,6 +176,81 @@ not-le→lt x y x₀ y₀ h = go (lt y x) (le x y) (not-lt→le y x y₀ x₀) h
     go true b f n = tt
     go false true f n = n
     go false false f n = f tt
+
+-- ---- less, then at most: three floats on one scale
+module _ (a b c : ℕ) (p q r : ℕ) (p₀ : 0 < p) (q₀ : 0 < q) (r₀ : 0 < r) (s t u : Bool) where
+  less-first : T (below s (a * q) t (b * p)) → Lt (signed s (a * q * r)) (signed t (b * p * r))
+  less-first h = below-is (a * q) (b * p) 1 (a * q * r) (b * p * r) r (omega arith) r₀ (omega arith) (omega arith) s t h
+
+  at-most-then : T (below t (b * r) u (c * q) || level t (b * r) u (c * q)) → Le (signed t (b * p * r)) (signed u (c * q * p))
+  at-most-then h =
+      let e : b * r * p ≡ b * p * r * 1 = omega arith in
+      let f : c * q * p ≡ c * q * p * 1 = omega arith in
+      or-e (below t (b * r) u (c * q)) (level t (b * r) u (c * q)) (Le (signed t (b * p * r)) (signed u (c * q * p))) h
+      (λ l. omega (arith, below-is (b * r) (c * q) 1 (b * p * r) (c * q * p) p (omega arith) p₀ e f t u l))
+      (λ l. le-of-eq (level-is (b * r) (c * q) 1 (b * p * r) (c * q * p) p (omega arith) p₀ e f t u l))
+
+  less : Lt (signed s (a * q * r)) (signed u (c * q * p)) → T (below s (a * r) u (c * p))
+  less h =
+      let e : a * r * q ≡ a * q * r * 1 = omega arith in
+      let f : c * p * q ≡ c * q * p * 1 = omega arith in
+      is-below (a * r) (c * p) 1 (a * q * r) (c * q * p) q (omega arith) q₀ e f s u h
+
+pub lt-le-trans : (x y z : Float) → T (lt x y) → T (le y z) → T (lt x z)
+unfolding lt le eq
+lt-le-trans nan y z h k = absurd h
+lt-le-trans (inf false) nan z h k = absurd h
+lt-le-trans (inf false) (inf t) z h k = absurd h
+lt-le-trans (inf false) (fin t n d) z h k = absurd h
+lt-le-trans (inf true) nan z h k = absurd h
+lt-le-trans (inf true) (inf true) z h k = absurd h
+lt-le-trans (inf true) (inf false) nan h k = absurd k
+lt-le-trans (inf true) (inf false) (inf true) h k = absurd k
+lt-le-trans (inf true) (inf false) (inf false) h k = tt
+lt-le-trans (inf true) (inf false) (fin u l g) h k = absurd k
+lt-le-trans (inf true) (fin t n d) nan h k = absurd k
+lt-le-trans (inf true) (fin t n d) (inf true) h k = absurd k
+lt-le-trans (inf true) (fin t n d) (inf false) h k = tt
+lt-le-trans (inf true) (fin t n d) (fin u l g) h k = tt
+lt-le-trans (fin s m e) nan z h k = absurd h
+lt-le-trans (fin s m e) (inf true) z h k = absurd h
+lt-le-trans (fin s m e) (inf false) nan h k = absurd k
+lt-le-trans (fin s m e) (inf false) (inf true) h k = absurd k
+lt-le-trans (fin s m e) (inf false) (inf false) h k = tt
+lt-le-trans (fin s m e) (inf false) (fin u l g) h k = absurd k
+lt-le-trans (fin s m e) (fin t n d) nan h k = absurd k
+lt-le-trans (fin s m e) (fin t n d) (inf true) h k = absurd k
+lt-le-trans (fin s m e) (fin t n d) (inf false) h k = tt
+lt-le-trans (fin s m e) (fin t n d) (fin u l g) h k =
+    let a = m * up e in
+    let b = n * up d in
+    let c = l * up g in
+    let first = less-first a b c (down e) (down d) (down g) (down-pos e) (down-pos d) (down-pos g) s t u h in
+    let then = at-most-then a b c (down e) (down d) (down g) (down-pos e) (down-pos d) (down-pos g) s t u k in
+    less a b c (down e) (down d) (down g) (down-pos e) (down-pos d) (down-pos g) s t u (omega (arith, first, then))
+
+-- ---- equal floats are not less
+level-not-below : (A B : ℕ) (s t : Bool) → T (level s A t B) → T (not (below s A t B))
+level-not-below A B s t h =
+    go s t (eqb→eq A B (and-l (eqb A B) (Bool·beq s t || eqb A 0) h)) (and-r (eqb A B) (Bool·beq s t || eqb A 0) h)
+  where
+    go : (s t : Bool) → A ≡ B → T (Bool·beq s t || eqb A 0) → T (not (below s A t B))
+    go false false e z = not-T (ltb A B) (λ l. absurd (omega (arith, e, ltb→lt A B l)))
+    go false true e z = tt
+    go true false e z = not-T (ltb 0 (A + B)) (λ l. absurd (omega (arith, e, ltb→lt 0 (A + B) l, eqb→eq A 0 z)))
+    go true true e z = not-T (ltb B A) (λ l. absurd (omega (arith, e, ltb→lt B A l)))
+
+pub eq-not-lt : (x y : Float) → T (eq x y) → T (not (lt x y))
+unfolding lt eq
+eq-not-lt nan y h = absurd h
+eq-not-lt (inf s) nan h = absurd h
+eq-not-lt (inf true) (inf true) h = tt
+eq-not-lt (inf true) (inf false) h = absurd h
+eq-not-lt (inf false) (inf t) h = tt
+eq-not-lt (inf s) (fin t n d) h = absurd h
+eq-not-lt (fin s m e) nan h = absurd h
+eq-not-lt (fin s m e) (inf t) h = absurd h
+eq-not-lt (fin s m e) (fin t n d) h = level-not-below (m * up e * down d) (n * up d * down e) s t h
 
 pub finite-not-nan : (x : Float) → Finite x → T (not (isNan x))
 unfolding isNan

@@ -1,9 +1,13 @@
 -- The bytes of a restated record: the map byte without the flag, the head as it was, the new codes, and the rest as it was. Assumes nothing.
 use mathlib.Core.Path.{_≡_, sym, ap, ap₂, _∙_}
+use mathlib.Core.Bool.{not}
 use mathlib.Core.List.{List, [], _∷_, _++_, append-assoc}
-use Prim.Native.Nat.{ℕ, zero, suc, _+_, _-_, _*_, _≤_, _<_}
+use Prim.Native.Nat.{ℕ, zero, suc, _+_, _-_, _*_, _/_, _%_, _^_, _≤_, _<_}
+use native.Mathlib.Nat.{div-div-eq-div-mul}
 use native.Mathlib.Omega.{arith}
+use lib.Dec.{T, eqb}
 use lib.ListN.{length, take, drop, length-append, length-take, length-drop}
+use lib.Pow.{pow-add}
 use lib.Seq.{drop-drop}
 use Rattle.matcher.specs.Codes.{bit}
 use Rattle.lent_list.specs.Parts.{part}
@@ -22,12 +26,20 @@ use Rattle.legacy_record.specs.Restating.{withoutFlag, restatedBytes}
 use Rattle.legacy_record.proofs.Codes.{reversed-length}
 
 -- ---- the other bits of a map byte stay
-pub flag-apart : (m k : ℕ) → k < 4 → bit (withoutFlag m) k ≡ bit m k
+pub flag-apart : (m k : ℕ) → T (not (eqb k 4)) → bit (withoutFlag m) k ≡ bit m k
 flag-apart m zero h = omega arith
 flag-apart m (suc zero) h = omega arith
 flag-apart m (suc (suc zero)) h = omega arith
 flag-apart m (suc (suc (suc zero))) h = omega arith
-flag-apart m (suc (suc (suc (suc k)))) h = absurd (omega arith)
+flag-apart m (suc (suc (suc (suc zero)))) h = absurd h
+flag-apart m (suc (suc (suc (suc (suc k))))) h =
+    let above : withoutFlag m / 32 ≡ m / 32 = omega arith in
+    ap (λ (x : ℕ). x % 2) (split (withoutFlag m) ∙ ap (λ (x : ℕ). x / 2 ^ k) above ∙ sym (split m))
+  where
+    split : (x : ℕ) → x / 2 ^ suc (suc (suc (suc (suc k)))) ≡ x / 32 / 2 ^ k
+    split x =
+        let five : suc (suc (suc (suc (suc k)))) ≡ 5 + k = omega arith in
+        ap (λ (n : ℕ). x / 2 ^ n) five ∙ ap (λ (d : ℕ). x / d) (pow-add 2 5 k) ∙ sym (div-div-eq-div-mul x 32 (2 ^ k))
 
 pub flag-cleared : (m : ℕ) → bit (withoutFlag m) 4 ≡ 0
 flag-cleared m = omega arith
@@ -60,10 +72,11 @@ module _ (bytes : List ℕ) (b : Bytes bytes) (w : Whole bytes) where
     head : joined (headFields (withoutFlag m) (restated s)) ≡ withoutFlag m ∷ part 1 (codesAt bytes - 1) bytes
     head =
         rw (
-          flag-apart m 0 (omega arith),
-          flag-apart m 1 (omega arith),
-          flag-apart m 2 (omega arith),
-          flag-apart m 3 (omega arith),
+          flag-apart m 0 tt,
+          flag-apart m 1 tt,
+          flag-apart m 2 tt,
+          flag-apart m 3 tt,
+          flag-apart m 5 tt,
           reversed-length (s .bits) n (s .codes) h,
         )
         (ap (λ (l : List ℕ). withoutFlag m ∷ l)

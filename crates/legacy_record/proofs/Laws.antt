@@ -20,22 +20,18 @@ use Rattle.board.specs.Questions.{boardOf, askedOfBoard}
 use Rattle.board.proofs.Asked.{asked}
 use Rattle.shot_record.specs.Fields.{byte, mapByte, codesAt}
 use Rattle.score_matrix.specs.Table.{patterns}
-use Rattle.shot_record.specs.Shots.{Shot, list, defaultMargin, defaultThreshold, defaultPx, shot}
+use Rattle.shot_record.specs.Shots.{Shot, list, defaultMargin, defaultThreshold, defaultPx, defaultLeastWeight, shot}
 use Rattle.shot_record.specs.Answers.{specOf}
-use Rattle.shot_record.specs.Writing.{Bytes, Default, Fit, WrittenShot, bytesOf}
+use Rattle.shot_record.specs.Writing.{Bytes, Fit, WrittenShot, bytesOf}
 use Rattle.shot_record.proofs.Whole.{Whole, parse-whole, parsed}
 use Rattle.shot_record.proofs.Sequences.{list-all, all-append, all-take, all-drop, each-bytes}
-use Rattle.shot_record.proofs.Laws.{read-back, written-back}
+use Rattle.shot_record.proofs.Laws.{kept-default, read-back, written-back}
 use Rattle.legacy_record.specs.Restated.{isEven, newCode, reversedCodes, reversedCount, restated}
 use Rattle.legacy_record.specs.Restating.{withoutFlag, restatedBytes}
 use Rattle.legacy_record.specs.Rules.{OfBoard, MayDiffer, Restates, RestatesRule}
 use Rattle.legacy_record.proofs.Codes.{reversed-length, none-reversed}
 use Rattle.legacy_record.proofs.Bytes.{flag-apart, flag-cleared, newBytes, new-bytes, head-size, codes-size, same-size}
 use Rattle.legacy_record.proofs.Again.{at-most, board-again}
-
--- ---- a setting whose flag is 0 keeps its default
-kept-default : {A : Type 0} (m k : ℕ) (x default : A) → k < 4 → Default (bit m k) x default → Default (bit (withoutFlag m) k) x default
-kept-default m k x default h = subst (λ (t : ℕ). Default t x default) (sym (flag-apart m k h))
 
 -- ---- a record without the flag
 module _ (bytes : List ℕ) (s : Shot) (w : WrittenShot bytes s) (u : s .legacyPattern ≡ false) where
@@ -57,6 +53,7 @@ module _ (bytes : List ℕ) (s : Shot) (w : WrittenShot bytes s) (u : s .legacyP
         borderThreshold = s .borderThreshold;
         pxPerSquare = s .pxPerSquare;
         table = s .table;
+        leastWeight = s .leastWeight;
         rows = s .rows;
         cols = s .cols;
         bits = s .bits;
@@ -118,14 +115,16 @@ module _ (bytes : List ℕ) (b : Bytes bytes) (w : Whole bytes) where
         record {
           map = omega (arith, f .map);
           margin = f .margin;
-          margin-default = kept-default m 0 (s .minimumMargin) defaultMargin (omega arith) (f .margin-default);
+          margin-default = kept-default m (withoutFlag m) 0 (s .minimumMargin) defaultMargin (flag-apart m 0 tt) (f .margin-default);
           threshold = f .threshold;
-          threshold-default = kept-default m 1 (s .borderThreshold) defaultThreshold (omega arith) (f .threshold-default);
+          threshold-default = kept-default m (withoutFlag m) 1 (s .borderThreshold) defaultThreshold (flag-apart m 1 tt) (f .threshold-default);
           px = f .px;
-          px-default = kept-default m 2 (s .pxPerSquare) defaultPx (omega arith) (f .px-default);
+          px-default = kept-default m (withoutFlag m) 2 (s .pxPerSquare) defaultPx (flag-apart m 2 tt) (f .px-default);
           table = f .table;
           table-size = f .table-size;
-          table-default = kept-default m 3 (s .table) patterns (omega arith) (f .table-default);
+          table-default = kept-default m (withoutFlag m) 3 (s .table) patterns (flag-apart m 3 tt) (f .table-default);
+          least-weight = f .least-weight;
+          least-weight-default = kept-default m (withoutFlag m) 5 (s .leastWeight) defaultLeastWeight (flag-apart m 5 tt) (f .least-weight-default);
           rows = f .rows;
           cols = f .cols;
           bits = f .bits;

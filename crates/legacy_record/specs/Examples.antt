@@ -6,7 +6,7 @@ use mathlib.Core.Option.{none, some}
 use Prim.Native.Nat.{ℕ}
 use Rattle.refusal.specs.declared.Refusal.the-variants as refusal
 use Rattle.score_matrix.specs.Table.{patterns}
-use Rattle.shot_record.specs.Shots.{Shot, defaultMargin, defaultThreshold, defaultPx}
+use Rattle.shot_record.specs.Shots.{Shot, defaultMargin, defaultThreshold, defaultPx, defaultLeastWeight}
 use Rattle.legacy_record.specs.Restated.{restated}
 use Rattle.legacy_record.specs.Restating.{restateRefusedBy}
 
@@ -18,6 +18,7 @@ legacySheet rows cols codes =
       borderThreshold = defaultThreshold;
       pxPerSquare = defaultPx;
       table = patterns;
+      leastWeight = defaultLeastWeight;
       rows = rows;
       cols = cols;
       bits = 2;

@@ -40,6 +40,7 @@ restated s =
       borderThreshold = s .borderThreshold;
       pxPerSquare = s .pxPerSquare;
       table = s .table;
+      leastWeight = s .leastWeight;
       rows = s .rows;
       cols = s .cols;
       bits = s .bits;

@@ -84,12 +84,13 @@ fourWord surrounding.Absent k = absent
 abbrev pub wholeGrid : ℕ → ℕ → ℕ → Bool
 wholeGrid n bits border = leb bits 8 && eqb n (side bits border * side bits border)
 
--- the border of a cell, and settings with only a border threshold
+-- the border of a cell, and settings with only those that a weight depends on
 abbrev pub borderSample : Bool → Float → BorderSample
 borderSample sampled fraction = cond sampled (border.BlackFraction fraction) border.Unsampled
 
-abbrev pub thresholdAlone : Float → BoardMatchConfig
-thresholdAlone threshold = record { «px_per_square» = nought; «alignment_min_margin» = nought; «cell_weight_border_threshold» = threshold }
+abbrev pub weightSettings : Float → Float → BoardMatchConfig
+weightSettings threshold least =
+    record { «px_per_square» = nought; «alignment_min_margin» = nought; «cell_weight_border_threshold» = threshold; «least_weight» = least }
 
 -- an array after f of each code was written to the code's index
 pub record ScoresWritten (f : ℕ → Float) (codes : List ℕ) (before after : List Float) : Type 0 where

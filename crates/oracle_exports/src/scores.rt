@@ -12,7 +12,7 @@ ghost use Rattle.score_matrix.specs.Table.{isTable, builtIn};
 ghost use Rattle.score_matrix.specs.Scores.{samples, score, nullScore, readCode};
 ghost use Rattle.score_matrix.specs.Likelihoods.{picked};
 ghost use Rattle.score_matrix.specs.Weights.{weight};
-ghost use Rattle.oracle_exports.specs.Words.{wholeGrid, ScoresWritten, borderSample, thresholdAlone};
+ghost use Rattle.oracle_exports.specs.Words.{wholeGrid, ScoresWritten, borderSample, weightSettings};
 use score_matrix::BoardMatchConfig;
 use score_matrix::BorderSample;
 use score_matrix::cell;
@@ -50,13 +50,19 @@ fn border_of(sampled: bool, fraction: f32) -> BorderSample
 }
 
 #[no_mangle]
-pub extern "C" fn oracle_cell_weight(border_threshold: f32, sampled: bool, fraction: f32) -> f32
-    ensures { λ r. ⌜ r ≡ weight (thresholdAlone «border_threshold») (borderSample sampled fraction) ⌝ }
+pub extern "C" fn oracle_cell_weight(
+    border_threshold: f32,
+    least_weight: f32,
+    sampled: bool,
+    fraction: f32,
+) -> f32
+    ensures { λ r. ⌜ r ≡ weight (weightSettings «border_threshold» «least_weight») (borderSample sampled fraction) ⌝ }
 {
     let config = BoardMatchConfig {
         px_per_square: 0.0,
         alignment_min_margin: 0.0,
         cell_weight_border_threshold: border_threshold,
+        least_weight,
     };
     score_matrix::cell_weight(config, border_of(sampled, fraction))
 }

@@ -5,7 +5,7 @@ use lib.Ieee.{binary32, toBits}
 use Rattle.refusal.specs.declared.Refusal.{Refusal}
 use Rattle.refusal.specs.declared.Refusal.the-variants.{InvalidSize, InvalidCellSize, InvalidMarkerSizeRel, InvalidBorderBits, EmptyDictionary}
 use Rattle.refusal.specs.declared.Refusal.the-variants.{BoardOutOfRange, NotEnoughDictionaryCodes, CodeOutOfRange}
-use Rattle.refusal.specs.declared.Refusal.the-variants.{SettingsNotFinite, InvalidTable, NoCells, CellsOutOfRange, InvalidSample, ListTooShort}
+use Rattle.refusal.specs.declared.Refusal.the-variants.{InvalidSettings, InvalidTable, NoCells, CellsOutOfRange, InvalidSample, ListTooShort}
 use Rattle.refusal.specs.declared.Refusal.the-variants.{TranslationWindow, Margin, NoMarkers}
 use Rattle.refusal.specs.declared.Refusal.the-variants.{CornersOutOfRange, TooManyLinks, TooManyCells, InvalidRecord, CodesAlike, RepeatedPoint}
 use Rattle.refusal.specs.declared.Refusal.the-variants.{ScoreListTooShort, EvenLegacyBoard}
@@ -29,7 +29,7 @@ numberOf (NotEnoughDictionaryCodes needed available) = 7
 -- Is every code below 2^(bits²)?
 numberOf CodeOutOfRange = 8
 -- Are minimum margin, border threshold and px_per_square finite?
-numberOf SettingsNotFinite = 9
+numberOf InvalidSettings = 9
 -- Has the table 511 entries, each from −8 to 0?
 numberOf InvalidTable = 10
 -- Is there a cell?
@@ -73,7 +73,7 @@ valuesOf EmptyDictionary = []
 valuesOf BoardOutOfRange = []
 valuesOf (NotEnoughDictionaryCodes needed available) = needed ∷ available ∷ []
 valuesOf CodeOutOfRange = []
-valuesOf SettingsNotFinite = []
+valuesOf InvalidSettings = []
 valuesOf InvalidTable = []
 valuesOf NoCells = []
 valuesOf CellsOutOfRange = []

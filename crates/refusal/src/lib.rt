@@ -15,7 +15,7 @@ pub enum Refusal {
     NotEnoughDictionaryCodes { needed: u32, available: u32 },
     CodeOutOfRange,
     // Match.
-    SettingsNotFinite,
+    InvalidSettings,
     InvalidTable,
     NoCells,
     CellsOutOfRange,
@@ -53,7 +53,7 @@ impl Refusal {
                 available: _,
             } => 7,
             Refusal::CodeOutOfRange => 8,
-            Refusal::SettingsNotFinite => 9,
+            Refusal::InvalidSettings => 9,
             Refusal::InvalidTable => 10,
             Refusal::NoCells => 11,
             Refusal::CellsOutOfRange => 12,

@@ -26,7 +26,7 @@ fn shape(arguments: u8, words: u8) -> Shape {
 // No row has 32 arguments: that number means an unknown kind.
 fn shape_of(kind: u64) -> Shape {
     match kind {
-        0x5 => shape(0, 13),
+        0x5 => shape(0, 14),
         0x6 => shape(1, 2),
         0x7 => shape(1, 3),
         0x8 => shape(1, 5),
@@ -44,7 +44,7 @@ fn shape_of(kind: u64) -> Shape {
         0x14 => shape(3, 8),
         0x15 => shape(1, 16),
         0x16 => shape(1, 1),
-        0x17 => shape(3, 1),
+        0x17 => shape(4, 1),
         0x18 => shape(4, 4),
         0x19 => shape(2, 19),
         0x1A => shape(1, 2),

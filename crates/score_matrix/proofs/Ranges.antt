@@ -20,7 +20,7 @@ use Rattle.score_matrix.specs.Accuracy.{WeightInRange, lowestScore}
 use Rattle.score_matrix.specs.declared.BoardMatchConfig.{BoardMatchConfig}
 use Rattle.score_matrix.specs.declared.BorderSample.{BorderSample}
 use Rattle.score_matrix.specs.declared.BorderSample.the-variants as border
-use Rattle.score_matrix.specs.Weights.{weight, FractionInRange, WeightRule}
+use Rattle.score_matrix.specs.Weights.{uncutWeight, weight, FractionInRange, WeightRule}
 
 -- ---- table entries: from the check of the whole table to each entry
 at : (xs : List Float) → T (entriesInRange xs) → (i : ℕ) → i < length xs → Between leastEntry nought (getD xs i nan)
@@ -39,27 +39,38 @@ unfolding patterns builtIn ofBits le lt eq
 built-in-passes = tt
 
 -- ---- a weight
-pub weight-range : WeightRule
-weight-range config border.Unsampled t₀ h = unfold le lt eq in (tt, tt)
-weight-range config (border.BlackFraction fraction) t₀ h =
-    go (le threshold nought) (not-le→lt threshold nought (finite-not-nan threshold t₀) (finite-not-nan nought tt))
+uncut-range : (threshold fraction : Float) → Finite threshold → Between nought unity fraction → Between nought unity (uncutWeight threshold fraction)
+uncut-range threshold fraction t₀ h = go (le threshold nought) (not-le→lt threshold nought (finite-not-nan threshold t₀) (finite-not-nan nought tt))
   where
-    threshold : Float
-    threshold = config .«cell_weight_border_threshold»
-
     go : (b : Bool) → (T (not b) → T (lt nought threshold)) → Between nought unity (cond b unity (clamp01 (div binary32 fraction threshold)))
     go true f = unfold le lt eq in (tt, tt)
     go false f = clamp01-between (div binary32 fraction threshold)
         (div-not-nan binary32 fraction threshold (between-finite nought unity fraction tt tt h) t₀ (f tt))
 
+pub weight-range : WeightRule
+weight-range config border.Unsampled t₀ h = unfold le lt eq in (tt, tt)
+weight-range config (border.BlackFraction fraction) t₀ h = go (lt w (config .«least_weight»))
+  where
+    w : Float
+    w = uncutWeight (config .«cell_weight_border_threshold») fraction
+
+    go : (b : Bool) → Between nought unity (cond b nought w)
+    go true = unfold le lt eq in (tt, tt)
+    go false = uncut-range (config .«cell_weight_border_threshold») fraction t₀ h
+
+uncut-fits : (threshold fraction : Float) → T (fits binary32 (uncutWeight threshold fraction))
+unfolding fits
+uncut-fits threshold fraction =
+    let q = div binary32 fraction threshold in
+    cond-fits binary32 (le threshold nought) unity (clamp01 q) tt
+    (cond-fits binary32 (lt q nought) nought (cond (lt unity q) unity q) tt (cond-fits binary32 (lt unity q) unity q tt (div-fits binary32 fraction threshold)))
+
 weight-fits : (config : BoardMatchConfig) (b : BorderSample) → T (fits binary32 (weight config b))
 unfolding fits
 weight-fits config border.Unsampled = tt
 weight-fits config (border.BlackFraction fraction) =
-    let threshold = config .«cell_weight_border_threshold» in
-    let q = div binary32 fraction threshold in
-    cond-fits binary32 (le threshold nought) unity (clamp01 q) tt
-    (cond-fits binary32 (lt q nought) nought (cond (lt unity q) unity q) tt (cond-fits binary32 (lt unity q) unity q tt (div-fits binary32 fraction threshold)))
+    let w = uncutWeight (config .«cell_weight_border_threshold») fraction in
+    cond-fits binary32 (lt w (config .«least_weight»)) nought w tt (uncut-fits (config .«cell_weight_border_threshold») fraction)
 
 pub is-weight : (config : BoardMatchConfig) (b : BorderSample) → Finite (config .«cell_weight_border_threshold») → FractionInRange b
     → WeightInRange (weight config b)

@@ -2,7 +2,7 @@
 ghost use mathlib.Core.Path.{_≡_};
 ghost use lib.Ieee.{binary32, sub};
 ghost use Rattle.score_matrix.specs.Scores.{nullScore};
-ghost use Rattle.score_matrix.specs.Weights.{weight};
+ghost use Rattle.score_matrix.specs.Weights.{uncutWeight, weight};
 
 mod built_in;
 pub mod cell;
@@ -15,12 +15,24 @@ pub struct BoardMatchConfig {
     pub px_per_square: f32,
     pub alignment_min_margin: f32,
     pub cell_weight_border_threshold: f32,
+    // Document 02's: a cell with a smaller weight has weight 0.
+    pub least_weight: f32,
 }
 
 // The black fraction of a cell's border; only sampled cells have one.
 pub enum BorderSample {
     BlackFraction(f32),
     Unsampled,
+}
+
+// The weight of a sampled cell by upstream's rule, which has no least weight.
+fn uncut_weight(threshold: f32, fraction: f32) -> f32
+    ensures { λ r. ⌜ r ≡ uncutWeight threshold fraction ⌝ }
+{
+    if threshold <= 0.0 {
+        return 1.0;
+    }
+    floats::clamp01(fraction / threshold)
 }
 
 // The weight of a cell.
@@ -30,11 +42,11 @@ pub fn cell_weight(config: BoardMatchConfig, border: BorderSample) -> f32
     match border {
         BorderSample::Unsampled => 0.0,
         BorderSample::BlackFraction(fraction) => {
-            let threshold = config.cell_weight_border_threshold;
-            if threshold <= 0.0 {
-                1.0
+            let uncut = uncut_weight(config.cell_weight_border_threshold, fraction);
+            if uncut < config.least_weight {
+                0.0
             } else {
-                floats::clamp01(fraction / threshold)
+                uncut
             }
         }
     }

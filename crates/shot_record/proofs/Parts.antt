@@ -31,8 +31,11 @@ fromCellSize s = littleEndian 4 (s .cellSize) ++ fromMarkerSize s
 abbrev pub fromRows : Shot → List ℕ
 fromRows s = (s .rows ∷ s .cols ∷ s .bits ∷ s .border ∷ []) ++ fromCellSize s
 
+abbrev pub fromLeastWeight : ℕ → Shot → List ℕ
+fromLeastWeight m s = ifSet (bit m 5) (littleEndian 4 (s .leastWeight)) ++ fromRows s
+
 abbrev pub fromTable : ℕ → Shot → List ℕ
-fromTable m s = ifSet (bit m 3) (each (littleEndian 4) (s .table)) ++ fromRows s
+fromTable m s = ifSet (bit m 3) (each (littleEndian 4) (s .table)) ++ fromLeastWeight m s
 
 abbrev pub fromPx : ℕ → Shot → List ℕ
 fromPx m s = ifSet (bit m 2) (littleEndian 4 (s .pxPerSquare)) ++ fromTable m s

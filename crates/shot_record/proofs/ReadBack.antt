@@ -8,9 +8,9 @@ use lib.ListN.{length}
 use Rattle.matcher.specs.Codes.{bit, fromBits}
 use Rattle.matcher.proofs.Bits.{bit-small}
 use Rattle.score_matrix.specs.Table.{patterns}
-use Rattle.shot_record.specs.Fields.{byte, number, mapByte, isSet, marginAt, thresholdAt, pxAt, tableAt, rowsAt, bitsOf, borderOf, codeCount, codesAt}
+use Rattle.shot_record.specs.Fields.{byte, number, mapByte, isSet, marginAt, thresholdAt, pxAt, tableAt, leastWeightAt, rowsAt, bitsOf, borderOf, codeCount, codesAt}
 use Rattle.shot_record.specs.Fields.{cellCountAt, cellCount, cellMapAt, cellMap, mapSize, sampled, gridSize, cellsAt, cellAt}
-use Rattle.shot_record.specs.Shots.{Cell, Shot, list, numbers, setting, defaultMargin, defaultThreshold, defaultPx, cellOf, shot, parse}
+use Rattle.shot_record.specs.Shots.{Cell, Shot, list, numbers, setting, defaultMargin, defaultThreshold, defaultPx, defaultLeastWeight, cellOf, shot, parse}
 use Rattle.shot_record.specs.Writing.{littleEndian, ifSet, each, marks, bytesOf, isSampled, FitCell, Default, Fit, WrittenShot}
 use Rattle.shot_record.proofs.Whole.{Whole, parse-whole}
 use Rattle.shot_record.proofs.LittleEndian.{le-length}
@@ -18,7 +18,7 @@ use Rattle.shot_record.proofs.Runs.{Runs, Read, after, ends, byte-is, n
 use Rattle.shot_record.proofs.Sequences.{Each, numbers-read, each-length}
 use Rattle.shot_record.proofs.CellMaps.{map-below, map-small, map-marks}
 use Rattle.shot_record.proofs.CellBytes.{cells-read}
-use Rattle.shot_record.proofs.Parts.{fromCells, fromCellMap, fromCellCount, fromCodes, fromCodeCount, fromMarkerSize, fromRows, fromTable, fromPx}
+use Rattle.shot_record.proofs.Parts.{fromCells, fromCellMap, fromCellCount, fromCodes, fromCodeCount, fromMarkerSize, fromRows, fromLeastWeight, fromTable, fromPx}
 use Rattle.shot_record.proofs.Parts.{fromThreshold, fromMargin, bytes-parts}
 
 module _ (bytes : List ℕ) (s : Shot) (w : WrittenShot bytes s) where
@@ -51,25 +51,29 @@ module _ (bytes : List ℕ) (s : Shot) (w : WrittenShot bytes s) where
   unfolding tableAt
   px = float-read 2 (s .pxPerSquare) defaultPx (fit .px) (fit .px-default) (threshold .next)
 
-  table : Read (setting (bit m 3) (numbers 4 511 (tableAt bytes) bytes) patterns) (s .table) bytes (rowsAt bytes) (fromRows s)
-  unfolding rowsAt
+  table : Read (setting (bit m 3) (numbers 4 511 (tableAt bytes) bytes) patterns) (s .table) bytes (leastWeightAt bytes) (fromLeastWeight m s)
+  unfolding leastWeightAt
   table =
       setting-read (bit m 3) 2044 (each (littleEndian 4) (s .table)) (numbers 4 511 (tableAt bytes) bytes) patterns (s .table) (bit-small m 3)
       (each-length 4 (s .table) ∙ ap (λ (n : ℕ). 4 * n) (fit .table-size)) (fit .table-default)
       (λ r. ap (λ (n : ℕ). numbers 4 n (tableAt bytes) bytes) (sym (fit .table-size)) ∙ numbers-read 4 (s .table) (fit .table) r .value) (px .next)
 
+  least-weight : Read (setting (bit m 5) (number 4 (leastWeightAt bytes) bytes) defaultLeastWeight) (s .leastWeight) bytes (rowsAt bytes) (fromRows s)
+  unfolding rowsAt
+  least-weight = float-read 5 (s .leastWeight) defaultLeastWeight (fit .least-weight) (fit .least-weight-default) (table .next)
+
   -- ---- the board
   rows : byte (rowsAt bytes) bytes ≡ s .rows
-  rows = byte-is (rowsAt bytes) 0 (omega arith) (table .next)
+  rows = byte-is (rowsAt bytes) 0 (omega arith) (least-weight .next)
 
   cols : byte (rowsAt bytes + 1) bytes ≡ s .cols
-  cols = byte-is (rowsAt bytes + 1) 1 refl (table .next)
+  cols = byte-is (rowsAt bytes + 1) 1 refl (least-weight .next)
 
   bits : bitsOf bytes ≡ s .bits
-  bits = byte-is (rowsAt bytes + 2) 2 refl (table .next)
+  bits = byte-is (rowsAt bytes + 2) 2 refl (least-weight .next)
 
   border : borderOf bytes ≡ s .border
-  border = byte-is (rowsAt bytes + 3) 3 refl (table .next)
+  border = byte-is (rowsAt bytes + 3) 3 refl (least-weight .next)
 
   legacy : isSet m 4 ≡ s .legacyPattern
   legacy = sym (fit .legacy)
@@ -77,7 +81,7 @@ module _ (bytes : List ℕ) (s : Shot) (w : WrittenShot bytes s) where
   cell-size : Read (number 4 (rowsAt bytes + 4) bytes) (s .cellSize) bytes (rowsAt bytes + 8) (fromMarkerSize s)
   cell-size =
       number-read 4 (rowsAt bytes + 8) (s .cellSize) (fit .cell-size) (omega arith)
-      (after (s .rows ∷ s .cols ∷ s .bits ∷ s .border ∷ []) (rowsAt bytes + 4) (table .next) refl)
+      (after (s .rows ∷ s .cols ∷ s .bits ∷ s .border ∷ []) (rowsAt bytes + 4) (least-weight .next) refl)
 
   marker-size : Read (number 4 (rowsAt bytes + 8) bytes) (s .markerSizeRel) bytes (rowsAt bytes + 12) (fromCodeCount s)
   marker-size = number-read 4 (rowsAt bytes + 12) (s .markerSizeRel) (fit .marker-size) (omega arith) (cell-size .next)
@@ -122,6 +126,7 @@ module _ (bytes : List ℕ) (s : Shot) (w : WrittenShot bytes s) where
         borderThreshold = threshold .value i;
         pxPerSquare = px .value i;
         table = table .value i;
+        leastWeight = least-weight .value i;
         rows = rows i;
         cols = cols i;
         bits = bits i;

@@ -17,8 +17,8 @@ use Rattle.matcher.proofs.Bits.{bit-small, bit-under}
 use Rattle.shot_record.specs.declared.fields.Fields.{Fields}
 use Rattle.shot_record.specs.Shots.{numbers, setting, shot}
 use Rattle.shot_record.proofs.Lists.{length-list, getD-list}
-use Rattle.shot_record.specs.Fields.{fieldsOf, byte, number, mapByte, isSet, thresholdAt, pxAt, tableAt, rowsAt, bitsOf, borderOf, codeCount, codesAt}
-use Rattle.shot_record.specs.Fields.{cellCountAt, cellCount, cellMapAt, sampled, mapSize, mapOf, gridSize, pointSize, sampleLength, cellLength, cellsAt, cellAt}
+use Rattle.shot_record.specs.Fields.{fieldsOf, byte, number, mapByte, isSet, thresholdAt, pxAt, tableAt, leastWeightAt, rowsAt, bitsOf, borderOf}
+use Rattle.shot_record.specs.Fields.{codeCount, codesAt, cellCountAt, cellCount, cellMapAt, sampled, mapSize, mapOf, gridSize, pointSize, sampleLength, cellLength, cellsAt, cellAt}
 
 -- the located fields, one by one
 pub record Found (f : Fields) (bytes : List ℕ) : Type 0 where
@@ -26,6 +26,7 @@ pub record Found (f : Fields) (bytes : List ℕ) : Type 0 where
   pub threshold-at : f .«threshold_at» ≡ thresholdAt bytes
   pub px-at : f .«px_at» ≡ pxAt bytes
   pub table-at : f .«table_at» ≡ tableAt bytes
+  pub least-weight-at : f .«least_weight_at» ≡ leastWeightAt bytes
   pub rows-at : f .«rows_at» ≡ rowsAt bytes
   pub code-count : f .«code_count» ≡ codeCount bytes
   pub cell-count : f .«cell_count» ≡ cellCount bytes
@@ -41,6 +42,7 @@ found f bytes e =
       threshold-at = ap (λ (g : Fields). g .«threshold_at») e;
       px-at = ap (λ (g : Fields). g .«px_at») e;
       table-at = ap (λ (g : Fields). g .«table_at») e;
+      least-weight-at = ap (λ (g : Fields). g .«least_weight_at») e;
       rows-at = ap (λ (g : Fields). g .«rows_at») e;
       code-count = ap (λ (g : Fields). g .«code_count») e;
       cell-count = ap (λ (g : Fields). g .«cell_count») e;
@@ -91,11 +93,20 @@ pub code-is : (bytes : List ℕ) (k : ℕ) → k < codeCount bytes → number 8 
 code-is bytes k h = sym (getD-list (λ (k : ℕ). number 8 (codesAt bytes + 8 * k) bytes) (codeCount bytes) k 0 h)
 
 -- the offsets before the codes are nondecreasing, and their bounds
-pub head-reach : (bytes : List ℕ) → (thresholdAt bytes ≤ pxAt bytes) × (pxAt bytes ≤ tableAt bytes) × (tableAt bytes ≤ rowsAt bytes) × (rowsAt bytes ≤ 2057)
-unfolding rowsAt tableAt pxAt thresholdAt
+pub head-reach : (bytes : List ℕ) → (thresholdAt bytes ≤ pxAt bytes) × (pxAt bytes ≤ tableAt bytes) × (tableAt bytes ≤ leastWeightAt bytes)
+    × (leastWeightAt bytes ≤ rowsAt bytes) × (rowsAt bytes ≤ 2061)
+unfolding rowsAt leastWeightAt tableAt pxAt thresholdAt
 head-reach bytes =
     let small = bit-small (mapByte bytes) in
-    (omega arith, omega arith, omega arith, omega (arith, small 0, small 1, small 2, small 3))
+    (omega arith, omega arith, omega arith, omega arith, omega (arith, small 0, small 1, small 2, small 3, small 5))
+
+-- the bounds of the located offsets
+pub found-reach : (f : Fields) (bytes : List ℕ) → f ≡ fieldsOf bytes
+    → (f .«threshold_at» ≤ 2061) × (f .«px_at» ≤ 2061) × (f .«table_at» ≤ 2061) × (f .«least_weight_at» ≤ 2061) × (f .«rows_at» ≤ 2061)
+found-reach f bytes e =
+    let at = found f bytes e in
+    let reach = head-reach bytes in
+    (omega (arith, at .threshold-at), omega (arith, at .px-at), omega (arith, at .table-at), omega (arith, at .least-weight-at), omega (arith, at .rows-at))
 
 -- a number from its first m bytes and the n after them
 pub number-split : (bytes : List ℕ) (m n at : ℕ) → number (m + n) at bytes ≡ number n (at + m) bytes * 2 ^ (8 * m) + number m at bytes
@@ -161,7 +172,7 @@ module _ (bytes : List ℕ) (s : Small bytes) where
       go false less more ih = up (more tt) ih
 
   -- ---- bounds of the offsets after the codes
-  pub map-reach : cellMapAt bytes ≤ 526361
+  pub map-reach : cellMapAt bytes ≤ 526365
   unfolding cellCountAt
   map-reach = omega (arith, head-reach bytes, number-below 2 (rowsAt bytes + 12))
 
@@ -174,7 +185,7 @@ module _ (bytes : List ℕ) (s : Small bytes) where
       let h : n ≤ 765 = omega (arith, s (rowsAt bytes + 2), s (rowsAt bytes + 3)) in
       mul-le-mul {n₁ = n} {m₁ = n} {n₂ = 765} {m₂ = 765} h h
 
-  pub start-reach : (k : ℕ) → cellAt bytes k ≤ 534553 + k * 585234
+  pub start-reach : (k : ℕ) → cellAt bytes k ≤ 534557 + k * 585234
   unfolding cellAt
   start-reach zero = omega (arith, map-reach, count-reach)
   start-reach (suc k) = omega (arith, start-reach k, size-reach (sampled bytes k))

@@ -11,7 +11,7 @@ use lib.Seq.{ext-getD}
 use Rattle.matcher.specs.Codes.{bit}
 use Rattle.lent_list.specs.Parts.{part}
 use Rattle.lent_list.proofs.Parts.{getD-part}
-use Rattle.shot_record.specs.Fields.{byte, number, mapByte, thresholdAt, pxAt, tableAt, rowsAt, bitsOf, borderOf, codeCount, cellCountAt, cellCount}
+use Rattle.shot_record.specs.Fields.{byte, number, mapByte, thresholdAt, pxAt, tableAt, leastWeightAt, rowsAt, bitsOf, borderOf, codeCount, cellCountAt, cellCount}
 use Rattle.shot_record.specs.Fields.{cellMapAt, cellMap, mapSize, sampled, gridSize, pointSize, cellLength, cellAt, samplePlace, gridFrom}
 use Rattle.shot_record.specs.Shots.{sampleAt, cellOf, wholeRecord, parse}
 use Rattle.shot_record.specs.Answers.{gridWith, gridAnswer, partWith}
@@ -30,8 +30,8 @@ module _ (a b : List ℕ) (o : SameOutline a b) where
   map-same = o .header 0 zero-le (omega arith)
 
   rows-same : rowsAt a ≡ rowsAt b
-  unfolding rowsAt tableAt pxAt thresholdAt
-  rows-same = ap (λ (m : ℕ). 1 + 4 * bit m 0 + 4 * bit m 1 + 4 * bit m 2 + 2044 * bit m 3) map-same
+  unfolding rowsAt leastWeightAt tableAt pxAt thresholdAt
+  rows-same = ap (λ (m : ℕ). 1 + 4 * bit m 0 + 4 * bit m 1 + 4 * bit m 2 + 2044 * bit m 3 + 4 * bit m 5) map-same
 
   header-byte : (k : ℕ) → k < 14 → byte (rowsAt a + k) a ≡ byte (rowsAt b + k) b
   header-byte k l = o .header (rowsAt a + k) zero-le (omega arith) ∙ ap (λ (at : ℕ). byte (at + k) b) rows-same

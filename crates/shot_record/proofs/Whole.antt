@@ -13,7 +13,7 @@ use Rattle.shot_record.specs.Shots.{Shot, shot, wholeRecord, parse}
 
 pub record Whole (bytes : List ℕ) : Type 0 where
   pub size : length bytes ≤ 65535
-  pub map : mapByte bytes < 32
+  pub map : mapByte bytes < 64
   pub cell-map : cellMap bytes < 2 ^ cellCount bytes
   pub end : cellAt bytes (cellCount bytes) ≡ length bytes
 
@@ -22,7 +22,7 @@ unfolding wholeRecord
 whole-passes bytes w = search (
   and-i,
   le→leb (length bytes) 65535 (w .size),
-  lt→ltb (mapByte bytes) 32 (w .map),
+  lt→ltb (mapByte bytes) 64 (w .map),
   lt→ltb (cellMap bytes) (2 ^ cellCount bytes) (w .cell-map),
   ended,
 )
@@ -35,7 +35,7 @@ unfolding wholeRecord
 passes-whole bytes t =
     record {
       size = leb→le (length bytes) 65535 (search and-l);
-      map = ltb→lt (mapByte bytes) 32 (search (and-l, and-r));
+      map = ltb→lt (mapByte bytes) 64 (search (and-l, and-r));
       cell-map = ltb→lt (cellMap bytes) (2 ^ cellCount bytes) (search (and-l, and-r));
       end = eqb→eq (cellAt bytes (cellCount bytes)) (length bytes) (search (and-l, and-r));
     }

@@ -11,9 +11,9 @@ use lib.Ieee.Fits.{and-l, and-r}
 use Rattle.matcher.specs.Codes.{bit}
 use Rattle.matcher.proofs.Bits.{bit-small}
 use Rattle.score_matrix.specs.Table.{patterns}
-use Rattle.shot_record.specs.Fields.{number, mapByte, marginAt, thresholdAt, pxAt, tableAt, rowsAt, codeCount, codesAt, cellCountAt, cellCount, cellMapAt}
+use Rattle.shot_record.specs.Fields.{number, mapByte, marginAt, thresholdAt, pxAt, tableAt, leastWeightAt, rowsAt, codeCount, codesAt, cellCountAt, cellCount, cellMapAt}
 use Rattle.shot_record.specs.Fields.{cellMap, mapSize, cellsAt, cellAt}
-use Rattle.shot_record.specs.Shots.{Shot, numbers, setting, defaultMargin, defaultThreshold, defaultPx, cellOf, shot}
+use Rattle.shot_record.specs.Shots.{Shot, numbers, setting, defaultMargin, defaultThreshold, defaultPx, defaultLeastWeight, cellOf, shot}
 use Rattle.shot_record.specs.Writing.{littleEndian, ifSet, each, All, Bytes, bytesOf, Fit, WrittenShot}
 use Rattle.shot_record.proofs.Reading.{Small, number-below, setting-either, table-size}
 use Rattle.shot_record.proofs.Lists.{length-list}
@@ -22,8 +22,8 @@ use Rattle.shot_record.proofs.Runs.{Runs, at-end, byte-written, number-
 use Rattle.shot_record.proofs.Sequences.{numbers-written, numbers-below}
 use Rattle.shot_record.proofs.CellMaps.{map-of-read}
 use Rattle.shot_record.proofs.CellBytes.{cells-written, cells-fit}
-use Rattle.shot_record.proofs.Parts.{fromCells, fromCellMap, fromCellCount, fromCodes, fromCodeCount, fromMarkerSize, fromCellSize, fromRows, fromTable}
-use Rattle.shot_record.proofs.Parts.{fromPx, fromThreshold, fromMargin, bytes-parts}
+use Rattle.shot_record.proofs.Parts.{fromCells, fromCellMap, fromCellCount, fromCodes, fromCodeCount, fromMarkerSize, fromCellSize, fromRows}
+use Rattle.shot_record.proofs.Parts.{fromLeastWeight, fromTable, fromPx, fromThreshold, fromMargin, bytes-parts}
 use Rattle.shot_record.proofs.Whole.{Whole}
 
 -- ---- the entries of the built-in table are 32-bit patterns
@@ -86,15 +86,19 @@ module _ (bytes : List ℕ) (b : Bytes bytes) (w : Whole bytes) where
       byte-written (rowsAt bytes) refl
       (byte-written (rowsAt bytes + 1) (omega arith) (byte-written (rowsAt bytes + 2) (omega arith) (byte-written (rowsAt bytes + 3) (omega arith) cell-size)))
 
-  table : Runs bytes (tableAt bytes) (fromTable m s)
-  unfolding rowsAt
-  table =
-      setting-written (bit m 3) 2044 (tableAt bytes) (each (littleEndian 4)) (numbers 4 511 (tableAt bytes) bytes) patterns (bit-small m 3)
-      (numbers-written small 4 511 (tableAt bytes)) rows
-
   float : {rest : List ℕ} (k at default : ℕ) → Runs bytes (at + 4 * bit m k) rest
       → Runs bytes at (ifSet (bit m k) (littleEndian 4 (setting (bit m k) (number 4 at bytes) default)) ++ rest)
   float k at default = setting-written (bit m k) 4 at (littleEndian 4) (number 4 at bytes) default (bit-small m k) (number-written small 4 at refl)
+
+  least-weight : Runs bytes (leastWeightAt bytes) (fromLeastWeight m s)
+  unfolding rowsAt
+  least-weight = float 5 (leastWeightAt bytes) defaultLeastWeight rows
+
+  table : Runs bytes (tableAt bytes) (fromTable m s)
+  unfolding leastWeightAt
+  table =
+      setting-written (bit m 3) 2044 (tableAt bytes) (each (littleEndian 4)) (numbers 4 511 (tableAt bytes) bytes) patterns (bit-small m 3)
+      (numbers-written small 4 511 (tableAt bytes)) least-weight
 
   px : Runs bytes (pxAt bytes) (fromPx m s)
   unfolding tableAt
@@ -128,6 +132,8 @@ module _ (bytes : List ℕ) (b : Bytes bytes) (w : Whole bytes) where
         table = setting-either (All (λ (x : ℕ). x < 2 ^ 32)) (bit m 3) (numbers-below bytes small 4 511 (tableAt bytes)) patterns-below;
         table-size = table-size bytes;
         table-default = setting-default (bit m 3) (numbers 4 511 (tableAt bytes) bytes) patterns;
+        least-weight = float-fits 5 (leastWeightAt bytes) defaultLeastWeight (lit< tt);
+        least-weight-default = setting-default (bit m 5) (number 4 (leastWeightAt bytes) bytes) defaultLeastWeight;
         rows = small (rowsAt bytes);
         cols = small (rowsAt bytes + 1);
         bits = small (rowsAt bytes + 2);

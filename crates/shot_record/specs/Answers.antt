@@ -32,6 +32,7 @@ configOf s =
       «px_per_square» = ofPattern (s .pxPerSquare);
       «alignment_min_margin» = ofPattern (s .minimumMargin);
       «cell_weight_border_threshold» = ofPattern (s .borderThreshold);
+      «least_weight» = ofPattern (s .leastWeight);
     }
 
 abbrev pub specOf : Shot → CharucoBoardSpec

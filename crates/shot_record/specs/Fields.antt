@@ -20,7 +20,8 @@ number zero at bytes = 0
 number (suc n) at bytes = byte at bytes + 256 * number n (suc at) bytes
 
 -- One map byte, the presence flags of the fields that follow, bit 0 lowest: 0 minimum margin, 1 border threshold, 2 px_per_square, 3 table, 2,044
--- bytes. A field whose flag is 0 takes no bytes. Document 02: "Bit 4 … marks a legacy board; it adds no field."
+-- bytes. A field whose flag is 0 takes no bytes. Document 02: "Bit 4 … marks a legacy board; it adds no field." and "Bit 5 … brings one float, the
+-- least weight, after the table."
 abbrev pub mapByte : List ℕ → ℕ
 mapByte bytes = byte 0 bytes
 
@@ -39,9 +40,12 @@ pxAt bytes = thresholdAt bytes + 4 * bit (mapByte bytes) 1
 unfoldable pub tableAt : List ℕ → ℕ
 tableAt bytes = pxAt bytes + 4 * bit (mapByte bytes) 2
 
+unfoldable pub leastWeightAt : List ℕ → ℕ
+leastWeightAt bytes = tableAt bytes + 2044 * bit (mapByte bytes) 3
+
 -- Then bytes rows, cols, bits, border; floats cell_size, marker_size_rel;
 unfoldable pub rowsAt : List ℕ → ℕ
-rowsAt bytes = tableAt bytes + 2044 * bit (mapByte bytes) 3
+rowsAt bytes = leastWeightAt bytes + 4 * bit (mapByte bytes) 5
 
 abbrev pub bitsOf : List ℕ → ℕ
 bitsOf bytes = byte (rowsAt bytes + 2) bytes
@@ -127,6 +131,7 @@ fieldsOf bytes =
       «threshold_at» = thresholdAt bytes;
       «px_at» = pxAt bytes;
       «table_at» = tableAt bytes;
+      «least_weight_at» = leastWeightAt bytes;
       «rows_at» = rowsAt bytes;
       «code_count» = codeCount bytes;
       «cell_count» = cellCount bytes;

@@ -11,7 +11,7 @@ use mir.Val.{toZ}
 use Rattle.matcher.specs.Codes.{bit}
 use Rattle.lent_list.specs.Parts.{part}
 use Rattle.score_matrix.specs.Table.{patterns}
-use Rattle.shot_record.specs.Fields.{byte, number, mapByte, isSet, marginAt, thresholdAt, pxAt, tableAt, rowsAt, bitsOf, borderOf, codeCount, codesAt, cellCount}
+use Rattle.shot_record.specs.Fields.{byte, number, mapByte, isSet, marginAt, thresholdAt, pxAt, tableAt, leastWeightAt, rowsAt, bitsOf, borderOf, codeCount, codesAt, cellCount}
 use Rattle.shot_record.specs.Fields.{cellMap, sampled, gridSize, cellAt, Point, pointOf, samplePlace, thresholdFrom, gridFrom}
 
 -- The sample of a cell. Here and below a float is its 32-bit pattern, so that a shot keeps every bit of its record.
@@ -30,6 +30,7 @@ pub record Shot : Type 0 where
   pub borderThreshold : ℕ
   pub pxPerSquare : ℕ
   pub table : List ℕ
+  pub leastWeight : ℕ
   pub rows : ℕ
   pub cols : ℕ
   pub bits : ℕ
@@ -54,7 +55,7 @@ abbrev pub setting : {A : Type 0} → ℕ → A → A → A
 setting zero field default = default
 setting (suc b) field default = field
 
--- 0.05, 0.5 and 60
+-- 0.05, 0.5, 60 and, by document 02, 0
 abbrev pub defaultMargin : ℕ
 defaultMargin = 0x3D4CCCCD
 
@@ -63,6 +64,9 @@ defaultThreshold = 0x3F000000
 
 abbrev pub defaultPx : ℕ
 defaultPx = 0x42700000
+
+abbrev pub defaultLeastWeight : ℕ
+defaultLeastWeight = 0
 
 -- a cell from its grid point, whether it is sampled (not 0), and the offset of its sample
 abbrev pub sampleAt : ℕ → ℕ → ℕ → List ℕ → Option Sample
@@ -86,6 +90,7 @@ shot bytes =
       borderThreshold = setting (bit (mapByte bytes) 1) (number 4 (thresholdAt bytes) bytes) defaultThreshold;
       pxPerSquare = setting (bit (mapByte bytes) 2) (number 4 (pxAt bytes) bytes) defaultPx;
       table = setting (bit (mapByte bytes) 3) (numbers 4 511 (tableAt bytes) bytes) patterns;
+      leastWeight = setting (bit (mapByte bytes) 5) (number 4 (leastWeightAt bytes) bytes) defaultLeastWeight;
       rows = byte (rowsAt bytes) bytes;
       cols = byte (rowsAt bytes + 1) bytes;
       bits = bitsOf bytes;
@@ -106,7 +111,7 @@ firstCodes s = list (λ (k : ℕ). getD (s .codes) k 0) 512
 unfoldable pub wholeRecord : List ℕ → Bool
 wholeRecord bytes =
     leb (length bytes) 65535
-    && (ltb (mapByte bytes) 32 && (ltb (cellMap bytes) (2 ^ cellCount bytes) && eqb (cellAt bytes (cellCount bytes)) (length bytes)))
+    && (ltb (mapByte bytes) 64 && (ltb (cellMap bytes) (2 ^ cellCount bytes) && eqb (cellAt bytes (cellCount bytes)) (length bytes)))
 
 -- The shot that a record encodes, or none if it is refused.
 unfoldable pub parse : List ℕ → Option Shot

@@ -1,6 +1,6 @@
 -- The encoding of a shot, field after field (document 01, "The shot record"), and the laws that relate it to parsing.
 use mathlib.Core.Path.{_≡_}
-use Prim.Native.Nat.{ℕ, zero, suc, _*_, _/_, _%_, _^_, _≤_, _<_}
+use Prim.Native.Nat.{ℕ, zero, suc, _+_, _*_, _/_, _%_, _^_, _≤_, _<_}
 use mathlib.Core.List.{List, [], _∷_, _++_, map}
 use mathlib.Core.Option.{Option, none, some}
 use lib.ListN.{length, getD, take, drop}
@@ -9,7 +9,7 @@ use mir.Val.{SFits, ofZ}
 use Rattle.matcher.specs.Codes.{bit, fromBits}
 use Rattle.score_matrix.specs.Table.{patterns}
 use Rattle.shot_record.specs.Fields.{mapByte, isSet, codeCount, codesAt, cellCountAt, mapSize, gridSize}
-use Rattle.shot_record.specs.Shots.{Sample, Cell, Shot, defaultMargin, defaultThreshold, defaultPx, parse}
+use Rattle.shot_record.specs.Shots.{Sample, Cell, Shot, defaultMargin, defaultThreshold, defaultPx, defaultLeastWeight, parse}
 
 -- a number as n bytes, little-endian
 unfoldable pub littleEndian : ℕ → ℕ → List ℕ
@@ -55,6 +55,7 @@ headFields m s =
     ∷ ifSet (bit m 1) (littleEndian 4 (s .borderThreshold))
     ∷ ifSet (bit m 2) (littleEndian 4 (s .pxPerSquare))
     ∷ ifSet (bit m 3) (each (littleEndian 4) (s .table))
+    ∷ ifSet (bit m 5) (littleEndian 4 (s .leastWeight))
     ∷ (s .rows ∷ s .cols ∷ s .bits ∷ s .border ∷ [])
     ∷ littleEndian 4 (s .cellSize)
     ∷ littleEndian 4 (s .markerSizeRel)
@@ -100,7 +101,7 @@ pub record FitCell (grid : ℕ) (c : Cell) : Type 0 where
   pub sample : IfSampled grid (c .sample)
 
 pub record Fit (m : ℕ) (s : Shot) : Type 0 where
-  pub map : m < 32
+  pub map : m < 64
   pub margin : s .minimumMargin < 2 ^ 32
   pub margin-default : Default (bit m 0) (s .minimumMargin) defaultMargin
   pub threshold : s .borderThreshold < 2 ^ 32
@@ -110,6 +111,8 @@ pub record Fit (m : ℕ) (s : Shot) : Type 0 where
   pub table : All (λ (x : ℕ). x < 2 ^ 32) (s .table)
   pub table-size : length (s .table) ≡ 511
   pub table-default : Default (bit m 3) (s .table) patterns
+  pub least-weight : s .leastWeight < 2 ^ 32
+  pub least-weight-default : Default (bit m 5) (s .leastWeight) defaultLeastWeight
   pub rows : s .rows < 256
   pub cols : s .cols < 256
   pub bits : s .bits < 256
@@ -144,6 +147,15 @@ pub record Sections (bytes : List ℕ) (s : Shot) : Type 0 where
 
 abbrev pub SectionsRule : Type 0
 SectionsRule = (bytes : List ℕ) → Bytes bytes → (s : Shot) → parse bytes ≡ some s → Sections bytes s
+
+-- Document 02, 2.8: "Without the bit the least weight is 0." With the bit and 0 a record encodes the same shot.
+pub record LeastWeightLeftOut (m : ℕ) (s : Shot) : Type 0 where
+  pub clear : bit m 5 ≡ 0
+  pub fits : Fit m s
+  pub room : length (bytesOf (m + 32) s) ≤ 65535
+
+abbrev pub ZeroLeastWeight : Type 0
+ZeroLeastWeight = (m : ℕ) (s : Shot) → LeastWeightLeftOut m s → parse (bytesOf (m + 32) s) ≡ parse (bytesOf m s)
 
 -- parsing is injective: two records with the same shot and the same map byte are equal
 abbrev pub OneToOne : Type 0

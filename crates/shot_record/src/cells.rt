@@ -94,7 +94,7 @@ pub fn is_whole(bytes: &[u8], f: Fields) -> bool
     if 65535 < bytes.len() {
         return false;
     }
-    if 31 < f.map {
+    if 63 < f.map {
         return false;
     }
     if !maps::is_clear(bytes, f.cell_map_at, f.cell_count) {

@@ -16,6 +16,7 @@ pub struct Fields {
     pub threshold_at: usize,
     pub px_at: usize,
     pub table_at: usize,
+    pub least_weight_at: usize,
     pub rows_at: usize,
     pub code_count: usize,
     pub cell_count: usize,
@@ -39,7 +40,8 @@ pub fn locate(bytes: &[u8]) -> Fields
     let threshold_at = 1 + 4 * numbers::bit(map, 0);
     let px_at = threshold_at + 4 * numbers::bit(map, 1);
     let table_at = px_at + 4 * numbers::bit(map, 2);
-    let rows_at = table_at + 2044 * numbers::bit(map, 3);
+    let least_weight_at = table_at + 2044 * numbers::bit(map, 3);
+    let rows_at = least_weight_at + 4 * numbers::bit(map, 5);
     let code_count = numbers::count_at(bytes, rows_at + 12);
     let cell_count_at = rows_at + 14 + 8 * code_count;
     let cell_count = numbers::count_at(bytes, cell_count_at);
@@ -49,6 +51,7 @@ pub fn locate(bytes: &[u8]) -> Fields
         threshold_at,
         px_at,
         table_at,
+        least_weight_at,
         rows_at,
         code_count,
         cell_count,
@@ -72,7 +75,7 @@ fn setting(bytes: &[u8], is_set: usize, at: usize, default: u32) -> f32
     numbers::float_at(bytes, at)
 }
 
-// The defaults are 60, 0.05 and 0.5.
+// The defaults are 60, 0.05, 0.5 and 0.
 pub fn config(bytes: &[u8], f: Fields) -> BoardMatchConfig
     requires { ⌜ f ≡ fieldsOf (now bytes) ⌝ }
     ensures { λ r. ⌜ r ≡ configOf (shot (now (bytes .entry))) ⌝ }
@@ -86,6 +89,7 @@ pub fn config(bytes: &[u8], f: Fields) -> BoardMatchConfig
             f.threshold_at,
             0x3F00_0000,
         ),
+        least_weight: setting(bytes, numbers::bit(f.map, 5), f.least_weight_at, 0),
     }
 }
 

@@ -62,8 +62,9 @@ fn table_entries(first: u8) -> [u32; 19] {
 fn weight(row: [u64; 32]) -> [u32; 19] {
     one(oracle_exports::oracle_cell_weight(
         floats::from_bits(numbers::low(row[1])),
-        row[2] == 1,
-        floats::from_bits(numbers::low(row[3])),
+        floats::from_bits(numbers::low(row[2])),
+        row[3] == 1,
+        floats::from_bits(numbers::low(row[4])),
     ))
 }
 

@@ -17,7 +17,7 @@ use Rattle.board.specs.Numbering.{countPassing}
 use Rattle.board.specs.Layout.{parityOf}
 use Rattle.board.specs.Questions.{askedOfSize, askedOfBoard}
 use Rattle.score_matrix.specs.Table.{patterns}
-use Rattle.shot_record.specs.Fields.{number, thresholdAt, pxAt, tableAt, rowsAt, cellCountAt, cellMap, cellAt}
+use Rattle.shot_record.specs.Fields.{number, thresholdAt, pxAt, tableAt, leastWeightAt, rowsAt, cellCountAt, cellMap, cellAt}
 use Rattle.shot_record.specs.Shots.{Sample, Shot, list, wholeRecord, parse}
 use Rattle.shot_record.specs.Writing as writing
 use Rattle.shot_record.specs.Writing.{bytesOf}
@@ -34,7 +34,7 @@ refused-5 s first second = refl
 
 -- ---- the record: question 21, then 1 to 14, then 15
 parses : parse (bytesOf 0 tooWide) ≡ some tooWide
-unfolding bytesOf writing.littleEndian fromBits number thresholdAt pxAt tableAt rowsAt cellCountAt cellMap cellAt list wholeRecord parse
+unfolding bytesOf writing.littleEndian fromBits number thresholdAt pxAt tableAt leastWeightAt rowsAt cellCountAt cellMap cellAt list wholeRecord parse
 parses = refl
 
 passes : (words : ℕ) → 36 ≤ words → askedBefore15 tooWide words ≡ none

@@ -30,7 +30,7 @@ use Rattle.board.specs.Layout.{parityOf}
 use Rattle.board.specs.Questions.{askedOfSize, askedOfBoard}
 use Rattle.score_matrix.specs.Scores.{readCode}
 use Rattle.score_matrix.specs.Table.{patterns}
-use Rattle.shot_record.specs.Fields.{byte, mapByte, number, thresholdAt, pxAt, tableAt, rowsAt, codesAt, codeCount, cellCountAt, cellMap, cellAt, samplePlace, thresholdFrom, gridFrom}
+use Rattle.shot_record.specs.Fields.{byte, mapByte, number, thresholdAt, pxAt, tableAt, leastWeightAt, rowsAt, codesAt, codeCount, cellCountAt, cellMap, cellAt, samplePlace, thresholdFrom, gridFrom}
 use Rattle.shot_record.specs.Shots.{Shot, list, wholeRecord, parse, defaultMargin}
 use Rattle.shot_record.specs.Answers.{gridAnswer}
 use Rattle.shot_record.specs.Writing.{littleEndian, joined, cellFields, bytesOf, Bytes, Fit, Sections}
@@ -85,16 +85,16 @@ demanding-small : (i : ℕ) → getD (bytesOf 1 demanding) i 0 < 256
 unfolding demanding bytesOf littleEndian fromBits every
 demanding-small = small-bytes (bytesOf 1 demanding) refl
 
-pair-parses : parse (pairRecord 200) ≡ some (pair 200)
-unfolding pair bytesOf littleEndian fromBits number thresholdAt pxAt tableAt rowsAt cellCountAt cellMap cellAt list wholeRecord parse
+pub pair-parses : parse (pairRecord 200) ≡ some (pair 200)
+unfolding pair bytesOf littleEndian fromBits number thresholdAt pxAt tableAt leastWeightAt rowsAt cellCountAt cellMap cellAt list wholeRecord parse
 pair-parses = refl
 
 demanding-parses : parse (bytesOf 1 demanding) ≡ some demanding
-unfolding demanding bytesOf littleEndian fromBits number thresholdAt pxAt tableAt rowsAt cellCountAt cellMap cellAt list wholeRecord parse
+unfolding demanding bytesOf littleEndian fromBits number thresholdAt pxAt tableAt leastWeightAt rowsAt cellCountAt cellMap cellAt list wholeRecord parse
 demanding-parses = refl
 
 elsewhere-parses : parse (bytesOf 1 elsewhere) ≡ some elsewhere
-unfolding elsewhere bytesOf littleEndian fromBits number thresholdAt pxAt tableAt rowsAt cellCountAt cellMap cellAt list wholeRecord parse
+unfolding elsewhere bytesOf littleEndian fromBits number thresholdAt pxAt tableAt leastWeightAt rowsAt cellCountAt cellMap cellAt list wholeRecord parse
 elsewhere-parses = refl
 
 -- ---- 2.4
@@ -111,7 +111,7 @@ unfolding pair elsewhere
 same-table = refl
 
 same-own : SameOwn (pairRecord 200) (pair 200) 0 (bytesOf 1 elsewhere) elsewhere 2
-unfolding pair elsewhere bytesOf littleEndian fromBits number thresholdAt pxAt tableAt rowsAt cellCountAt cellMap cellAt every
+unfolding pair elsewhere bytesOf littleEndian fromBits number thresholdAt pxAt tableAt leastWeightAt rowsAt cellCountAt cellMap cellAt every
 same-own = record { bits = refl; border = refl; threshold = refl; greys = same-bytes (pairRecord 200) (bytesOf 1 elsewhere) 16 43 92 refl }
 
 -- a cell of any record with the first cell's own bytes
@@ -125,7 +125,7 @@ near-greys i l = rw (zero-add i) at (same-bytes (pairRecord 200) (greys 200 10 2
 
 own-as-near : (b : List ℕ) (t : Shot) (k : ℕ) → t .bits ≡ 2 → t .border ≡ 1 → byte (thresholdFrom (samplePlace b k)) b ≡ 100
     → ((i : ℕ) → i < 16 → byte (gridFrom (samplePlace b k) + i) b ≡ getD (greys 200 10 200 10) i 0) → SameOwn (pairRecord 200) (pair 200) 0 b t k
-unfolding pair bytesOf littleEndian fromBits number thresholdAt pxAt tableAt rowsAt cellCountAt cellMap cellAt
+unfolding pair bytesOf littleEndian fromBits number thresholdAt pxAt tableAt leastWeightAt rowsAt cellCountAt cellMap cellAt
 own-as-near b t k bits border threshold own =
     record { bits = sym bits; border = sym border; threshold = sym threshold; greys = λ i l. near-greys i l ∙ sym (own i l) }
 
@@ -136,11 +136,11 @@ table-is = refl
 -- ---- the reader
 -- the sections of the record, and the byte range of its first cell's grid
 outline : (b : List ℕ) → length b ≡ 84 → SameBetween 0 15 (pairRecord 200) b → SameBetween 31 34 (pairRecord 200) b → SameOutline (pairRecord 200) b
-unfolding pair bytesOf littleEndian fromBits number thresholdAt pxAt tableAt rowsAt cellCountAt cellMap cellAt
+unfolding pair bytesOf littleEndian fromBits number thresholdAt pxAt tableAt leastWeightAt rowsAt cellCountAt cellMap cellAt
 outline b long header map = record { size = sym long; header = header; map = map }
 
 first-part : partOf (pairRecord 200) 0 ≡ record { first = 43; end = 59 }
-unfolding pair bytesOf littleEndian fromBits number thresholdAt pxAt tableAt rowsAt cellCountAt cellMap cellAt list wholeRecord parse
+unfolding pair bytesOf littleEndian fromBits number thresholdAt pxAt tableAt leastWeightAt rowsAt cellCountAt cellMap cellAt list wholeRecord parse
 first-part = refl
 
 first-grid : gridAnswer (parse (pairRecord 200)) 0 ≡ greys 200 10 200 10
@@ -164,7 +164,7 @@ agrees g =
     (refl, same 0 15 15 refl refl, same 31 3 34 refl refl, same 43 16 59 refl refl)
 
 -- ---- the sections, and parsing back
-pair-bytes : Bytes (pairRecord 200)
+pub pair-bytes : Bytes (pairRecord 200)
 pair-bytes = all-bytes (pairRecord 200) pair-small
 
 pair-map : mapByte (pairRecord 200) ≡ 0
@@ -172,11 +172,11 @@ unfolding bytesOf
 pair-map = refl
 
 codes-at : codesAt (pairRecord 200) ≡ 15
-unfolding bytesOf thresholdAt pxAt tableAt rowsAt
+unfolding bytesOf thresholdAt pxAt tableAt leastWeightAt rowsAt
 codes-at = refl
 
 code-count : codeCount (pairRecord 200) ≡ 2
-unfolding pair bytesOf littleEndian number thresholdAt pxAt tableAt rowsAt
+unfolding pair bytesOf littleEndian number thresholdAt pxAt tableAt leastWeightAt rowsAt
 code-count = refl
 
 cells-at : cellCountAt (pairRecord 200) ≡ 31
@@ -212,6 +212,8 @@ unsampled-fits u v fu fv =
       table = written-back (pairRecord 200) pair-bytes (pair 200) pair-parses .fits .table;
       table-size = refl;
       table-default = refl;
+      least-weight = lit< tt;
+      least-weight-default = refl;
       rows = lit< tt;
       cols = lit< tt;
       bits = lit< tt;

@@ -28,7 +28,7 @@ use Rattle.board.specs.Questions.{askedOfSize, askedOfBoard}
 use Rattle.board.proofs.Laws.{corners}
 use Rattle.board.proofs.Surroundings.{inner-corner}
 use Rattle.score_matrix.specs.Table.{patterns}
-use Rattle.shot_record.specs.Fields.{mapByte, number, thresholdAt, pxAt, tableAt, rowsAt, cellCountAt, cellMap, cellAt}
+use Rattle.shot_record.specs.Fields.{mapByte, number, thresholdAt, pxAt, tableAt, leastWeightAt, rowsAt, cellCountAt, cellMap, cellAt}
 use Rattle.shot_record.specs.Shots.{Sample, Shot, list, wholeRecord, parse}
 use Rattle.shot_record.specs.Answers.{specOf}
 use Rattle.shot_record.specs.Writing.{littleEndian, bytesOf}
@@ -76,7 +76,7 @@ unfolding legacyShot
 by-half = record { legacy = refl; even-rows = refl; odd-cols = refl }
 
 old-parses : parse (bytesOf 16 old) ≡ some old
-unfolding legacyShot bytesOf littleEndian fromBits number thresholdAt pxAt tableAt rowsAt cellCountAt cellMap cellAt list wholeRecord parse
+unfolding legacyShot bytesOf littleEndian fromBits number thresholdAt pxAt tableAt leastWeightAt rowsAt cellCountAt cellMap cellAt list wholeRecord parse
 old-parses = refl
 
 old-board : askedOfBoard (specOf old) (old .codes) none ≡ none

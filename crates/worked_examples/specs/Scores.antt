@@ -10,7 +10,7 @@ use lib.ListN.{replicate}
 use lib.Ieee.{Float, binary32, ofBits}
 use Rattle.refusal.specs.declared.Refusal.the-variants as refusal
 use Rattle.lent_list.specs.Front.{inFront}
-use Rattle.shot_record.specs.Shots.{Cell, Shot, list, defaultMargin, defaultThreshold, defaultPx}
+use Rattle.shot_record.specs.Shots.{Cell, Shot, list, defaultMargin, defaultThreshold, defaultPx, defaultLeastWeight}
 use Rattle.hypothesis.specs.ScoreList.{scoreIn, scoreList}
 use Rattle.board_match.specs.Scores.{scoreRoomAnswer, refusedWithScores}
 use Rattle.worked_examples.specs.Table.{zeroFloat, minusSix, twoCells}
@@ -28,6 +28,7 @@ smallShot table border codes cells =
       borderThreshold = defaultThreshold;
       pxPerSquare = defaultPx;
       table = table;
+      leastWeight = defaultLeastWeight;
       rows = 2;
       cols = 2;
       bits = 2;

@@ -22,7 +22,7 @@ use Rattle.score_matrix.specs.declared.BoardMatchConfig.{BoardMatchConfig}
 use Rattle.score_matrix.specs.declared.BorderSample.the-variants as border
 use Rattle.score_matrix.specs.Weights.{weight}
 use Rattle.score_matrix.specs.Table.{patterns}
-use Rattle.shot_record.specs.Shots.{Sample, Cell, Shot, defaultMargin, defaultThreshold, defaultPx}
+use Rattle.shot_record.specs.Shots.{Sample, Cell, Shot, defaultMargin, defaultThreshold, defaultPx, defaultLeastWeight}
 use Rattle.shot_record.specs.Writing.{bytesOf}
 use Rattle.ranking.specs.declared.Evidence.the-variants as evidence
 use Rattle.ranking.specs.declared.Hypothesis.{Hypothesis}
@@ -68,10 +68,15 @@ four = ofBits binary32 0x40800000
 abbrev pub minusSix : Float
 minusSix = ofBits binary32 0xC0C00000
 
--- settings c with another border threshold
+-- settings c with another border threshold, and the least weight 0: document 01 has none
 abbrev pub overThreshold : BoardMatchConfig → Float → BoardMatchConfig
 overThreshold c threshold =
-    record { «px_per_square» = c .«px_per_square»; «alignment_min_margin» = c .«alignment_min_margin»; «cell_weight_border_threshold» = threshold }
+    record {
+      «px_per_square» = c .«px_per_square»;
+      «alignment_min_margin» = c .«alignment_min_margin»;
+      «cell_weight_border_threshold» = threshold;
+      «least_weight» = zeroFloat;
+    }
 
 -- a placement with its evidence, to which n cells contribute
 abbrev pub evident : GridAlignment → ℕ → Float → Hypothesis
@@ -88,6 +93,7 @@ showing s u first second =
       borderThreshold = s .borderThreshold;
       pxPerSquare = s .pxPerSquare;
       table = s .table;
+      leastWeight = s .leastWeight;
       rows = 4;
       cols = 5;
       bits = s .bits;
@@ -108,6 +114,7 @@ tooWide =
       borderThreshold = defaultThreshold;
       pxPerSquare = defaultPx;
       table = patterns;
+      leastWeight = defaultLeastWeight;
       rows = 4;
       cols = 5;
       bits = 4;

@@ -29,7 +29,7 @@ use Rattle.board.specs.Layout.{holdsMarker, oddParity, parityOf, squareOf, corn
 use Rattle.score_matrix.specs.Scores.{score, readCode}
 use Rattle.score_matrix.specs.Table.{patterns}
 use Rattle.shot_record.specs.Fields.{byte, mapByte, samplePlace, thresholdFrom, gridFrom}
-use Rattle.shot_record.specs.Shots.{Sample, Cell, Shot, defaultMargin, defaultThreshold, defaultPx, parse}
+use Rattle.shot_record.specs.Shots.{Sample, Cell, Shot, defaultMargin, defaultThreshold, defaultPx, defaultLeastWeight, parse}
 use Rattle.shot_record.specs.Answers.{gridAnswer, partAnswer}
 use Rattle.shot_record.specs.Unchanged.{SameBetween}
 use Rattle.shot_record.specs.Writing.{joined, cellFields, bytesOf, Bytes}
@@ -65,6 +65,7 @@ twoByTwo minimum cells =
       borderThreshold = defaultThreshold;
       pxPerSquare = defaultPx;
       table = patterns;
+      leastWeight = defaultLeastWeight;
       rows = 2;
       cols = 2;
       bits = 2;
@@ -103,6 +104,7 @@ elsewhere =
       borderThreshold = defaultThreshold;
       pxPerSquare = defaultPx;
       table = patterns;
+      leastWeight = defaultLeastWeight;
       rows = 3;
       cols = 3;
       bits = 2;
@@ -269,6 +271,7 @@ twoByThree legacy codes =
       borderThreshold = defaultThreshold;
       pxPerSquare = defaultPx;
       table = patterns;
+      leastWeight = defaultLeastWeight;
       rows = 2;
       cols = 3;
       bits = 2;

@@ -2,6 +2,7 @@
 
 mod counts;
 mod faults;
+mod least_weights;
 mod look_alikes;
 mod many_codes;
 mod numbers;
@@ -19,6 +20,7 @@ use cases::prng::Prng;
 use records::{Shot, damage, settings, write};
 use std::ops::Range;
 
+pub use least_weights::{INVALID, VALID, two_small_boards};
 pub use restate::sheet;
 pub use scene::{Look, Scene, markers_of};
 pub use score_arrays::{LENGTHS, Length, ScoreArray};
@@ -42,7 +44,7 @@ pub struct Kind {
 }
 
 /// No two cells of a shot that passes check 12 have the same position, except in the kind of duplicate positions and by damage.
-pub const KINDS: [Kind; 19] = [
+pub const KINDS: [Kind; 20] = [
     shots("true placements", 18_000, numbers::shown),
     shots("ties", 15_000, ties::shot),
     shots("tiny boards", 12_000, ties::tiny_board).titled("boards of 2 × 2 to 3 × 3 squares"),
@@ -72,12 +74,15 @@ pub const KINDS: [Kind; 19] = [
     shots("points nearly alike", 12_000, repeats::nearly).titled("positions that are nearly equal"),
     shots("counts of contributing cells", 10_000, counts::shot),
     kind("many codes", 2_000, Make::Given(many_codes::given)),
+    kind("least weights", 20_000, Make::Given(least_weights::given)),
 ];
 
-/// The places of the kinds for duplicate positions, of the one for counts, and of the one with many codes.
+/// The places of the kinds for duplicate positions, of the one for counts, of the one with many codes, and of the one with least
+/// weights.
 pub const OF_REPEATS: Range<usize> = 15..17;
 pub const OF_COUNTS: usize = 17;
 pub const OF_MANY_CODES: usize = 18;
+pub const OF_LEAST_WEIGHTS: usize = 19;
 
 /// The same kinds of legacy boards, half as many records of each.
 pub const LEGACY_KINDS: [Kind; KINDS.len()] = of_legacy_boards(KINDS, 2);
@@ -220,7 +225,7 @@ fn damaged(prng: &mut Prng, legacy: bool) -> Given {
     let one_of =
         |prng: &mut Prng, mut records: Vec<Vec<u8>>| records.swap_remove(prng.place(records.len()));
     let record = match prng.below(8) {
-        0 => one_of(prng, damage::bits_without_field(&written, shot.cells.len())),
+        0 => one_of(prng, damage::upper_bits(&written, shot.cells.len())),
         1 => one_of(prng, damage::counts(&written)),
         2 => one_of(prng, damage::one_byte_more(&written.bytes).to_vec()),
         3 | 4 => written.bytes[..prng.place(written.bytes.len())].to_vec(),

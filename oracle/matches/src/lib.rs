@@ -4,6 +4,7 @@
 mod answer;
 pub mod codes;
 pub mod counts;
+pub mod cuts;
 pub mod exact;
 pub mod given;
 mod model;
@@ -14,6 +15,7 @@ mod rust;
 pub mod scores;
 mod text;
 mod turned;
+pub mod weights;
 mod wide;
 
 pub use answer::{

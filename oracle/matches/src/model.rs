@@ -1,8 +1,9 @@
-//! The match by the rules of document 01 alone, for tables that no formula gives and for legacy boards with an even row
+//! The match by the rules of the documents alone, for tables that no formula gives and for legacy boards with an even row
 //! count: naive, sentence by sentence, without upstream. It is compared with upstream, also for such boards, which are
 //! rotated for it (`turned.rs`), where there is a formula. All scores of a shot, for a match with scores, are here too.
 
 use crate::answer::{Alignment, Hypothesis, Marker, Matched, Placed, Selected, below_minimum};
+use crate::weights::{USES, Uncut, Use, weight};
 use cases::answer::Answer;
 use cases::cells::Cell as Grid;
 use cases::codes::turned_code;
@@ -17,10 +18,15 @@ const LEAST_CAPACITY: f32 = 1.0 / 8_388_608.0;
 
 /// A shot that passes the checks 1 to 8, 22, 9, 10, 12, 23, 13 and 14.
 pub fn match_shot(shot: &Shot) -> Matched {
+    match_by(shot, weight)
+}
+
+/// The same with other weights.
+pub fn match_by(shot: &Shot, weight: impl Fn(Use, &Uncut) -> f32) -> Matched {
     if shot.cells.is_empty() {
         return Err(Answer::refused(11));
     }
-    let model = Model::new(shot);
+    let model = Model::by(shot, weight);
     let Some(selected) = model.selected(&model.hypotheses()) else {
         return Err(Answer::refused(15));
     };
@@ -70,21 +76,30 @@ pub struct Model<'a> {
     markers: Vec<Option<usize>>,
     /// The samples of each cell.
     grids: Vec<Option<Grid>>,
+    /// By the places of `USES`, of each cell.
+    weights: [Vec<f32>; USES.len()],
 }
 
 impl<'a> Model<'a> {
     pub fn new(shot: &'a Shot) -> Self {
+        Self::by(shot, weight)
+    }
+
+    fn by(shot: &'a Shot, weight: impl Fn(Use, &Uncut) -> f32) -> Self {
         let [rows, cols] = [shot.rows, shot.cols].map(u32::from);
         let mut markers = vec![None; (rows * cols) as usize];
         for (id, [i, j]) in marker_squares(rows, cols, shot.is_legacy()).enumerate() {
             markers[(j * cols + i) as usize] = Some(id);
         }
         let samples = shot.cells.iter().map(|cell| cell.sample.as_ref());
+        let uncut = Uncut::all(shot);
+        let weights = |of: Use| uncut.iter().map(|uncut| weight(of, uncut)).collect();
         Self {
             shot,
             table: shot.table.map(f32::from_bits),
             markers,
             grids: samples.map(|sample| Some(shot.grid(sample?))).collect(),
+            weights: USES.map(weights),
         }
     }
 
@@ -147,30 +162,30 @@ impl<'a> Model<'a> {
         Hypothesis {
             alignment: at,
             evidence: weighted.fold(None, |sum, part| Some(sum.unwrap_or(0.0) + part)),
-            contributing_cells: contributing.len(),
+            contributing_cells: self.weighing(Use::Count, at).len(),
         }
     }
 
-    /// The cells in order, with the ids of the markers expected there, that have a weight above 0.
     pub fn contributing(&self, at: Alignment) -> Vec<(usize, usize)> {
+        self.weighing(Use::Evidence, at)
+    }
+
+    /// The cells in order, with the ids of the markers expected there, that have a weight above 0.
+    fn weighing(&self, of: Use, at: Alignment) -> Vec<(usize, usize)> {
         let cells = self.shot.cells.iter().enumerate();
         let expected = cells.filter_map(|(place, cell)| {
             let id = self.markers[self.square(cell, at)?]?;
-            (self.weight(place) > 0.0).then_some((place, id))
+            (self.weight_for(of, place) > 0.0).then_some((place, id))
         });
         expected.collect()
     }
 
     pub fn weight(&self, cell: usize) -> f32 {
-        let Some(sample) = &self.shot.cells[cell].sample else {
-            return 0.0;
-        };
-        let threshold = f32::from_bits(self.shot.border_threshold);
-        if threshold <= 0.0 {
-            return 1.0;
-        }
-        let ratio = f32::from_bits(sample.fraction) / threshold;
-        if ratio > 1.0 { 1.0 } else { ratio }
+        self.weight_for(Use::Evidence, cell)
+    }
+
+    fn weight_for(&self, of: Use, cell: usize) -> f32 {
+        self.weights[of as usize][cell]
     }
 
     fn grid(&self, cell: usize) -> &Grid {
@@ -217,8 +232,9 @@ impl<'a> Model<'a> {
     }
 
     fn capacity(&self, at: Alignment) -> f32 {
-        let contributing = self.contributing(at).into_iter();
-        let weighted = contributing.map(|(cell, _)| self.weight(cell) * -self.null_score());
+        let weighing = self.weighing(Use::Capacity, at).into_iter();
+        let weights = weighing.map(|(cell, _)| self.weight_for(Use::Capacity, cell));
+        let weighted = weights.map(|weight| weight * -self.null_score());
         weighted.fold(0.0, |sum, capacity| sum + capacity)
     }
 
@@ -235,7 +251,7 @@ impl<'a> Model<'a> {
 
     /// Of the contributing cells those whose markers are emitted.
     pub fn emitted(&self, at: Alignment) -> Vec<(usize, usize)> {
-        let mut emitted = self.contributing(at);
+        let mut emitted = self.weighing(Use::Emission, at);
         emitted.retain(|&(cell, id)| self.evidence(cell, id, at.turn) > 0.0);
         emitted
     }

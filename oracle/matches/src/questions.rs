@@ -180,13 +180,8 @@ type Asked = (u32, bool);
 
 /// From 9 on, but for 11.
 fn after_board(shot: &Shot, lengths: Lengths) -> [Asked; 7] {
-    let settings = [
-        shot.minimum_margin,
-        shot.border_threshold,
-        shot.px_per_square,
-    ];
     [
-        (9, settings.iter().all(|&x| f32::from_bits(x).is_finite())),
+        (9, settings_in_range(shot)),
         (10, is_table(&shot.table.map(f32::from_bits))),
         (12, cells_in_range(shot)),
         (23, no_point_twice(shot)),
@@ -226,6 +221,17 @@ fn arguments(shot: &Shot) -> BoardArguments {
     }
 }
 
+/// Check 9. That of the least weight is numeric, so that -0.0 passes (document 02, 2.8).
+fn settings_in_range(shot: &Shot) -> bool {
+    let settings = [
+        shot.minimum_margin,
+        shot.border_threshold,
+        shot.px_per_square,
+    ];
+    let least_weight = f32::from_bits(shot.least_weight);
+    settings.iter().all(|&x| f32::from_bits(x).is_finite()) && (0.0..=1.0).contains(&least_weight)
+}
+
 /// Check 12.
 fn cells_in_range(shot: &Shot) -> bool {
     let in_range = |x: i16| (-FARTHEST..=FARTHEST).contains(&x.into());
@@ -250,7 +256,7 @@ fn samples_in_range(shot: &Shot) -> bool {
 }
 
 /// By which the formula gives the table, if it is one of the known.
-fn slope_and_floor(table: &[u32; TABLE_LENGTH]) -> Option<[f32; 2]> {
+pub(crate) fn slope_and_floor(table: &[u32; TABLE_LENGTH]) -> Option<[f32; 2]> {
     let known = FORMULAS.iter().find(|(_, by_formula)| by_formula == table);
     known.map(|&(slope_and_floor, _)| slope_and_floor)
 }

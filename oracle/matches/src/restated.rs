@@ -149,3 +149,11 @@ pub const WRONG_REVERSED: Wrong = wrong("codes reversed that must stay", |shot| 
     codes: reversed(shot, markers_of(shot.rows, shot.cols), turned_twice),
     ..without_flag(shot)
 });
+
+/// Of every board that has a least weight (document 02, 2.8).
+pub const WRONG_FIELD: Wrong = wrong("the least weight left out", |shot| {
+    let mut new = restated(shot);
+    new.map &= !settings::LEAST_WEIGHT;
+    new.least_weight = 0;
+    new
+});

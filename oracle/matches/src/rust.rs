@@ -1,4 +1,5 @@
-//! A shot in the shapes of upstream, and the answer of its matcher.
+//! A shot in the shapes of upstream, and the answer of its matcher. Upstream has no least weight (document 02, 2.8): a cell that
+//! is cut comes to it with the fraction 0, by which its weight is 0.
 
 use crate::answer::{Alignment, Hypothesis, Marker, Matched, Placed, Selected, below_minimum};
 use crate::questions::board;
@@ -11,7 +12,7 @@ use calib_targets_charuco::{
 use calib_targets_core::{Coord, GRID_TRANSFORMS_C4, GridAlignment};
 use cases::answer::Answer;
 use records::Shot;
-use theirs::cell_samples;
+use theirs::{cell_samples, cut};
 
 /// A shot that passes the checks 1 to 10. That two markers are equal up to rotation does not matter to upstream.
 pub struct Matching {
@@ -38,12 +39,36 @@ impl Matching {
         });
         let settings = MatchSettings::new(slope_and_floor, f32::from_bits(shot.border_threshold));
         let [px, margin] = [shot.px_per_square, shot.minimum_margin].map(f32::from_bits);
-        Self {
+        let mut matching = Self {
             board: board(shot).expect("a board that is accepted"),
             cells: cells.collect(),
             samples: samples.collect(),
             settings: settings.with(px, margin),
+        };
+        let least_weight = f32::from_bits(shot.least_weight);
+        if least_weight > 0.0 {
+            matching.cut(least_weight);
         }
+        matching
+    }
+
+    /// By upstream's weights. With a border threshold of at most 0 they are all 1, and none is cut.
+    fn cut(&mut self, least_weight: f32) {
+        let weights = self.score_matrix().weights().to_vec();
+        for (sample, weight) in self.samples.iter_mut().zip(weights) {
+            if let Some(sample) = sample
+                && cut(weight, least_weight) != weight
+            {
+                sample.border_black_fraction = 0.0;
+            }
+        }
+        let weights = self.score_matrix().weights().to_vec();
+        assert!(weights.iter().all(|&w| w == 0.0 || w >= least_weight));
+    }
+
+    fn score_matrix(&self) -> ScoredCells {
+        let matrix = ScoredCells::new(&self.board, &self.samples, self.settings);
+        matrix.expect("a board that is made has markers")
     }
 
     pub fn samples(&self) -> Samples {
@@ -83,9 +108,7 @@ impl Matching {
 
     /// All scores of upstream's matrix, with 0 in place of the minus infinity of a cell that is not sampled.
     pub fn scores(&self) -> Vec<f32> {
-        let matrix = ScoredCells::new(&self.board, &self.samples, self.settings);
-        let matrix = matrix.expect("a board that is made has markers");
-        let mut scores = matrix.all().to_vec();
+        let mut scores = self.score_matrix().all().to_vec();
         let of_cells = scores.chunks_mut(self.board.marker_count() * 4);
         for (of_cell, sample) in of_cells.zip(&self.samples) {
             if sample.is_none() {

@@ -7,6 +7,7 @@
 use crate::given::markers_of;
 use crate::model::Model;
 use crate::rust::Matching;
+use crate::weights::Uncut;
 use records::Shot;
 
 /// No array needs more elements: 256 cells, 512 markers, 4 rotations.
@@ -67,7 +68,7 @@ const fn case(name: &'static str, is_so: fn(&Filled) -> bool) -> Case {
     Case { name, is_so }
 }
 
-pub const CASES: [Case; 11] = [
+pub const CASES: [Case; 12] = [
     case("an unsampled cell where no element was 0", |filled| {
         filled.has_cell(false, |_, [_, before]| before.iter().all(|&bits| bits != 0))
     }),
@@ -100,6 +101,12 @@ pub const CASES: [Case; 11] = [
     }),
     case("codes of 1 × 1 bit", |filled| filled.shot.bits == 1),
     case("codes of 8 × 8 bits", |filled| filled.shot.bits == 8),
+    case("a cell that is cut with other scores than 0", |filled| {
+        let cells = Uncut::all(filled.shot);
+        filled.has_cell(true, |cell, [scores, _]| {
+            cells[cell].is_lost() && scores.iter().any(|&bits| bits != 0)
+        })
+    }),
 ];
 
 /// In how many arrays each case comes up, by the places of `CASES`.

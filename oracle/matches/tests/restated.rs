@@ -80,12 +80,13 @@ fn order_of_the_checks() {
     assert_eq!(number(&unmarked, needed), Ok(unmarked));
 }
 
-/// What only a match refuses stays, bit for bit: a signalling NaN, a table of NaNs, a fraction below 0, a repeated cell.
+/// What only a match refuses stays, bit for bit: signalling NaNs, a table of NaNs, a fraction below 0, a repeated cell.
 #[test]
 fn other_fields_stay() {
     let mut shot = two_by_three([1, 3, 7, 5]);
     shot.map |= 15;
     shot.minimum_margin = 0x7F80_0001;
+    shot.set_least_weight(0xFF80_0001);
     shot.table.fill(0xFFC0_1234);
     shot.cells = vec![showing(0, 1), showing(0, 1), UNSAMPLED];
     for sample in shot.samples_mut() {
@@ -94,8 +95,8 @@ fn other_fields_stay() {
     let old = write(&shot).bytes;
     let new = restate(&old, old.len()).expect("a board that is accepted");
     let differing: Vec<usize> = (0..old.len()).filter(|&k| old[k] != new[k]).collect();
-    // The map byte, and the lowest bytes of three codes after 3 settings, 511 entries and 14 bytes of the board.
-    let first = 1 + 4 * (3 + 511) + 14;
+    // The map byte, and the lowest bytes of three codes after 4 settings, 511 entries and 14 bytes of the board.
+    let first = 1 + 4 * (4 + 511) + 14;
     assert_eq!(differing, [0, first, first + 8, first + 16]);
 }
 

@@ -9,7 +9,8 @@ use cases::prng::Prng;
 pub fn all(prng: &mut Prng, shot: &Shot) -> Vec<Vec<u8>> {
     let written = write(shot);
     [
-        bits_without_field(&written, shot.cells.len()),
+        upper_bits(&written, shot.cells.len()),
+        before_rows(&written),
         map_bytes(&written.bytes),
         counts(&written),
         one_byte_more(&written.bytes).to_vec(),
@@ -33,22 +34,38 @@ pub fn marked(mut record: Vec<u8>) -> Vec<u8> {
 
 /// Each spare bit of both maps set by itself: those of the map byte, then those of the cell map.
 pub fn spare_bits(written: &Written, cells: usize) -> Vec<Vec<u8>> {
-    let mark_and_spare = bits_without_field(written, cells);
-    mark_and_spare[1..].to_vec()
+    let known = settings::UPPER.len() - settings::SPARE.len();
+    upper_bits(written, cells).split_off(known)
 }
 
-/// Likewise, with the legacy flag, which only looks like damage, before the others.
-pub fn bits_without_field(written: &Written, cells: usize) -> Vec<Vec<u8>> {
+/// Likewise, with two bits before the others: the legacy flag, which only looks like damage, and the flag of the least weight,
+/// whose field is missing from a record that has no such flag.
+pub fn upper_bits(written: &Written, cells: usize) -> Vec<Vec<u8>> {
     let last = written.cell_map_at + cells / 8;
     let spare = match cells % 8 {
         0 => 8..8,
         used => used..8,
     };
-    let of_map = settings::WITHOUT_FIELD.map(|bit| (0, bit)).into_iter();
+    let of_map = settings::UPPER.map(|bit| (0, bit)).into_iter();
     let of_cells = spare.map(|place| (last, 1 << place));
     let bits = of_map.chain(of_cells);
     bits.map(|(place, bit)| changed(&written.bytes, |record| record[place] |= bit))
         .collect()
+}
+
+/// One to four bytes less before the rows, where the least weight is, as far as there are so many, and four more.
+pub fn before_rows(written: &Written) -> Vec<Vec<u8>> {
+    let at = written.rows_at;
+    let less = (1..=4).filter(|&count| count < at);
+    let less = less.map(|count| {
+        changed(&written.bytes, |record| {
+            record.drain(at - count..at);
+        })
+    });
+    let more = changed(&written.bytes, |record| {
+        record.splice(at..at, [0; 4]);
+    });
+    less.chain([more]).collect()
 }
 
 /// Every number in the place of the map byte.

@@ -55,7 +55,7 @@ impl<'a> Cursor<'a> {
 fn whole(cursor: &mut Cursor) -> Option<Read> {
     let mut shot = Shot::default();
     [shot.map] = cursor.array()?;
-    if shot.map > 0b1_1111 {
+    if shot.map > 0b11_1111 {
         return None;
     }
     let map = shot.map;
@@ -74,6 +74,9 @@ fn whole(cursor: &mut Cursor) -> Option<Read> {
         for entry in &mut shot.table {
             *entry = cursor.float()?;
         }
+    }
+    if given(5) {
+        shot.least_weight = cursor.float()?;
     }
     [shot.rows, shot.cols, shot.bits, shot.border] = cursor.array()?;
     shot.cell_size = cursor.float()?;

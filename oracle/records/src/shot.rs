@@ -12,9 +12,17 @@ pub mod settings {
     pub const TABLE: u8 = 8;
     /// Marks a legacy board (document 02, 2.1); it brings no field.
     pub const LEGACY: u8 = 16;
-    pub const SPARE: [u8; 3] = [32, 64, 128];
-    /// The legacy flag and the spare bits.
-    pub const WITHOUT_FIELD: [u8; 4] = [LEGACY, 32, 64, 128];
+    /// Brings the least weight, after the table (document 02, 2.8).
+    pub const LEAST_WEIGHT: u8 = 32;
+    pub const SPARE: [u8; 2] = [64, 128];
+    /// Every map byte without the legacy flag and spare bits.
+    pub fn presence_flags() -> impl Iterator<Item = u8> {
+        let of_document_01 = 0..LEGACY;
+        of_document_01.flat_map(|map| [map, map | LEAST_WEIGHT])
+    }
+
+    /// The bits that document 01 leaves spare: the two of document 02, and those that still are.
+    pub const UPPER: [u8; 4] = [LEGACY, LEAST_WEIGHT, 64, 128];
 }
 
 /// Computed once: a reader wants it for most records.
@@ -32,6 +40,7 @@ pub struct Shot {
     pub border_threshold: u32,
     pub px_per_square: u32,
     pub table: [u32; TABLE_LENGTH],
+    pub least_weight: u32,
     pub rows: u8,
     pub cols: u8,
     pub bits: u8,
@@ -75,7 +84,7 @@ impl Sample {
 }
 
 impl Default for Shot {
-    /// Nothing given, by which the settings are those of document 01; no code, no cell.
+    /// Nothing given, by which the settings are those of document 01 and the least weight is 0; no code, no cell.
     fn default() -> Self {
         Self {
             map: 0,
@@ -83,6 +92,7 @@ impl Default for Shot {
             border_threshold: 0.5f32.to_bits(),
             px_per_square: 60.0f32.to_bits(),
             table: built_in_table(),
+            least_weight: 0,
             rows: 2,
             cols: 2,
             bits: 2,
@@ -112,13 +122,14 @@ impl Shot {
     }
 
     /// The floats that a record may give, with their bits in the map byte, in the order of a record.
-    pub fn given_mut(&mut self) -> [(u8, &mut [u32]); 4] {
+    pub fn given_mut(&mut self) -> [(u8, &mut [u32]); 5] {
         let one = std::slice::from_mut;
         [
             (settings::MINIMUM_MARGIN, one(&mut self.minimum_margin)),
             (settings::BORDER_THRESHOLD, one(&mut self.border_threshold)),
             (settings::PX_PER_SQUARE, one(&mut self.px_per_square)),
             (settings::TABLE, &mut self.table),
+            (settings::LEAST_WEIGHT, one(&mut self.least_weight)),
         ]
     }
 
@@ -137,6 +148,12 @@ impl Shot {
     pub fn set_minimum_margin(&mut self, margin: f32) {
         self.map |= settings::MINIMUM_MARGIN;
         self.minimum_margin = margin.to_bits();
+    }
+
+    /// Gives a least weight.
+    pub const fn set_least_weight(&mut self, bits: u32) {
+        self.map |= settings::LEAST_WEIGHT;
+        self.least_weight = bits;
     }
 
     /// The grey levels of a sample with the shot's bits and border.

@@ -1,7 +1,7 @@
 //! Special records, valid and damaged, and the places in them that show most.
 
 use crate::LONGEST;
-use crate::damage::{bits_without_field, counts, marked, spare_bits, with_bytes_changed};
+use crate::damage::{before_rows, counts, marked, spare_bits, upper_bits, with_bytes_changed};
 use crate::random::{FLOATS, Shape, filled};
 use crate::shot::{Cell, Sample, Shot, TABLE_LENGTH, UNSAMPLED, settings};
 use crate::write::write;
@@ -51,7 +51,7 @@ const ONE_OF_EACH: [Place; 3] = [Entry(255), Code(0), Place::Cell(0)];
 /// The bits of a float of four equal bytes, -1.498: a table of it is one run of a byte.
 const PLAIN_ENTRY: u32 = 0xBFBF_BFBF;
 
-/// The map byte of a record that gives every setting.
+/// The map byte of a record that gives every setting of document 01.
 const ALL: u8 = 15;
 
 /// Of four cells, so many are sampled where it does not matter how many.
@@ -80,6 +80,18 @@ pub fn telling_marked() -> Vec<Telling> {
     all.ask_shot(&shot, codes_and_cells(&shot).chain([Entry(255)]));
     marked_map_bytes(&mut all, &mut prng);
     marked_and_damaged(&mut all, &mut prng);
+    all.0
+}
+
+/// With a least weight (document 02, 2.8), each from a seed of its own.
+pub fn telling_least_weights(legacy: bool) -> Vec<Telling> {
+    let mut prng = Prng::new(if legacy { 38 } else { 37 });
+    let mut all = All::default();
+    let flags = settings::LEAST_WEIGHT | if legacy { settings::LEGACY } else { 0 };
+    with_maps(&mut all, &mut prng, flags..=flags | ALL);
+    least_weight_patterns(&mut all, &mut prng, flags);
+    least_weight_cut(&mut all, &mut prng, flags);
+    least_weight_damaged(&mut all, &mut prng, flags);
     all.0
 }
 
@@ -247,12 +259,8 @@ fn damaged(all: &mut All, prng: &mut Prng) {
         let written = write(&Shape::new(0, [1, 0], [2, cells], HALF).shot(prng));
         all.add(&written.bytes);
         // Those of the map byte come first.
-        let known = if cells == 0 {
-            0
-        } else {
-            settings::WITHOUT_FIELD.len()
-        };
-        for record in &bits_without_field(&written, cells)[known..] {
+        let known = if cells == 0 { 0 } else { settings::UPPER.len() };
+        for record in &upper_bits(&written, cells)[known..] {
             all.add(record);
         }
         if cells % 8 == 1 {
@@ -266,12 +274,12 @@ fn damaged(all: &mut All, prng: &mut Prng) {
     }
 }
 
-/// A spare bit beside the legacy flag, of both maps; a record cut short, wrong counts, bytes changed.
+/// A further bit beside the legacy flag, of both maps; a record cut short, wrong counts, bytes changed.
 fn marked_and_damaged(all: &mut All, prng: &mut Prng) {
     let shot = Shape::new(settings::LEGACY, [1, 0], [2, 3], HALF).shot(prng);
     let written = write(&shot);
-    for record in spare_bits(&written, shot.cells.len()) {
-        all.add(&record);
+    for record in &upper_bits(&written, shot.cells.len())[1..] {
+        all.add(record);
     }
     for cut in [1, 2, 13, written.bytes.len() - 1] {
         all.ask(&written.bytes[..cut], ONE_OF_EACH);
@@ -282,5 +290,51 @@ fn marked_and_damaged(all: &mut All, prng: &mut Prng) {
     for _ in 0..4 {
         let changed = with_bytes_changed(prng, &written.bytes);
         all.ask(&marked(changed), ONE_OF_EACH);
+    }
+}
+
+/// Each special float as the least weight.
+fn least_weight_patterns(all: &mut All, prng: &mut Prng, flags: u8) {
+    for float in FLOATS {
+        let mut shot = Shape::new(flags, [1, 0], [0, 0], HALF).shot(prng);
+        shot.least_weight = float;
+        all.ask_shot(&shot, [Entry(255)]);
+    }
+}
+
+/// One byte after the other; with a table at the lengths around the least weight, which is after it.
+fn least_weight_cut(all: &mut All, prng: &mut Prng, flags: u8) {
+    let record = write(&Shape::new(flags, [1, 0], [0, 0], HALF).shot(prng)).bytes;
+    for length in 1..record.len() {
+        all.add(&record[..length]);
+    }
+    let shape = Shape::new(flags | settings::TABLE, [1, 0], [1, 1], 4);
+    let written = write(&random_with_plain_table(prng, shape));
+    let end = written.rows_at;
+    for cut in (end - 5..end + 2).chain([written.bytes.len()]) {
+        all.ask(&written.bytes[..cut], ONE_OF_EACH);
+    }
+}
+
+/// The flag without the field, the field without the flag, spare bits beside the flag, bytes missing before the rows.
+fn least_weight_damaged(all: &mut All, prng: &mut Prng, flags: u8) {
+    let shot = Shape::new(flags, [1, 0], [2, 3], HALF).shot(prng);
+    let written = write(&shot);
+    let without = Shot {
+        map: flags & !settings::LEAST_WEIGHT,
+        ..shot.clone()
+    };
+    let missing = changed(&write(&without).bytes, |record| record[0] = flags);
+    let surplus = changed(&written.bytes, |record| record[0] = without.map);
+    let broken = [
+        vec![missing, surplus],
+        spare_bits(&written, shot.cells.len()),
+        before_rows(&written),
+    ];
+    for record in broken.concat() {
+        all.ask(&record, ONE_OF_EACH);
+    }
+    for _ in 0..4 {
+        all.ask(&with_bytes_changed(prng, &written.bytes), ONE_OF_EACH);
     }
 }

@@ -34,6 +34,7 @@ pub fn header(read: Record) -> Answer {
             shot.codes.len() as u32,
             shot.cells.len() as u32,
             shot.is_legacy().into(),
+            one_nan(shot.least_weight),
         ]
     })
 }

@@ -7,6 +7,7 @@ use crate::shot::{Shot, settings};
 #[derive(Clone, Debug)]
 pub struct Written {
     pub bytes: Vec<u8>,
+    pub rows_at: usize,
     pub code_count_at: usize,
     pub cell_count_at: usize,
     pub cell_map_at: usize,
@@ -20,12 +21,14 @@ pub fn write(shot: &Shot) -> Written {
         (settings::BORDER_THRESHOLD, &[shot.border_threshold]),
         (settings::PX_PER_SQUARE, &[shot.px_per_square]),
         (settings::TABLE, &shot.table),
+        (settings::LEAST_WEIGHT, &[shot.least_weight]),
     ];
     for (bit, floats) in given {
         if shot.map & bit != 0 {
             bytes.extend(floats.iter().flat_map(|float| float.to_le_bytes()));
         }
     }
+    let rows_at = bytes.len();
     bytes.extend([shot.rows, shot.cols, shot.bits, shot.border]);
     bytes.extend(shot.cell_size.to_le_bytes());
     bytes.extend(shot.marker_size_rel.to_le_bytes());
@@ -52,6 +55,7 @@ pub fn write(shot: &Shot) -> Written {
     }
     Written {
         bytes,
+        rows_at,
         code_count_at,
         cell_count_at,
         cell_map_at,

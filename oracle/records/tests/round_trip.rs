@@ -7,7 +7,7 @@ use records::{Shape, Shot, read, settings, told, write};
 fn shots() -> Vec<Shot> {
     let mut prng = Prng::new(31);
     let mut shots = vec![Shot::default()];
-    for map in 0..32 {
+    for map in 0..64 {
         for sides in [[0, 0], [1, 1], [2, 1], [9, 0], [4, 5]] {
             for cells in [0, 1, 7, 8, 9, 16, 40] {
                 let shape = Shape::new(map, sides, [cells / 3, cells], prng.below(5));
@@ -45,7 +45,7 @@ fn what_is_damaged_is_refused() {
     }
 }
 
-/// The legacy flag adds no field and changes no other: it is the last word of the header.
+/// The legacy flag adds no field and changes no other: it is the 13th word of the header.
 #[test]
 fn the_mark_of_a_legacy_board() {
     for shot in shots() {
@@ -59,11 +59,53 @@ fn the_mark_of_a_legacy_board() {
         assert_eq!(records[1][0], records[0][0] + 16);
         let headers = records.map(|record| {
             let header = told::header(read(&record).as_ref());
-            assert_eq!((header.number, header.words.len()), (0, 13));
+            assert_eq!((header.number, header.words.len()), (0, 14));
             header.words
         });
         assert_eq!(headers[0][1..12], headers[1][1..12]);
+        assert_eq!(headers[0][13], headers[1][13]);
         assert_eq!(headers.map(|words| words[12]), [0, 1]);
+    }
+}
+
+/// The least weight adds four bytes just before the rows, after the table where there is one, and is the last word of the
+/// header; without it that word is 0.
+#[test]
+fn the_least_weight() {
+    for shot in shots() {
+        let mut with = shot.clone();
+        with.set_least_weight(0x3E99_999A);
+        let without = Shot {
+            map: with.map & !settings::LEAST_WEIGHT,
+            least_weight: 0,
+            ..with.clone()
+        };
+        let [old, new] = [&without, &with].map(|shot| write(shot).bytes);
+        let floats = (0..4).filter(|bit| with.map >> bit & 1 == 1);
+        let lengths = floats.map(|bit| if bit == 3 { 2044 } else { 4 });
+        let at = 1 + lengths.sum::<usize>();
+        assert_eq!(new[0], old[0] + 32);
+        assert_eq!(new[1..at], old[1..at]);
+        assert_eq!(new[at..at + 4], [0x9A, 0x99, 0x99, 0x3E]);
+        assert_eq!(new[at + 4..], old[at..]);
+        let words = [&old, &new].map(|record| {
+            let header = told::header(read(record).as_ref());
+            header.words[13]
+        });
+        assert_eq!(words, [0, 0x3E99_999A]);
+    }
+}
+
+/// The flag without the field and the field without the flag, of the record of document 01.
+#[test]
+fn the_least_weight_and_its_flag() {
+    let mut shot = Shot::of_document_01();
+    let old = write(&shot).bytes;
+    shot.set_least_weight(0);
+    let new = write(&shot).bytes;
+    assert_eq!(read(&new).map(|read| read.shot), Some(shot));
+    for (map, rest) in [(40, &old[1..]), (8, &new[1..])] {
+        assert!(read(&[&[map], rest].concat()).is_none());
     }
 }
 

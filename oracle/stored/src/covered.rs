@@ -1,7 +1,8 @@
 //! Whether the answers in the file would show that any two words or fields are exchanged, that a word is left out, or that a
 //! kind of line is spelled otherwise; whether every number of a refusal comes up; whether cells at the same position are
 //! read; whether wrong counts of contributing cells would show; whether it would show that one of many codes is not checked;
-//! whether wrong score arrays would show; and whether wrong converters of records would.
+//! whether wrong score arrays would show; whether wrong converters of records would; and whether wrong programs for the least
+//! weight would.
 
 use crate::kinds::{self, Kind};
 use crate::script::{Asked, Script};
@@ -9,9 +10,11 @@ use cases::answer::Answer;
 use cases::codes::all_ones;
 use matches::codes::{alike as alike_codes, too_large};
 use matches::counts::{PAIRS, Shown, WRONG};
-use matches::given::{Length, markers_of};
-use matches::restated::{WRONG_CODES, WRONG_FLAG, WRONG_REVERSED, is_reversed};
+use matches::cuts::{self, ORDERS, Shown as ShownCuts};
+use matches::given::{INVALID, Length, markers_of};
+use matches::restated::{WRONG_CODES, WRONG_FIELD, WRONG_FLAG, WRONG_REVERSED, is_reversed};
 use matches::scores::CASES;
+use matches::weights::Uncut;
 use matches::{match_shot, told};
 use records::Shot;
 use std::collections::{BTreeMap, BTreeSet};
@@ -93,8 +96,37 @@ pub fn check(script: &Script) {
     let [without_mark, marked] = &script.counts;
     check_counts("matches", without_mark);
     check_counts("matches of legacy boards", marked);
+    let [without_mark, marked] = &script.cuts;
+    check_cuts("matches", without_mark);
+    check_cuts("matches of legacy boards", marked);
+    check_weights(&script.weights);
     check_scores(script);
     check_restated(&script.restated);
+}
+
+/// Every wrong program for the least weight would show, every case comes up, and so do two checks that fail.
+fn check_cuts(name: &str, shown: &ShownCuts) {
+    let wrong = cuts::WRONG.iter().map(|wrong| wrong.name).zip(shown.wrong);
+    let cases = cuts::CASES.iter().map(|case| case.name).zip(shown.cases);
+    for (case, count) in wrong.chain(cases) {
+        assert!(count > 0, "{name}, least weight: {case}");
+    }
+    for (least, count) in INVALID.iter().zip(shown.invalid) {
+        assert!(count > 0, "{name}, least weight {least:e}");
+    }
+    for (order, count) in ORDERS.iter().zip(shown.orders) {
+        assert!(count > 0, "{name}, least weight: checks {order:?}");
+    }
+}
+
+/// Weights by themselves show the wrong ones.
+fn check_weights(weights: &[Uncut]) {
+    for wrong in &cuts::WRONG {
+        let is_shown = |uncut: &Uncut| wrong.is_shown_by_weight(uncut);
+        let shown: Option<Vec<bool>> = weights.iter().map(is_shown).collect();
+        let is_shown = shown.is_none_or(|shown| shown.contains(&true));
+        assert!(is_shown, "weights: {}", wrong.name);
+    }
 }
 
 /// Every wrong converter would show, that of boards whose codes stay with even and with odd rows.
@@ -111,6 +143,8 @@ fn check_restated(shots: &[Shot]) {
     for is_odd in [false, true] {
         let mut legacy = by_parity(is_odd).filter(|shot| shot.is_legacy());
         assert!(legacy.any(|shot| WRONG_FLAG.is_shown_by(shot)));
+        let mut with_field = by_parity(is_odd);
+        assert!(with_field.any(|shot| WRONG_FIELD.is_shown_by(shot)));
         let mut staying = by_parity(is_odd).filter(|shot| !is_reversed(shot));
         assert!(staying.any(|shot| WRONG_REVERSED.is_shown_by(shot)));
     }

@@ -50,7 +50,7 @@ macro_rules! kinds {
 }
 
 kinds! {
-    HEADER = reader(0x5, "charuco_read_header", 0, 13);
+    HEADER = reader(0x5, "charuco_read_header", 0, 14);
     TABLE_ENTRY = reader(0x6, "charuco_table_entry", 1, 2);
     CODE = reader(0x7, "charuco_code", 1, 3);
     CELL = reader(0x8, "charuco_cell", 1, 5);
@@ -86,7 +86,7 @@ kinds! {
     RECT_CORNERS = part(0x14, "cell_rect_corners_at", 3, 8);
     BUILT_IN_TABLE = part(0x15, "built-in table", 1, 16);
     NULL_SCORE = part(0x16, "null score", 1, 1);
-    CELL_WEIGHT = part(0x17, "cell_weight", 3, 1);
+    CELL_WEIGHT = part(0x17, "cell_weight", 4, 1);
     SCORE = part(0x18, "score", 4, 4);
     MATCH_WITH_SCORES = Kind {
         of_result: MATCH.of_result,

@@ -5,6 +5,7 @@
 mod covered;
 mod entries;
 mod kinds;
+mod least_weights;
 mod many_codes;
 mod matches;
 mod parts;
@@ -28,7 +29,7 @@ fn main() -> io::Result<()> {
     entries::ask_links(&mut script, false);
     matches::ask(&mut script);
     // Legacy boards come after all others, equal codes after them, then cells at the same position, then counts, then many
-    // codes, then matches with scores, and restated records last, so that the rows before stay.
+    // codes, then matches with scores, then restated records, and least weights last, so that the rows before stay.
     parts::ask_layouts(&mut script, true);
     records::ask_marked(&mut script);
     entries::ask_corners(&mut script, true);
@@ -44,6 +45,7 @@ fn main() -> io::Result<()> {
     score_arrays::ask(&mut script, false);
     score_arrays::ask(&mut script, true);
     restated::ask(&mut script);
+    least_weights::ask(&mut script);
     covered::check(&script);
     for &kind in kinds::ALL {
         let rows = script.asked.iter().filter(|asked| asked.kind == kind);

@@ -3,7 +3,7 @@
 
 use crate::kinds::{ANSWER_TEXT, Kind, MATCH, TEXT};
 use crate::records::{ask_header, ask_place};
-use crate::script::{MOST_CELLS, Script, few, is_marked};
+use crate::script::{MOST_CELLS, Script, few, has_least_weight, is_marked};
 use cases::answer::Answer;
 use cases::cells::Cell as Grid;
 use cases::codes::{all_ones, listed_codes};
@@ -185,10 +185,10 @@ fn told(given: &Given) -> Answer {
     matches::told(&match_record(&given.record, given.places))
 }
 
-/// By which records are chosen: the number of the answer. One that has the legacy flag by damage alone counts as refused, as
-/// before bit 4 was the legacy flag (document 02, 2.1), so that the choice stays.
+/// By which records are chosen: the number of the answer. One that has the legacy flag or that of the least weight by damage
+/// alone counts as refused, as before the bits 4 and 5 were these flags (document 02, 2.1 and 2.8), so that the choice stays.
 fn chosen_by(kind: &GivenKind, given: &Given) -> u32 {
-    if is_marked(&given.record) && !kind.legacy {
+    if is_marked(&given.record) && !kind.legacy || has_least_weight(&given.record) {
         REFUSED
     } else {
         told(given).number

@@ -9,14 +9,16 @@ use crate::script::{Script, digest, float, signed};
 use cases::answer::Answer;
 use cases::codes::{SIDES, TURNS, patterns, random_code, single_bits};
 use cases::floats::{
-    BORDER_THRESHOLDS, FRACTIONS, GOOD_CELL_SIZES, PIXELS, float_bits, random_finite,
+    BORDER_THRESHOLDS, FRACTIONS, GOOD_CELL_SIZES, LEAST, PIXELS, THIRD, float_bits, random_finite,
     random_fraction,
 };
 use cases::layout::sizes;
 use cases::points::{TELLING, random_point};
 use cases::prng::Prng;
+use matches::given::{INVALID, VALID};
+use matches::weights::Uncut;
 use std::collections::BTreeSet;
-use theirs::{BORDER_THRESHOLD, BUILT_IN, Board, likelihood_table};
+use theirs::{BORDER_THRESHOLD, BUILT_IN, Board, cut, likelihood_table};
 
 const SINGLE_BITS: usize = 5;
 const RANDOM_CODES: usize = 6;
@@ -168,12 +170,11 @@ fn table(script: &mut Script) {
     }
 }
 
+/// Without a least weight, which is then 0.
 fn weights(script: &mut Script) {
     let mut prng = Prng::new(17);
     let mut ask = |threshold: f32, sampled: bool, fraction: f32| {
-        let weight = [theirs::cell_weight(threshold, sampled, fraction)];
-        let arguments = [float(threshold), sampled.into(), float(fraction)];
-        script.ask(CELL_WEIGHT, &arguments, of_floats(&weight));
+        ask_weight(script, threshold, 0.0, sampled, fraction);
     };
     for fraction in FRACTIONS {
         ask(BORDER_THRESHOLD, true, fraction);
@@ -191,5 +192,49 @@ fn weights(script: &mut Script) {
         let fraction = random_fraction(&mut prng);
         ask(random_fraction(&mut prng), true, fraction);
         ask(random_finite(&mut prng), true, fraction);
+    }
+}
+
+/// The cut of upstream's weight.
+fn ask_weight(script: &mut Script, threshold: f32, least: f32, sampled: bool, fraction: f32) {
+    let weight = theirs::cell_weight(threshold, sampled, fraction);
+    let arguments = [
+        float(threshold),
+        float(least),
+        sampled.into(),
+        float(fraction),
+    ];
+    script.ask(CELL_WEIGHT, &arguments, of_floats(&[cut(weight, least)]));
+    script.weights.push(Uncut {
+        weight,
+        fraction: sampled.then_some(fraction),
+        least,
+    });
+}
+
+/// With a least weight (document 02, 2.8): at the weight and next to it; those that check 9 passes and refuses, as a weight is
+/// defined for all.
+pub fn ask_least_weights(script: &mut Script) {
+    let mut prng = Prng::new(19);
+    for threshold in BORDER_THRESHOLDS.into_iter().chain([BORDER_THRESHOLD; 8]) {
+        let fraction = match prng.below(2) {
+            0 => prng.pick(&FRACTIONS),
+            _ => random_fraction(&mut prng),
+        };
+        let weight = theirs::cell_weight(threshold, true, fraction);
+        for least in [weight, weight.next_up(), weight.next_down()] {
+            ask_weight(script, threshold, least, true, fraction);
+        }
+    }
+    for least in VALID.into_iter().chain(INVALID) {
+        ask_weight(script, BORDER_THRESHOLD, least, true, THIRD);
+        let threshold = prng.pick(&BORDER_THRESHOLDS);
+        ask_weight(script, threshold, least, true, prng.pick(&FRACTIONS));
+        ask_weight(script, threshold, least, false, prng.pick(&FRACTIONS));
+    }
+    for fraction in [0.0, -0.0] {
+        for least in [0.0, -0.0, LEAST] {
+            ask_weight(script, BORDER_THRESHOLD, least, true, fraction);
+        }
     }
 }

@@ -2,7 +2,7 @@
 
 use crate::kinds::{CELL, CODE, GRID, HEADER, TABLE_ENTRY};
 use crate::script::Script;
-use records::telling::{Place, Telling, telling, telling_marked};
+use records::telling::{Place, Telling, telling, telling_least_weights, telling_marked};
 use records::{Read, read, told};
 
 pub fn ask(script: &mut Script) {
@@ -12,6 +12,11 @@ pub fn ask(script: &mut Script) {
 /// Of legacy boards.
 pub fn ask_marked(script: &mut Script) {
     ask_all(script, telling_marked());
+}
+
+/// With a least weight.
+pub fn ask_least_weights(script: &mut Script, legacy: bool) {
+    ask_all(script, telling_least_weights(legacy));
 }
 
 fn ask_all(script: &mut Script, records: Vec<Telling>) {

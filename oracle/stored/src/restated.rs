@@ -18,16 +18,48 @@ pub fn ask(script: &mut Script) {
     for (shot, length) in [good(), refused()].concat() {
         ask_record(script, &write(&shot).bytes, length);
     }
-    // 21 before all others: a byte less, a byte more, a spare bit.
+    // 21 before all others: a byte less, a byte more, the flag of a field that is missing.
     let record = write(&even()).bytes;
-    let spare = [&[settings::LEGACY | settings::SPARE[0]], &record[1..]].concat();
     for broken in [
         &record[..record.len() - 1],
         &[&record[..], &[0]].concat(),
-        &spare,
+        &with_flag(&record, settings::LEAST_WEIGHT),
     ] {
         ask_record(script, broken, EMPTY);
         ask_record(script, broken, LONGER);
+    }
+}
+
+fn with_flag(record: &[u8], flag: u8) -> Vec<u8> {
+    [&[record[0] | flag], &record[1..]].concat()
+}
+
+/// With a least weight (document 02, 2.8), which is before the board: on a board whose codes are reversed, on others, and on one
+/// that 25 refuses; beside it every other field; NaNs and numbers that only a match refuses. Then spare bits.
+pub fn ask_least_weights(script: &mut Script) {
+    let all = settings::MINIMUM_MARGIN
+        | settings::BORDER_THRESHOLD
+        | settings::PX_PER_SQUARE
+        | settings::TABLE;
+    let reversed = || board([2, 3], 2, 1).marked();
+    for (mut shot, map, bits, length) in [
+        (reversed(), 0, 0x3E80_0000, EXACT),
+        (reversed(), all, 0x3F7F_FFFF, LONGER),
+        (reversed(), settings::TABLE, 0x7F80_0001, EXACT),
+        (board([3, 2], 2, 1).marked(), 0, 0xFFC0_0001, EXACT),
+        (board([2, 3], 2, 1), settings::PX_PER_SQUARE, 1, LONGER),
+        (even(), 0, 0x3F80_0000, EXACT),
+        (reversed(), 0, 0x8000_0000, ONE_SHORT),
+    ] {
+        shot.map |= map;
+        shot.set_least_weight(bits);
+        ask_record(script, &write(&shot).bytes, length);
+    }
+    let mut shot = reversed();
+    shot.set_least_weight(0);
+    let record = write(&shot).bytes;
+    for spare in settings::SPARE {
+        ask_record(script, &with_flag(&record, spare), LONGER);
     }
 }
 

@@ -56,7 +56,7 @@ pub fn ask(script: &mut Script, legacy: bool) {
     }
 }
 
-fn ask_one(script: &mut Script, given: &Given, length: Length) {
+pub fn ask_one(script: &mut Script, given: &Given, length: Length) {
     let needed = match needed(given) {
         0 => FOR_REFUSED,
         needed => needed.min(MOST_SCORES - MORE),

@@ -4,9 +4,11 @@ use crate::kinds::{Kind, MATCH, MATCH_WITH_SCORES, RESTATED};
 use cases::answer::{Answer, after};
 use matches::WithScores;
 use matches::counts::Shown;
+use matches::cuts::Shown as ShownCuts;
 use matches::given::Length;
 use matches::restated::restate;
 use matches::scores::{Filled, Shown as ShownScores};
+use matches::weights::Uncut;
 use records::{Shot, read, settings};
 use std::collections::{HashMap, HashSet};
 use std::fmt::Write;
@@ -50,8 +52,12 @@ pub struct Script {
     pub asked: Vec<Asked>,
     /// What the matches show of the counts of contributing cells, without the legacy flag and with it.
     pub counts: [Shown; 2],
+    /// The same of the least weight.
+    pub cuts: [ShownCuts; 2],
     /// The same of the score arrays.
     pub scores: [ShownScores; 2],
+    /// What the rows of weights are made of.
+    pub weights: Vec<Uncut>,
     /// The shots that are restated.
     pub restated: Vec<Shot>,
     bytes: Vec<u8>,
@@ -195,7 +201,9 @@ impl Script {
         if let Some(shot) = &shot
             && kind == MATCH
         {
-            self.counts[usize::from(is_marked(&self.bytes))].add(shot, &answer);
+            let board = usize::from(is_marked(&self.bytes));
+            self.counts[board].add(shot, &answer);
+            self.cuts[board].add(shot, arguments[0] as usize, &answer);
         }
         self.asked.push(Asked {
             kind,
@@ -210,8 +218,16 @@ impl Script {
 }
 
 pub fn is_marked(record: &[u8]) -> bool {
+    has_flag(record, settings::LEGACY)
+}
+
+pub fn has_least_weight(record: &[u8]) -> bool {
+    has_flag(record, settings::LEAST_WEIGHT)
+}
+
+fn has_flag(record: &[u8], flag: u8) -> bool {
     let map = record.first();
-    map.is_some_and(|map| map & settings::LEGACY != 0)
+    map.is_some_and(|map| map & flag != 0)
 }
 
 fn has_repeat(record: &[u8]) -> bool {

@@ -17,7 +17,7 @@ pub use link_check::{CheckedOnBoard, Violation, links_by_rules, links_by_rust, u
 pub use marker_cells::{Labeled, marker_cells};
 pub use refusals::{accepted_board, board_up_to_8, two_alike, two_alike_by_pairs};
 pub use scores::{
-    BORDER_THRESHOLD, Samples, ScoreBoard, Scores, cell_samples, cell_weight, null_score,
+    BORDER_THRESHOLD, Samples, ScoreBoard, Scores, cell_samples, cell_weight, cut, null_score,
     read_code, rotate_gc_top_left,
 };
 pub use turned_board::TurnedBoard;

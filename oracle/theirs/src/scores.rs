@@ -89,6 +89,11 @@ pub fn cell_weight(border_threshold: f32, sampled: bool, fraction: f32) -> f32 {
     scores.weights()[0]
 }
 
+/// Document 02, 2.8, of which upstream has nothing: "A cell whose weight is below it has weight 0; an equal one keeps its weight."
+pub fn cut(weight: f32, least_weight: f32) -> f32 {
+    if weight < least_weight { 0.0 } else { weight }
+}
+
 /// The marker that upstream emits in a cell at a grid point, `turn` being 0 to 3. It reads a cell when it emits a marker,
 /// and emits one only where its score is good. So the score is that of a black cell and a black marker; the cell comes in
 /// its place when the marker is emitted.

@@ -67,7 +67,7 @@ pub fn asked() -> Vec<Asked> {
 }
 
 /// The map byte of a record that gives every setting and the table.
-const ALL: u8 = 15;
+const ALL: u8 = 47;
 
 const BITS: u8 = 8;
 
@@ -164,8 +164,8 @@ const FAULTS: [Fault; 11] = [
             *last = turned_code(*before, BITS, 1);
         },
     ),
-    (9, "px_per_square NaN", MOST_CODES, |shot| {
-        shot.px_per_square = f32::NAN.to_bits();
+    (9, "least weight NaN", MOST_CODES, |shot| {
+        shot.least_weight = f32::NAN.to_bits();
     }),
     (10, "the last table entry above 0", MOST_CODES, |shot| {
         shot.table[TABLE_LENGTH - 1] = 1.0f32.to_bits();

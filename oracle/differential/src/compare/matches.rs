@@ -1,13 +1,16 @@
 //! The match: its answer, every word of the output array, and what the program `place` prints.
 
 mod counts;
+mod cuts;
 mod program;
 mod unknown_to_rust;
 
 use crate::entry::{Both, Entry};
 use crate::subject::{Bytes, Subject, of_legacy_boards};
 use matches::counts::Shown as ShownCounts;
+use matches::cuts::Shown as ShownCuts;
 use matches::given::{Given, KINDS, Kind, LEGACY_KINDS, LENGTHS, Length};
+use matches::weights::Uncut;
 use matches::{Compared, by_rust_and_model, by_turned_rust_and_model, told};
 use records::REFUSED;
 use std::fmt::{self, Display, Formatter};
@@ -33,8 +36,9 @@ fn compare_kinds(kinds: &[Kind], turned: &mut Turned) -> Vec<Subject> {
     let mut entry = Entry::new("match", &NUMBERS);
     let mut rules = Subject::new("the oracle's rules against upstream");
     let mut unknown = UnknownToRust::all();
-    let mut by_rust = 0u64;
+    let mut by_rust = [0u64; 2];
     let mut counts = ShownCounts::default();
+    let mut cuts = ShownCuts::default();
     let mut subjects = Vec::new();
     for kind in kinds {
         let mut of_kind = 0u64;
@@ -47,10 +51,15 @@ fn compare_kinds(kinds: &[Kind], turned: &mut Turned) -> Vec<Subject> {
                 continue;
             };
             counts.add(&read.shot, &theirs);
+            cuts.add(&read.shot, given.places, &theirs);
             if let Some(both) = by_rust_and_model(&read.shot) {
                 let [rust, model] = both.map(|matched| told(&matched));
                 // Check 14, of the output array's length, may still fail.
-                by_rust += u64::from(rust.number == 0 && theirs.number == 0);
+                let is_placed = rust.number == 0 && theirs.number == 0;
+                let has_cut = Uncut::all(&read.shot).iter().any(Uncut::is_lost);
+                for (count, is_one) in by_rust.iter_mut().zip([true, has_cut]) {
+                    *count += u64::from(is_placed && is_one);
+                }
                 rules.check(model, rust, format_args!("{asked}"));
             }
             if let Some(both) = by_turned_rust_and_model(&read.shot) {
@@ -66,9 +75,12 @@ fn compare_kinds(kinds: &[Kind], turned: &mut Turned) -> Vec<Subject> {
     }
     subjects.extend(entry.subjects());
     subjects.push(rules);
-    let by_rust = [("placed", by_rust)];
+    let by_rust = ["placed", "placed with a weight cut"]
+        .into_iter()
+        .zip(by_rust);
     subjects.push(Subject::of_cases("answers of upstream itself", by_rust));
     subjects.extend(counts::subjects(&counts));
+    subjects.extend(cuts::subjects(&cuts));
     subjects.extend(unknown.into_iter().flat_map(UnknownToRust::subjects));
     subjects
 }

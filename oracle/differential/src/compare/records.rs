@@ -5,12 +5,11 @@ mod fields;
 use crate::subject::{Subject, Subjects, of_legacy_boards};
 use cases::prng::Prng;
 use fields::Extent::{self, All, Few};
-use records::telling::{Telling, telling, telling_marked};
-use records::{Cell, LONGEST, Sample, Shape, Shot, UNSAMPLED, damage, filled, write};
+use records::telling::{Telling, telling, telling_least_weights, telling_marked};
+use records::{Cell, LONGEST, Sample, Shape, Shot, UNSAMPLED, damage, filled, settings, write};
 
 const BITS: [u8; 11] = [0, 1, 2, 3, 4, 5, 6, 7, 8, 9, 255];
 const BORDERS: [u8; 7] = [0, 1, 2, 3, 4, 5, 255];
-const MAPS: u8 = 16;
 
 const RANDOM_SHOTS: usize = 1_500;
 const DAMAGED_SHOTS: usize = 40;
@@ -32,19 +31,21 @@ const LARGE_SIDES: [[u8; 2]; 9] = [
 /// The legacy flag adds no field, so that every record may have it.
 pub fn compare() -> Vec<Subject> {
     let mut subjects = Subjects::default();
-    for (record, extent) in all(telling(), &mut Prng::new(6)) {
+    let current = [telling(), telling_least_weights(false)];
+    for (record, extent) in all(current.into_iter().flatten(), &mut Prng::new(6)) {
         fields::compare(&mut subjects, &record, extent);
     }
     let mut of_legacy = Subjects::default();
-    for (record, extent) in all(telling_marked(), &mut Prng::new(36)) {
+    let legacy = [telling_marked(), telling_least_weights(true)];
+    for (record, extent) in all(legacy.into_iter().flatten(), &mut Prng::new(36)) {
         fields::compare(&mut of_legacy, &damage::marked(record), extent);
     }
     [subjects.0, of_legacy_boards(of_legacy.0)].concat()
 }
 
-fn all(telling: Vec<Telling>, prng: &mut Prng) -> impl Iterator<Item = Asked> {
+fn all(telling: impl Iterator<Item = Telling>, prng: &mut Prng) -> impl Iterator<Item = Asked> {
     let with_few = |record| (record, Few);
-    let telling = telling.into_iter().map(|asked| asked.record);
+    let telling = telling.map(|asked| asked.record);
     let whole = [good(prng), at_the_limits(prng)].concat();
     let damaged = damaged(prng).into_iter();
     telling
@@ -61,7 +62,8 @@ fn record(prng: &mut Prng, shape: Shape) -> Vec<u8> {
 }
 
 fn any_map(prng: &mut Prng) -> u8 {
-    prng.below(MAPS.into()) as u8
+    let flags: Vec<u8> = settings::presence_flags().collect();
+    prng.pick(&flags)
 }
 
 /// Records of every side, border and map byte, with few cells and with many.
@@ -77,7 +79,7 @@ fn good(prng: &mut Prng) -> Vec<Asked> {
             all.push((record(prng, shape), All));
         }
     }
-    for map in 0..MAPS {
+    for map in settings::presence_flags() {
         for counts in [[0, 0], [1, 1], [0, 8], [9, 0], [3, 17], [100, 33]] {
             for sampled in [0, 2, 4] {
                 let shape = Shape::new(map, [2, 1], counts, sampled);
@@ -106,7 +108,7 @@ fn any_shape(prng: &mut Prng) -> Shape {
 fn at_the_limits(prng: &mut Prng) -> Vec<Asked> {
     let mut all = vec![(Vec::new(), All)];
     for cells in [0, 1, 250, 256, 257, 300, 2_000, 15_000] {
-        for map in [0, 5, 15] {
+        for map in [0, 5, 15, 32, 47] {
             let sampled = if cells > 300 { 0 } else { 3 };
             let shot = Shape::new(map, [2, 1], [0, cells], sampled).shot(prng);
             all.push((write(&shot).bytes, Few));
@@ -155,13 +157,19 @@ fn damaged(prng: &mut Prng) -> Vec<Vec<u8>> {
         let shot = small_shape(prng).shot(prng);
         all.extend(damage::all(prng, &shot));
     }
-    for map in [0, 1, 2, 4, 7, 8, 15] {
+    for map in [0, 1, 2, 4, 7, 8, 15, 32, 39, 47] {
         let mut shape = small_shape(prng);
         shape.map = map;
         let whole = record(prng, shape);
         all.extend(damage::truncations(&whole).map(<[u8]>::to_vec));
     }
     all.extend(prng.many(RANDOM_BYTES, damage::random_bytes));
+    // The same with the flag of the least weight, so that the reader gets beyond its field.
+    let mut flagged = prng.many(RANDOM_BYTES, damage::random_bytes);
+    for map in flagged.iter_mut().filter_map(|record| record.first_mut()) {
+        *map |= settings::LEAST_WEIGHT;
+    }
+    all.extend(flagged);
     all
 }
 

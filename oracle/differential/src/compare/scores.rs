@@ -7,6 +7,7 @@ use cases::floats::{BORDER_THRESHOLDS, FRACTIONS, random_finite, random_fraction
 use cases::prng::Prng;
 use cases::tables::{LENGTHS, ODD_ENTRIES, PLACES, SLOPES_AND_FLOORS};
 use differential::ours::scores;
+use matches::given::{INVALID, VALID};
 use theirs::{
     BUILT_IN, Samples, ScoreBoard, TABLE_LENGTH, is_table, likelihood_table, score_by_table,
 };
@@ -18,7 +19,8 @@ const RANDOM_TABLES: usize = 3;
 
 pub fn compare() -> Vec<Subject> {
     let mut prng = Prng::new(4);
-    let mut subjects = vec![built_in_table(), tables(), weights(&mut prng)];
+    let mut subjects = vec![built_in_table(), tables()];
+    subjects.extend(weights(&mut prng));
     subjects.extend(of_cells(&mut prng));
     subjects
 }
@@ -70,27 +72,59 @@ fn tables() -> Subject {
     subject
 }
 
-fn weights(prng: &mut Prng) -> Subject {
-    let mut subject = Subject::new("weight of a cell, bit pattern");
-    let mut check = |threshold: f32, sampled, fraction: f32| {
-        let ours = scores::cell_weight(threshold, sampled, fraction);
-        let theirs = theirs::cell_weight(threshold, sampled, fraction);
+/// Without a least weight, which is then 0, upstream's; with another one the cut of upstream's.
+fn weights(prng: &mut Prng) -> Vec<Subject> {
+    let mut uncut = Subject::new("weight of a cell, bit pattern");
+    let mut cut = Subject::new("weight of a cell with a least weight, bit pattern");
+    let mut cases = [0; WEIGHTS.len()];
+    let mut check = |threshold: f32, sampled, fraction: f32, further: &[f32]| {
+        let weight = theirs::cell_weight(threshold, sampled, fraction);
         let asked =
             format_args!("threshold {threshold:e}, sampled {sampled}, fraction {fraction:e}");
-        subject.check_float(ours, theirs, asked);
+        let ours = |least| scores::cell_weight(threshold, least, sampled, fraction);
+        uncut.check_float(ours(0.0), weight, asked);
+        let near = [weight, weight.next_up(), weight.next_down()];
+        for &least in near.iter().chain(further) {
+            let asked = format_args!("least weight {least:e}, {asked}");
+            cut.check_float(ours(least), theirs::cut(weight, least), asked);
+            for (count, (_, is_so)) in cases.iter_mut().zip(WEIGHTS) {
+                *count += u64::from(is_so(weight, least));
+            }
+        }
     };
+    let least_weights = [&VALID[..], &INVALID].concat();
     for threshold in BORDER_THRESHOLDS {
         for fraction in FRACTIONS {
-            check(threshold, true, fraction);
-            check(threshold, false, fraction);
+            check(threshold, true, fraction, &least_weights);
+            check(threshold, false, fraction, &least_weights);
         }
     }
     for _ in 0..RANDOM_WEIGHTS {
-        check(random_fraction(prng), true, random_fraction(prng));
-        check(random_finite(prng), true, random_fraction(prng));
+        check(random_fraction(prng), true, random_fraction(prng), &[]);
+        check(random_finite(prng), true, random_fraction(prng), &[]);
     }
-    subject
+    let cases = WEIGHTS.iter().map(|(name, _)| name).zip(cases);
+    let cases = Subject::of_cases("weights by the least weight", cases);
+    vec![uncut, cut, cases]
 }
+
+type OfWeights = (&'static str, fn(f32, f32) -> bool);
+
+/// What must come up, for a weight and a least weight.
+const WEIGHTS: [OfWeights; 6] = [
+    ("equal", |weight, least| weight == least && weight > 0.0),
+    ("next below", |weight, least| {
+        weight.next_up() == least && weight > 0.0
+    }),
+    ("next above", |weight, least| {
+        weight == least.next_up() && least > 0.0
+    }),
+    ("below", |weight, least| 0.0 < weight && weight < least),
+    ("-0.0 and a least weight of 0 or -0.0", |weight, least| {
+        weight.to_bits() == 0x8000_0000 && least == 0.0
+    }),
+    ("a least weight of NaN", |_, least| least.is_nan()),
+];
 
 /// Scores, evidence and read codes of cells of every side and border.
 fn of_cells(prng: &mut Prng) -> Vec<Subject> {

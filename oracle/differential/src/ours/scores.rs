@@ -7,7 +7,12 @@ unsafe extern "C" {
     #[link_name = "oracle_table_entry"]
     pub safe fn table_entry(i: usize) -> f32;
     #[link_name = "oracle_cell_weight"]
-    pub safe fn cell_weight(border_threshold: f32, sampled: bool, fraction: f32) -> f32;
+    pub safe fn cell_weight(
+        border_threshold: f32,
+        least_weight: f32,
+        sampled: bool,
+        fraction: f32,
+    ) -> f32;
     #[link_name = "oracle_null_score"]
     pub safe fn null_score(bits: u8) -> f32;
     #[link_name = "oracle_evidence"]

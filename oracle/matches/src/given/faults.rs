@@ -176,10 +176,10 @@ impl Faulty {
     }
 }
 
-/// A spare bit or the legacy flag, a byte less, a byte more.
+/// A bit of the map byte from 4 on, a byte less, a byte more.
 fn broken(prng: &mut Prng, record: &mut Vec<u8>) {
     match prng.below(3) {
-        0 => record[0] |= prng.pick(&settings::WITHOUT_FIELD),
+        0 => record[0] |= prng.pick(&settings::UPPER),
         1 => {
             record.pop();
         }

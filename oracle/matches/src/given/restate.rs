@@ -40,8 +40,9 @@ pub fn of_size(prng: &mut Prng, size: [u8; 2], legacy: bool) -> Shot {
         .filter(|&bits| markers <= most_different(bits))
         .collect();
     let bits = prng.pick(&sides);
+    let least_weight = prng.pick(&[0, settings::LEAST_WEIGHT]);
     let shape = Shape {
-        map: prng.below(16) as u8,
+        map: prng.below(16) as u8 | least_weight,
         sides: [bits, 1 + prng.below(4) as u8],
         codes: 0,
         cells: prng.pick(&[0, 1, 2, 3, 7, 8, 9, 20]),

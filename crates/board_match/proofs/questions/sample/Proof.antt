@@ -6,7 +6,7 @@ use Rattle.board_match.proofs.questions.sample.Statement.{statement}
 use Rattle.board_match.proofs.questions.sample.Tie as tie
 
 returns : tie.Need-returns
-returns c = c .fraction .ensures ∙ ap borderAnswer (sym (c .before .before .border .given .1))
+returns c = c .in-unit-interval .ensures ∙ ap borderAnswer (sym (c .before .before .border .given .1))
 
 pub sample-spec : {M : Type 1} → statement M
 sample-spec = tie.close (tie.spec (λ c. search needs) (λ c κs. tt) (λ c. search needs) returns (λ c. search needs))

@@ -6,7 +6,8 @@ use Rattle.charuco.proofs.records.header_words.Tie as tie
 
 returns : tie.Need-returns
 returns c =
-    let m = c .before in
+    let k = c .before in
+    let m = k .before in
     let n = m .before in
     let b5 = n .before in
     let b4 = b5 .before in
@@ -27,10 +28,11 @@ returns c =
     ∷ b5 .to-bits5 .ensures i
     ∷ n .count-word .ensures i
     ∷ m .count-word2 .ensures i
-    ∷ c .mark-word .ensures i
+    ∷ k .mark-word .ensures i
+    ∷ c .to-bits6 .ensures i
     ∷ []
 
 pub header-words-spec : {M : Type 1} → statement M
 header-words-spec =
     tie.close (tie.spec (λ c. search needs) (λ c κs. tt) (λ c κs. tt) (λ c κs. tt) (λ c κs. tt) (λ c κs. tt) (λ c κs. tt) (λ c κs. tt)
-    (λ c κs. tt) returns)
+    (λ c κs. tt) (λ c κs. tt) returns)

@@ -3,13 +3,15 @@ use mathlib.Core.Path.{ap, _∙_}
 use lib.Ieee.{ofBits, ofFields, odd}
 use borrow.Author.Needs.{needs}
 use Rattle.score_matrix.specs.Weights.{weight}
-use Rattle.oracle_exports.specs.Words.{thresholdAlone}
+use Rattle.oracle_exports.specs.Words.{weightSettings}
 use Rattle.oracle_exports.proofs.scores.oracle_cell_weight.Statement.{statement}
 use Rattle.oracle_exports.proofs.scores.oracle_cell_weight.Tie as tie
 
 returns : tie.Need-returns
 unfolding ofBits ofFields odd
-returns c = c .cell-weight .ensures ∙ ap (weight (thresholdAlone (c .before .before .args .«border-threshold»))) (c .before .«border-of» .ensures)
+returns c =
+    let x = c .before .before .args in
+    c .cell-weight .ensures ∙ ap (weight (weightSettings (x .«border-threshold») (x .«least-weight»))) (c .before .«border-of» .ensures)
 
 pub oracle-cell-weight-spec : {M : Type 1} → statement M
 oracle-cell-weight-spec = tie.close (tie.spec (λ c κs. search needs) (λ c κs. search needs) returns)

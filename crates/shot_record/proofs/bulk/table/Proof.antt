@@ -6,7 +6,7 @@ use lib.ListN.{length}
 use borrow.Author.Needs.{needs}
 use Rattle.score_matrix.specs.Table.{patterns, builtIn}
 use Rattle.shot_record.specs.Answers.{ofPattern}
-use Rattle.shot_record.proofs.Reading.{found, head-reach, built-in-table, own-table}
+use Rattle.shot_record.proofs.Reading.{found-reach, built-in-table, own-table}
 use Rattle.shot_record.proofs.bulk.table.Statement.{statement}
 use Rattle.shot_record.proofs.bulk.table.Tie as tie
 
@@ -24,7 +24,7 @@ size = refl
 put-table-requires : tie.Need-put-table-requires
 put-table-requires c κs =
     let s = c .before .before .before .before in
-    (omega (arith, found _ _ (s .pre .0) .table-at, head-reach (s .args .bytes .now)), ap length (s .pre .1) ∙ size)
+    (omega (arith, found-reach (s .args .f) (s .args .bytes .now) (s .pre .0)), ap length (s .pre .1) ∙ size)
 
 returns-2 : tie.Need-returns-2
 returns-2 c =

@@ -29,10 +29,10 @@ module _ (c : tie.After-shared-slice-known) where
 short : (c : tie.Else1) → leb (length (bytes (c .before))) 65535 ≡ true
 short c = le-leb (length (bytes (c .before))) 65535 (c .if1 .left)
 
-known : (c : tie.Else2) → ltb (mapByte (bytes (c .before .before .before))) 32 ≡ true
+known : (c : tie.Else2) → ltb (mapByte (bytes (c .before .before .before))) 64 ≡ true
 known c =
     let x = c .before .before .before in
-    lt-ltb (mapByte (bytes x)) 32 (omega (arith, f x .map, c .if2 .left))
+    lt-ltb (mapByte (bytes x)) 64 (omega (arith, f x .map, c .if2 .left))
 
 is-clear-requires : tie.Need-is-clear-requires
 is-clear-requires c κs =
@@ -59,7 +59,7 @@ returns-2 : tie.Need-returns-2
 unfolding wholeRecord
 returns-2 c =
     let x = c .before .before .before in
-    rw (short (c .before .before), le-ltb (mapByte (bytes x)) 32 (omega (arith, f x .map, c .if2 .taken)))
+    rw (short (c .before .before), le-ltb (mapByte (bytes x)) 64 (omega (arith, f x .map, c .if2 .taken)))
 
 returns-3 : tie.Need-returns-3
 unfolding wholeRecord

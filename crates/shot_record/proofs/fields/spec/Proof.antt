@@ -8,7 +8,7 @@ use borrow.Author.Needs.{needs}
 use Rattle.board.specs.declared.CharucoBoardSpec.{CharucoBoardSpec}
 use Rattle.shot_record.specs.Fields.{byte, isSet, number}
 use Rattle.shot_record.specs.Answers.{ofPattern}
-use Rattle.shot_record.proofs.Reading.{Found, found, head-reach}
+use Rattle.shot_record.proofs.Reading.{Found, found, found-reach}
 use Rattle.shot_record.proofs.fields.spec.Statement.{statement}
 use Rattle.shot_record.proofs.fields.spec.Tie as tie
 
@@ -19,8 +19,8 @@ module _ (c : tie.After-shared-slice-known) where
   f : Found (c .before .args .f) bytes
   f = found (c .before .args .f) bytes (c .before .pre)
 
-  reach : c .before .args .f .«rows_at» ≤ 2057
-  reach = omega (arith, f .rows-at, head-reach bytes)
+  reach : c .before .args .f .«rows_at» ≤ 2061
+  reach = omega (arith, found-reach (c .before .args .f) bytes (c .before .pre))
 
 -- the specification from the map byte and the offset of the rows
 abbrev specAt : ℕ → ℕ → List ℕ → CharucoBoardSpec

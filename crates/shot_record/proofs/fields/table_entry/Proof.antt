@@ -11,7 +11,7 @@ use Rattle.score_matrix.specs.Table.{patterns, builtIn}
 use Rattle.shot_record.specs.Fields.{number}
 use Rattle.shot_record.specs.Answers.{ofPattern}
 use Rattle.shot_record.proofs.Lists.{getD-list}
-use Rattle.shot_record.proofs.Reading.{found, head-reach, pattern-count, built-in-table, own-table}
+use Rattle.shot_record.proofs.Reading.{found-reach, pattern-count, built-in-table, own-table}
 use Rattle.shot_record.proofs.fields.table_entry.Statement.{statement}
 use Rattle.shot_record.proofs.fields.table_entry.Tie as tie
 
@@ -29,7 +29,7 @@ module _ (c : tie.After-sets-table) where
   inside = c .before .before .pre .1
 
   reach : at + 4 * k ≤ 5000
-  reach = omega (arith, found (c .before .before .args .f) bytes (c .before .before .pre .0) .table-at, head-reach bytes, inside)
+  reach = omega (arith, found-reach (c .before .before .args .f) bytes (c .before .before .pre .0), inside)
 
 getD-float : (xs : List ℕ) (k : ℕ) → k < length xs → getD (map ofPattern xs) k nan ≡ ofPattern (getD xs k 0)
 getD-float [] k h = absurd (omega arith)

@@ -7,7 +7,7 @@ use records::{REFUSED, Read, TABLE_LENGTH, told};
 use std::fmt::Arguments;
 
 /// Words of the longest output array.
-const LENT: usize = 15;
+const LENT: usize = 16;
 
 /// How many places of a list are read.
 #[derive(Clone, Copy)]

@@ -6,7 +6,8 @@ use cases::layout::SIDES;
 use matches::given::{LENGTHS, Length, markers_of};
 use matches::refused_by_match_alone;
 use matches::restated::{
-    WRONG_CODES, WRONG_FLAG, WRONG_REVERSED, Wrong, is_even_legacy, is_reversed, restate,
+    WRONG_CODES, WRONG_FIELD, WRONG_FLAG, WRONG_REVERSED, Wrong, is_even_legacy, is_reversed,
+    restate,
 };
 use records::{LONGEST, REFUSED, Shot, settings};
 use std::collections::BTreeMap;
@@ -102,7 +103,7 @@ impl CameUp {
         let repaired = [
             record[..record.len() - 1].to_vec(),
             [record, &[0]].concat(),
-            [&[map & 0b1_1111], rest].concat(),
+            [&[map & 0b11_1111], rest].concat(),
         ];
         for repaired in repaired {
             if let Err(refused) = restate(&repaired, record.len() + 1) {
@@ -135,6 +136,7 @@ impl CameUp {
         if is_legacy {
             shown(&WRONG_FLAG);
         }
+        shown(&WRONG_FIELD);
         if is_reversed(shot) {
             WRONG_CODES.iter().for_each(shown);
         } else {
@@ -155,7 +157,7 @@ impl CameUp {
             lengths.extend(possible.map(|length| length_case(number, length)));
         }
         let mut orders = OF_BOARD.map(|number| order_case(REFUSED, number)).to_vec();
-        let mut wrong = vec![WRONG_REVERSED.name];
+        let mut wrong = vec![WRONG_REVERSED.name, WRONG_FIELD.name];
         let (parities, bits) = if legacy {
             orders.push(order_case(REFUSED, 25));
             orders.extend(OF_BOARD.map(|number| order_case(number, 25)));
@@ -172,7 +174,8 @@ impl CameUp {
             self.orders.subject("two checks fail", orders),
             self.parities.subject("restated by parities", parities),
             self.cases.subject("restated", CASES.map(|(name, _)| name)),
-            self.maps.subject("restated by presence flags", 0..16),
+            self.maps
+                .subject("restated by presence flags", settings::presence_flags()),
             self.of_match
                 .subject("restated, refused by the match", OF_MATCH),
             self.bits.subject("restated by sides of codes", bits),

@@ -1,6 +1,7 @@
 //! The accuracy rule: the rounding error of the reported evidence of a placed shot is at most N × (N + 67) / 65,536, with the
-//! legacy flag and without it. Computes both for every placement of many shots, then searches for bad shots. Ends with 1 if one
-//! breaks the rule, or if `oracle/RESULTS.md` has other figures; `--write` writes them there.
+//! legacy flag and without it, by the weights after the cut of document 02, 2.8. Computes both for every placement of many
+//! shots, then searches for bad shots. Ends with 1 if one breaks the rule, or if `oracle/RESULTS.md` has other figures;
+//! `--write` writes them there.
 
 mod search;
 
@@ -8,7 +9,8 @@ use cases::results::{self, number, table};
 use matches::exact::{self, Worst};
 use matches::given::{KINDS, Kind, LEGACY_KINDS};
 use matches::match_record;
-use records::built_in_table;
+use matches::weights::Uncut;
+use records::{Shot, built_in_table};
 use search::Search;
 use std::process::ExitCode;
 
@@ -28,11 +30,14 @@ struct Class {
     placements: usize,
     ratio: f64,
     broken: usize,
+    /// Shots with a weight that the least weight cuts.
+    cut: usize,
 }
 
 impl Class {
-    fn add(&mut self, worst: &Worst) {
+    fn add(&mut self, worst: &Worst, shot: &Shot) {
         self.shots += 1;
+        self.cut += usize::from(Uncut::all(shot).iter().any(Uncut::is_lost));
         self.placements += worst.placements;
         self.ratio = self.ratio.max(worst.ratio.unwrap_or(0.0));
         self.broken += usize::from(worst.breaks_the_rule);
@@ -61,6 +66,10 @@ fn main() -> ExitCode {
     print!("{block}");
     println!("shots that break the rule: {broken}");
     if broken != 0 {
+        return ExitCode::FAILURE;
+    }
+    if random.iter().any(|classes| cut(classes) == 0) {
+        eprintln!("no shot has a weight above 0 that is below the least weight");
         return ExitCode::FAILURE;
     }
     if let Err(message) = results::settle(BLOCK, &block, writes) {
@@ -93,6 +102,10 @@ fn block(random: &[[Class; CLASSES.len()]; 2], searched: &[[Found; SEARCHED.len(
         "worst",
     ];
     let mut text = format!("Random shots:\n\n{}", table(&heads, &rows));
+    let [current, legacy] = random.map(|classes| number(cut(&classes)));
+    text += &format!(
+        "\nOf these, {current} shots and {legacy} of legacy boards have a weight above 0 that is below the least weight.\n"
+    );
     let rows: Vec<Vec<String>> = (SEARCHED.into_iter().enumerate())
         .map(|(place, cells)| {
             let of_table = |table: usize| {
@@ -105,6 +118,11 @@ fn block(random: &[[Class; CLASSES.len()]; 2], searched: &[[Found; SEARCHED.len(
     let heads = ["cells", "any table", "built-in table"];
     text += "\nWorst shots found by hill climbing on grey levels, weights and tables, with and without the legacy flag:\n\n";
     text + &table(&heads, &rows)
+}
+
+/// The shots of all classes with a weight that the least weight cuts.
+fn cut(classes: &[Class]) -> u64 {
+    classes.iter().map(|class| class.cut as u64).sum()
 }
 
 fn share(ratio: f64) -> String {
@@ -130,7 +148,8 @@ fn of_many_shots(kinds: &[Kind]) -> [Class; CLASSES.len()] {
             }
         }
         let class = CLASSES.iter().position(|&last| cells <= last);
-        classes[class.expect("no more than 256")].add(&exact::worst(&read.shot));
+        let worst = exact::worst(&read.shot);
+        classes[class.expect("no more than 256")].add(&worst, &read.shot);
     }
     classes
 }
