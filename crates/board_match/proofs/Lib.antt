@@ -9,5 +9,5 @@ pub mod Engines
 pub mod Gates
 pub mod Laws
 pub mod Sizes
-pub mod SameShot
+pub mod SameResults
 pub mod Repeats

@@ -5,5 +5,5 @@ pub mod Scores
 pub mod Accuracy
 pub mod Corners
 pub mod Sizes
-pub mod SameShot
+pub mod SameResults
 pub mod Repeats

@@ -16,7 +16,7 @@ use Rattle.shot_record.specs.Writing.{littleEndian, bytesOf, LeastWeightLeftOut
 use Rattle.shot_record.proofs.Laws.{zero-least-weight, written-back}
 use Rattle.hypothesis.specs.Evidence.{expected, contributed}
 use Rattle.board_match.specs.Questions.{askedFrom9}
-use Rattle.board_match.proofs.SameShot.{zero-least-weight-same}
+use Rattle.board_match.proofs.SameResults.{zero-least-weight-same}
 use Rattle.worked_examples.specs.Table.{zeroFloat, half, threeQuarters}
 use Rattle.worked_examples.specs.Uses.{pair, pairRecord}
 use Rattle.worked_examples.specs.LeastWeights.{LeastWeights, OfLeastWeights}
@@ -58,6 +58,6 @@ of-least-weights =
           λ c fraction.
           let r = least-weight-rule (withLeast half c) fraction in
           (r .below, r .not-below, r .equal);
-      zero-written = zero-least-weight 0 (pair 200) left-out ∙ pair-parses;
-      same-results = zero-least-weight-same 0 (pair 200) left-out;
+      zero-least-weight = zero-least-weight 0 (pair 200) left-out ∙ pair-parses;
+      zero-least-weight-same = zero-least-weight-same 0 (pair 200) left-out;
     }

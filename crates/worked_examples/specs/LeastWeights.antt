@@ -15,7 +15,7 @@ use Rattle.shot_record.specs.Shots.{Sample, Shot, parse}
 use Rattle.shot_record.specs.Writing.{bytesOf}
 use Rattle.hypothesis.specs.Evidence.{contributingCells}
 use Rattle.board_match.specs.Questions.{askedBefore15}
-use Rattle.board_match.specs.SameShot.{SameResults}
+use Rattle.board_match.specs.SameResults.{SameResults}
 use Rattle.worked_examples.specs.Table.{zeroFloat, oneFloat, half, quarter, threeQuarters, overThreshold, align, showing, tooWide}
 use Rattle.worked_examples.specs.Requests.{blackBorder}
 use Rattle.worked_examples.specs.Uses.{pair, pairRecord}
@@ -92,5 +92,5 @@ pub record OfLeastWeights : Type 0 where
       × (T (not (lt (uncutBy c fraction) half)) → sampledWeight (withLeast half c) fraction ≡ uncutBy c fraction)
       × (T (eq (uncutBy c fraction) half) → sampledWeight (withLeast half c) fraction ≡ uncutBy c fraction)
   -- the record with the least weight 0 encodes the same shot, and has the same results
-  pub zero-written : parse (bytesOf 32 (pair 200)) ≡ some (pair 200)
-  pub same-results : SameResults (bytesOf 32 (pair 200)) (pairRecord 200)
+  pub zero-least-weight : parse (bytesOf 32 (pair 200)) ≡ some (pair 200)
+  pub zero-least-weight-same : SameResults (bytesOf 32 (pair 200)) (pairRecord 200)

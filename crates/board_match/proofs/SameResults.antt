@@ -8,10 +8,10 @@ use Rattle.shot_record.specs.Writing.{bytesOf}
 use Rattle.shot_record.proofs.Laws.{zero-least-weight}
 use Rattle.board_match.specs.Match.{matchedShot, leftList}
 use Rattle.board_match.specs.Scores.{scoredShot, scoredLeft, filledLeft}
-use Rattle.board_match.specs.SameShot.{SameShotRule, ZeroLeastWeightRule}
+use Rattle.board_match.specs.SameResults.{SameResultsRule, ZeroLeastWeightRule}
 
-pub same-shot : SameShotRule
-same-shot a b e =
+pub same-results : SameResultsRule
+same-results a b e =
     record {
       answer = λ lent. ap (λ (s : Option Shot). matchedShot s (length lent)) e;
       list = λ lent. ap (λ (s : Option Shot). leftList s lent) e;
@@ -21,4 +21,4 @@ same-shot a b e =
     }
 
 pub zero-least-weight-same : ZeroLeastWeightRule
-zero-least-weight-same m s o = same-shot (bytesOf (m + 32) s) (bytesOf m s) (zero-least-weight m s o)
+zero-least-weight-same m s o = same-results (bytesOf (m + 32) s) (bytesOf m s) (zero-least-weight m s o)

@@ -16,8 +16,8 @@ pub record SameResults (a b : List ℕ) : Type 0 where
   pub scored-list : (scores : List Float) (lent : List ℕ) → scoredList a scores lent ≡ scoredList b scores lent
   pub scores : (scores : List Float) (lent : List ℕ) → scoresLeft a scores lent ≡ scoresLeft b scores lent
 
-abbrev pub SameShotRule : Type 0
-SameShotRule = (a b : List ℕ) → parse a ≡ parse b → SameResults a b
+abbrev pub SameResultsRule : Type 0
+SameResultsRule = (a b : List ℕ) → parse a ≡ parse b → SameResults a b
 
 abbrev pub ZeroLeastWeightRule : Type 0
 ZeroLeastWeightRule = (m : ℕ) (s : Shot) → LeastWeightLeftOut m s → SameResults (bytesOf (m + 32) s) (bytesOf m s)
