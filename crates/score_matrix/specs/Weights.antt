@@ -8,7 +8,7 @@ use Rattle.score_matrix.specs.declared.BoardMatchConfig.{BoardMatchConfi
 use Rattle.score_matrix.specs.declared.BorderSample.{BorderSample}
 use Rattle.score_matrix.specs.declared.BorderSample.the-variants as border
 
--- of a sampled cell, by the border threshold and the black fraction of its border
+-- of a sampled cell: "Weight is 1 if `cell_weight_border_threshold` ≤ 0, else fraction / threshold clamped to 0..1"
 abbrev pub uncutWeight : Float → Float → Float
 uncutWeight threshold fraction = cond (le threshold nought) unity (clamp01 (div binary32 fraction threshold))
 

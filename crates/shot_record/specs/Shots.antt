@@ -11,8 +11,8 @@ use mir.Val.{toZ}
 use Rattle.matcher.specs.Codes.{bit}
 use Rattle.lent_list.specs.Parts.{part}
 use Rattle.score_matrix.specs.Table.{patterns}
-use Rattle.shot_record.specs.Fields.{byte, number, mapByte, isSet, marginAt, thresholdAt, pxAt, tableAt, leastWeightAt, rowsAt, bitsOf, borderOf, codeCount, codesAt, cellCount}
-use Rattle.shot_record.specs.Fields.{cellMap, sampled, gridSize, cellAt, Point, pointOf, samplePlace, thresholdFrom, gridFrom}
+use Rattle.shot_record.specs.Fields.{byte, number, mapByte, isSet, marginAt, thresholdAt, pxAt, tableAt, leastWeightAt, rowsAt, bitsOf, borderOf}
+use Rattle.shot_record.specs.Fields.{codeCount, codesAt, cellCount, cellMap, sampled, gridSize, cellAt, Point, pointOf, samplePlace, thresholdFrom, gridFrom}
 
 -- The sample of a cell. Here and below a float is its 32-bit pattern, so that a shot keeps every bit of its record.
 pub record Sample : Type 0 where

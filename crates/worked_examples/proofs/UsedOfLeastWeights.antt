@@ -16,6 +16,7 @@ use Rattle.shot_record.specs.Writing.{littleEndian, bytesOf, LeastWeightLeftOut
 use Rattle.shot_record.proofs.Laws.{zero-least-weight, written-back}
 use Rattle.hypothesis.specs.Evidence.{expected, contributed}
 use Rattle.board_match.specs.Questions.{askedFrom9}
+use Rattle.board_match.proofs.Sound.{sound}
 use Rattle.board_match.proofs.SameResults.{zero-least-weight-same}
 use Rattle.worked_examples.specs.Table.{zeroFloat, half, threeQuarters}
 use Rattle.worked_examples.specs.Uses.{pair, pairRecord}
@@ -58,6 +59,10 @@ of-least-weights =
           λ c fraction.
           let r = least-weight-rule (withLeast half c) fraction in
           (r .below, r .not-below, r .equal);
+      sound = λ s words e. sound s words e .least-weight;
       zero-least-weight = zero-least-weight 0 (pair 200) left-out ∙ pair-parses;
-      zero-least-weight-same = zero-least-weight-same 0 (pair 200) left-out;
+      zero-least-weight-same =
+          λ scores lent.
+          let r = zero-least-weight-same 0 (pair 200) left-out in
+          (r .answer lent, r .list lent, r .scored-answer scores lent, r .scored-list scores lent, r .scores scores lent);
     }

@@ -7,15 +7,18 @@ use Prim.Native.Nat.{ℕ}
 use lib.Dec.{T}
 use lib.IntN.{pos}
 use lib.Ieee.{Float, binary32, ofBits, lt, eq}
+use Rattle.floats.specs.Units.{Between}
 use Rattle.refusal.specs.declared.Refusal.{Refusal}
 use Rattle.refusal.specs.declared.Refusal.the-variants as refusal
 use Rattle.score_matrix.specs.declared.BoardMatchConfig.{BoardMatchConfig}
 use Rattle.score_matrix.specs.Weights.{uncutBy, sampledWeight, withLeast}
 use Rattle.shot_record.specs.Shots.{Sample, Shot, parse}
+use Rattle.shot_record.specs.Answers.{ofPattern}
 use Rattle.shot_record.specs.Writing.{bytesOf}
 use Rattle.hypothesis.specs.Evidence.{contributingCells}
 use Rattle.board_match.specs.Questions.{askedBefore15}
-use Rattle.board_match.specs.SameResults.{SameResults}
+use Rattle.board_match.specs.Match.{matchAnswer, matchList}
+use Rattle.board_match.specs.Scores.{scoredAnswer, scoredList, scoresLeft}
 use Rattle.worked_examples.specs.Table.{zeroFloat, oneFloat, half, quarter, threeQuarters, overThreshold, align, showing, tooWide}
 use Rattle.worked_examples.specs.Requests.{blackBorder}
 use Rattle.worked_examples.specs.Uses.{pair, pairRecord}
@@ -91,6 +94,14 @@ pub record OfLeastWeights : Type 0 where
       → (T (lt (uncutBy c fraction) half) → sampledWeight (withLeast half c) fraction ≡ zeroFloat)
       × (T (not (lt (uncutBy c fraction) half)) → sampledWeight (withLeast half c) fraction ≡ uncutBy c fraction)
       × (T (eq (uncutBy c fraction) half) → sampledWeight (withLeast half c) fraction ≡ uncutBy c fraction)
+  -- a shot that passes the questions before 15 has a least weight from 0 to 1
+  pub sound : (s : Shot) (words : ℕ) → askedBefore15 s words ≡ none → Between zeroFloat oneFloat (ofPattern (s .leastWeight))
   -- the record with the least weight 0 encodes the same shot, and has the same results
   pub zero-least-weight : parse (bytesOf 32 (pair 200)) ≡ some (pair 200)
-  pub zero-least-weight-same : SameResults (bytesOf 32 (pair 200)) (pairRecord 200)
+  pub zero-least-weight-same :
+      (scores : List Float) (lent : List ℕ)
+      → (matchAnswer (bytesOf 32 (pair 200)) lent ≡ matchAnswer (pairRecord 200) lent)
+      × (matchList (bytesOf 32 (pair 200)) lent ≡ matchList (pairRecord 200) lent)
+      × (scoredAnswer (bytesOf 32 (pair 200)) scores lent ≡ scoredAnswer (pairRecord 200) scores lent)
+      × (scoredList (bytesOf 32 (pair 200)) scores lent ≡ scoredList (pairRecord 200) scores lent)
+      × (scoresLeft (bytesOf 32 (pair 200)) scores lent ≡ scoresLeft (pairRecord 200) scores lent)

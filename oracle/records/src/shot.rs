@@ -150,7 +150,7 @@ impl Shot {
         self.minimum_margin = margin.to_bits();
     }
 
-    /// Gives a least weight.
+    /// Sets the least weight and its presence flag.
     pub const fn set_least_weight(&mut self, bits: u32) {
         self.map |= settings::LEAST_WEIGHT;
         self.least_weight = bits;

@@ -51,7 +51,7 @@ const ONE_OF_EACH: [Place; 3] = [Entry(255), Code(0), Place::Cell(0)];
 /// The bits of a float of four equal bytes, -1.498: a table of it is one run of a byte.
 const PLAIN_ENTRY: u32 = 0xBFBF_BFBF;
 
-/// The map byte of a record that gives every setting of document 01.
+/// The map byte of a record that has every setting of document 01.
 const ALL: u8 = 15;
 
 /// Of four cells, so many are sampled where it does not matter how many.

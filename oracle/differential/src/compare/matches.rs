@@ -137,7 +137,7 @@ impl Turned {
     }
 }
 
-/// Asks about each record of the kinds, and returns how many there are.
+/// Calls `ask` for each record of the kinds, and returns how many there are.
 pub fn each_record(kinds: &[Kind], mut ask: impl FnMut(&Shown)) -> u64 {
     let mut records = 0;
     for kind in kinds {
