@@ -145,7 +145,7 @@ def main():
         return TOKEN.sub(lambda m: spelled.get(m.group(0), m.group(0)), text)
 
     def turn_rt(text):
-        # in code only ghost imports, clauses and ghost fields speak of definitions
+        # in code only ghost imports, clauses and ghost fields name definitions
         out = []
         depth, clause = 0, False
         for line in text.splitlines(keepends=True):

@@ -1,4 +1,7 @@
 // Checks that no two marker codes are equal up to rotation (document 02, 2.2).
+
+#![tactic(auto)]
+
 ghost use Rattle.std.specs.Prelude.{◌≡◌, not, ◌≤◌, ◌<◌, min, length, get_or};
 ghost use Rattle.alike.specs.Alike.{two_alike};
 ghost use Rattle.alike.specs.Quarters.{HasLeast};

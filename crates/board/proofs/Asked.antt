@@ -7,7 +7,7 @@ use Prim.Native.Nat.{ℕ, zero, suc, ◌+◌, ◌*◌, ◌^◌, ◌≤◌, ◌<�
 use native.Mathlib.Nat.{le_of_suc-le-suc, mul-le-mul, min-eq_left}
 use native.Mathlib.Numerals.{add-one}
 use native.Mathlib.Omega.{arith}
-use lib.Dec.{leb, ltb, ltb→lt, lit<}
+use lib.Dec.{leb, ltb, ltb→lt}
 use lib.ListN.{length, get_or, drop}
 use lib.Seq.{drop-cons}
 use borrow.Author.Tests.{leb-true, not-true}
@@ -17,7 +17,7 @@ use Rattle.matcher.specs.Codes.{turned}
 use Rattle.refusal.specs.declared.Refusal.{Refusal}
 use Rattle.refusal.specs.declared.Refusal.TheVariants as refusal
 use Rattle.refusal.specs.Questions.{ask}
-use Rattle.refusal.proofs.Questions.{answered, GoesOn, ask-first, ask_last, followed_by, rest_asked, refusal_stands, Below, ask-below}
+use Rattle.refusal.proofs.Questions.{answered, GoesOn, ask-first, ask_last, followed_by, rest_asked, refusal_stands}
 use Rattle.integers.proofs.Tests.{both}
 use Rattle.board.specs.declared.CharucoBoardSpec.{CharucoBoardSpec}
 use Rattle.board.specs.declared.Board.{Board}
@@ -44,24 +44,6 @@ unfolding asked_of_board
 board_goes_on s codes =
     followed_by (asked_of_size s (length codes)) _ (size_goes_on s (length codes))
     (ask-first (codes_answer s.bits codes) _ _ (ask_last (apart_answer (board_of s) codes) refusal.CodesAlike))
-
--- the errors of the board's questions have numbers below 26
-size_below : (s : CharucoBoardSpec) (count : ℕ) (rest : Option Refusal) → Below 26 rest → Below 26 (asked_of_size s count rest)
-unfolding asked_of_size
-size_below s count rest below =
-    ask-below 26 (size_answer s.rows s.cols) _ _ (lit< tt)
-    (ask-below 26 (cell_size_answer s.cell_size) _ _ (lit< tt)
-    (ask-below 26 (marker_size_answer s.marker_size_rel) _ _ (lit< tt)
-    (ask-below 26 (leb 1 s.border_bits) _ _ (lit< tt)
-    (ask-below 26 (ltb 0 count) _ _ (lit< tt)
-    (ask-below 26 (range_answer s count) _ _ (lit< tt)
-    (ask-below 26 (leb (marker_total (board_of s)) count) _ _ (lit< tt) below))))))
-
-pub board-below : (s : CharucoBoardSpec) (codes : List ℕ) (rest : Option Refusal) → Below 26 rest → Below 26 (asked_of_board s codes rest)
-unfolding asked_of_board
-board-below s codes rest below =
-    size_below s (length codes) _
-    (ask-below 26 (codes_answer s.bits codes) _ _ (lit< tt) (ask-below 26 (apart_answer (board_of s) codes) refusal.CodesAlike _ (lit< tt) below))
 
 -- a board was made or refused
 pub made_if : (o : Option Refusal) (s : CharucoBoardSpec) (b : Board) → made_unless o s ≡ new.Made b → (o ≡ none) × (b ≡ board_of s)

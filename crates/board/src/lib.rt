@@ -1,4 +1,7 @@
 // Checks a ChArUco board's specification and codes (questions 1 to 8 and 22) and computes its layout by formulas (board.rs).
+
+#![tactic(auto)]
+
 ghost use Rattle.std.specs.Prelude.{◌≡◌};
 ghost use Rattle.board.specs.Layout.{parity_of, holds_marker, marker_total, marker_on, marker_square, surrounding_corners};
 ghost use Rattle.board.specs.Layout.{corner_count, corner_at, corner_place, object_point};
@@ -11,7 +14,7 @@ pub mod squares;
 use refusal::Refusal;
 
 // The specification of a board. `bits` is the side of its codes; `legacy_pattern` is the legacy flag, for boards from before OpenCV 4.6.
-#[derive(Drop)]
+#[derive(Clone, Copy)]
 pub struct CharucoBoardSpec {
     pub rows: u32,
     pub cols: u32,
@@ -23,7 +26,7 @@ pub struct CharucoBoardSpec {
 }
 
 // A board that passed the questions. Its methods accept every board value.
-#[derive(Drop)]
+#[derive(Clone, Copy)]
 pub struct Board {
     pub rows: u8,
     pub cols: u8,
@@ -34,34 +37,34 @@ pub struct Board {
     pub marker_size_rel: f32,
 }
 
-#[derive(Drop)]
+#[derive(Clone, Copy)]
 pub enum NewBoard {
     Made(Board),
     Refused(Refusal),
 }
 
 // The id of a marker or of a corner.
-#[derive(Drop)]
+#[derive(Clone, Copy)]
 pub enum Numbered {
     Id(u32),
     Absent,
 }
 
 // A square or a board corner.
-#[derive(Drop)]
+#[derive(Clone, Copy)]
 pub enum Located {
     At { i: u32, j: u32 },
     Absent,
 }
 
-#[derive(Drop)]
+#[derive(Clone, Copy)]
 pub enum ObjectPoint {
     At { x: f32, y: f32 },
     Absent,
 }
 
 // The ids of the four inner corners around a marker.
-#[derive(Drop)]
+#[derive(Clone, Copy)]
 pub enum Surrounding {
     Corners {
         top_left: u32,

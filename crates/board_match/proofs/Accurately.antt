@@ -4,13 +4,11 @@ use mathlib.Core.Bool.{Bool, true, false, cond}
 use mathlib.Core.List.{List}
 use mathlib.Core.Option.{Option, none, some}
 use Prim.Native.Nat.{ℕ, ◌<◌}
-use lib.Dec.{lit<}
 use lib.ListN.{length}
 use borrow.Author.Tests.{ltb-true}
 use Rattle.refusal.specs.declared.Refusal.{Refusal}
 use Rattle.refusal.specs.declared.Refusal.TheVariants as refusal
-use Rattle.refusal.specs.Numbers.{number_of}
-use Rattle.refusal.proofs.Questions.{answered, both-passed, Below, ask-below}
+use Rattle.refusal.proofs.Questions.{answered, both-passed}
 use Rattle.shot_record.specs.Shots.{Shot, shot, whole_record, parse}
 use Rattle.shot_record.proofs.Reading.{Small}
 use Rattle.ranking.specs.declared.Hypothesis.{Hypothesis}
@@ -30,7 +28,7 @@ use Rattle.board_match.specs.Questions.{asked_of_shot, asked_before15}
 use Rattle.board_match.specs.Match.{markers_with, markers_of, fits_answer, margin_answer, markers_answer, asked_from15, refused_by}
 use Rattle.board_match.specs.Match.{match_of, answer_with, matched_shot, match_answer}
 use Rattle.board_match.specs.Accuracy.{PlacedAccurately, Accuracy}
-use Rattle.board_match.proofs.Order.{shot_goes_on, shot-below}
+use Rattle.board_match.proofs.Order.{shot_goes_on}
 use Rattle.board_match.proofs.Sound.{sound}
 use Rattle.board_match.proofs.Passing.{passes}
 
@@ -70,14 +68,8 @@ pub record PlacedAt (bytes lent : List ℕ) (b : Hypothesis) : Type 0 where
   pub is : best (shot bytes) ≡ choice.Placement b
   pub some-marker : 0 < length (markers (shot bytes) b.alignment)
 
-below_26 : (s : Shot) (words : ℕ) → Below 26 (refused_by s words)
-unfolding asked_from15
-below_26 s words =
-    shot-below s words _
-    (ask-below 26 (fits_answer s) _ _ (lit< tt) (ask-below 26 (margin_answer s) _ _ (lit< tt) (ask-below 26 (markers_answer s) _ _ (lit< tt) tt)))
-
--- for every result, from errors, whose numbers are below 26, and matches
-pub of_answer : (bytes lent : List ℕ) → Small bytes → (P : Matched → Type 0) → ((r : Refusal) → number_of r < 26 → P (matched.Refused r))
+-- for every result, from errors and matches
+pub of_answer : (bytes lent : List ℕ) → Small bytes → (P : Matched → Type 0) → ((r : Refusal) → P (matched.Refused r))
     → ((b : Hypothesis) → PlacedAt bytes lent b → P (matched.Placed (match_of (shot bytes) b))) → P (match_answer bytes lent)
 unfolding parse
 of_answer bytes lent small P refused placed = by_record (whole_record bytes) refl
@@ -86,8 +78,8 @@ of_answer bytes lent small P refused placed = by_record (whole_record bytes) ref
     s = shot bytes
 
     by_refusal : whole_record bytes ≡ true → (o : Option Refusal) → refused_by s (length lent) ≡ o → (c : Choice) → best s ≡ c → P (answer_with o s c)
-    by_refusal w (some r) e c is = refused r (subst (Below 26) e (below_26 s (length lent)))
-    by_refusal w none e choice.Absent is = refused refusal.TranslationWindow (lit< tt)
+    by_refusal w (some r) e c is = refused r
+    by_refusal w none e choice.Absent is = refused refusal.TranslationWindow
     by_refusal w none e (choice.Placement b) is =
         let q = both-passed (asked_of_shot s (length lent)) (shot_goes_on s (length lent)) (asked_from15 s) e in
         placed b (record {
@@ -100,9 +92,9 @@ of_answer bytes lent small P refused placed = by_record (whole_record bytes) ref
         })
 
     by_record : (w : Bool) → whole_record bytes ≡ w → P (matched_shot (cond w (some s) none) (length lent))
-    by_record false w = refused refusal.InvalidRecord (lit< tt)
+    by_record false w = refused refusal.InvalidRecord
     by_record true w = by_refusal w (refused_by s (length lent)) refl (best s) refl
 
 pub match_accurate : (bytes lent : List ℕ) → Small bytes → Accuracy bytes (match_answer bytes lent)
 match_accurate bytes lent small =
-    of_answer bytes lent small (Accuracy bytes) (λ r h. tt) (λ b p. accurately (shot bytes) p.passed b p.is p.some-marker)
+    of_answer bytes lent small (Accuracy bytes) (λ r. tt) (λ b p. accurately (shot bytes) p.passed b p.is p.some-marker)

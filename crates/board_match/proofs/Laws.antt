@@ -78,5 +78,5 @@ module _ (s : Shot) (p : PassedShot s) (b : Hypothesis) (is : best s ≡ choice.
 
 pub match_corners : CornersRule
 match_corners bytes lent small m =
-    of_answer bytes lent small (λ a. a ≡ matched.Placed m → CornersAligned m) (λ r h e. let z : ◌≡◌ {A = ℕ} 0 1 = cc in absurd (omega arith))
+    of_answer bytes lent small (λ a. a ≡ matched.Placed m → CornersAligned m) (λ r e. let z : ◌≡◌ {A = ℕ} 0 1 = cc in absurd (omega arith))
     (λ b p. aligned (shot bytes) p.passed b p.is m)

@@ -1,11 +1,8 @@
--- The questions of Match before 15, followed by others, and the numbers of their errors. Assumes nothing.
+-- The questions of Match before 15, followed by others. Assumes nothing.
 use Prim.Native.Nat.{ℕ}
-use mathlib.Core.Option.{Option}
-use lib.Dec.{lit<}
-use Rattle.refusal.specs.declared.Refusal.{Refusal}
-use Rattle.refusal.proofs.Questions.{GoesOn, ask-first, ask_last, followed_by, Below, ask-below}
+use Rattle.refusal.proofs.Questions.{GoesOn, ask-first, ask_last, followed_by}
 use Rattle.board.specs.Questions.{asked_of_board}
-use Rattle.board.proofs.Asked.{board_goes_on, board-below}
+use Rattle.board.proofs.Asked.{board_goes_on}
 use Rattle.shot_record.specs.Shots.{Shot}
 use Rattle.shot_record.specs.Answers.{config_of, spec_of}
 use Rattle.board_match.specs.Questions.{settings_answer, table_answer, some_answer, cells_answer, points_answer, samples_answer, room_answer, asked_from9, asked_of_shot}
@@ -24,14 +21,3 @@ from_9_goes_on s words =
 pub shot_goes_on : (s : Shot) (words : ℕ) → GoesOn (asked_of_shot s words)
 shot_goes_on s words =
     followed_by (asked_of_board (spec_of s) s.codes) (asked_from9 s words) (board_goes_on (spec_of s) s.codes) (from_9_goes_on s words)
-
-pub shot-below : (s : Shot) (words : ℕ) (rest : Option Refusal) → Below 26 rest → Below 26 (asked_of_shot s words rest)
-unfolding asked_from9
-shot-below s words rest below =
-    board-below (spec_of s) s.codes _
-    (ask-below 26 (settings_answer (config_of s)) _ _ (lit< tt)
-    (ask-below 26 (table_answer s) _ _ (lit< tt)
-    (ask-below 26 (some_answer s) _ _ (lit< tt)
-    (ask-below 26 (cells_answer s) _ _ (lit< tt)
-    (ask-below 26 (points_answer s) _ _ (lit< tt)
-    (ask-below 26 (samples_answer s) _ _ (lit< tt) (ask-below 26 (room_answer s words) _ _ (lit< tt) below)))))))

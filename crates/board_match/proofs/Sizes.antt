@@ -55,4 +55,4 @@ module _ (s : Shot) (p : PassedShot s) where
 
 pub small-answer : SizesRule
 small-answer bytes lent small =
-    of_answer bytes lent small (SmallAnswer bytes) (λ r h. h) (λ b p. small_match (shot bytes) p.passed b p.is)
+    of_answer bytes lent small (SmallAnswer bytes) (λ r. tt) (λ b p. small_match (shot bytes) p.passed b p.is)

@@ -1,6 +1,5 @@
--- Upper bounds of the numbers of a match, and of the error number.
+-- Upper bounds of the numbers of a match.
 use Rattle.std.specs.Prelude.{ℕ, ◌≤◌, ◌<◌, List, get_or}
-use Rattle.refusal.specs.Numbers.{number_of}
 use Rattle.grid_alignment.specs.Alignment.{SmallAlignment}
 use Rattle.shot_record.specs.Shots.{shot}
 use Rattle.ranking.specs.declared.Hypothesis.{Hypothesis}
@@ -32,7 +31,7 @@ pub record SmallMatch (cells : ℕ) (m : Match) : Type 0 where
 
 abbrev pub SmallAnswer : List ℕ → Matched → Type 0
 SmallAnswer bytes (matched.Placed m) = SmallMatch (cell_total (shot bytes)) m
-SmallAnswer bytes (matched.Refused refused) = number_of refused < 26
+SmallAnswer bytes (matched.Refused refused) = Unit {0}
 
 -- for every record
 abbrev pub SizesRule : Type 0

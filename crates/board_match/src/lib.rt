@@ -1,4 +1,7 @@
 // Match checks a shot record, finds the placement of its cells on the board and emits the markers (board_match/mod.rs).
+
+#![tactic(auto)]
+
 ghost use Rattle.std.specs.Prelude.{◌≡◌, map, length, replicate};
 ghost use Rattle.std.proofs.Math.Option.{none};
 ghost use Rattle.score_matrix.specs.Table.{built_in};
@@ -28,7 +31,7 @@ use shot_record::{bulk, cells, fields, index, questions as board_questions};
 
 // A placed shot: the best placement and its runner-up, the margin between them, the number of placements, the alignment of the corners, and the
 // number of emitted markers.
-#[derive(Drop)]
+#[derive(Clone, Copy)]
 pub struct Match {
     pub best: Hypothesis,
     pub runner_up: Choice,
@@ -38,14 +41,14 @@ pub struct Match {
     pub markers: usize,
 }
 
-#[derive(Drop)]
+#[derive(Clone, Copy)]
 pub enum Matched {
     Placed(Match),
     Refused(Refusal),
 }
 
 // A record that may be searched, or the error of the first question before 15 that fails.
-#[derive(Drop)]
+#[derive(Clone, Copy)]
 pub enum Asked {
     Passed(Inputs),
     Refused(Refusal),

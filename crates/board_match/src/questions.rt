@@ -16,7 +16,7 @@ use score_matrix::{BoardMatchConfig, BorderSample, table};
 use shot_record::fields::Fields;
 use shot_record::{fields, index};
 
-#[derive(Drop)]
+#[derive(Clone, Copy)]
 pub enum Answer {
     Passed,
     Refused(Refusal),

@@ -38,18 +38,16 @@ values-are refusal.CodesAlike = refl
 values-are refusal.RepeatedPoint = refl
 values-are refusal.ScoreListTooShort = refl
 values-are refusal.EvenLegacyBoard = refl
-values-are (refusal.EntryCutOff bytes) = refl
 
 -- END generated values-are
 
 -- at most two
 pub few : (n : ℕ) → value_count n ≤ 2
-few n = go (eqb n 7) (eqb n 16) (eqb n 26) where
-  go : (a b c : Bool) → cond a 2 (cond b 1 (cond c 1 0)) ≤ 2
-  go true b c = lit≤ tt
-  go false true c = lit≤ tt
-  go false false true = lit≤ tt
-  go false false false = lit≤ tt
+few n = go (eqb n 7) (eqb n 16) where
+  go : (a b : Bool) → cond a 2 (cond b 1 0) ≤ 2
+  go true b = lit≤ tt
+  go false true = lit≤ tt
+  go false false = lit≤ tt
 
 -- equal results have equal numbers and words
 pub telling : {a b : Answer} {r : ℕ} {lent exit : List ℕ} → a ≡ b → Tells a r lent exit → Tells b r lent exit

@@ -28,4 +28,4 @@ pub record Tells (a : Answer) (r : ℕ) (lent exit : List ℕ) : Type 0 where
 
 -- the number of values of an error number
 abbrev pub value_count : ℕ → ℕ
-value_count n = cond (eqb n 7) 2 (cond (eqb n 16) 1 (cond (eqb n 26) 1 0))
+value_count n = cond (eqb n 7) 2 (cond (eqb n 16) 1 0)

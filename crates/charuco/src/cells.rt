@@ -16,8 +16,7 @@ fn tell_cells(answer: MarkerCells, values: &mut [u32]) -> u32
     }
 }
 
-#[unsafe(no_mangle)]
-pub extern "C" fn charuco_build_marker_cells(
+pub fn charuco_build_marker_cells(
     scores: &[f32],
     grid: &[i32],
     inliers: &[usize],

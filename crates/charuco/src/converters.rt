@@ -16,8 +16,7 @@ fn tell_converted(answer: Converted, values: &mut [u32]) -> u32
     }
 }
 
-#[unsafe(no_mangle)]
-pub extern "C" fn charuco_restate(bytes: &[u8], sheet: &mut [u8], values: &mut [u32]) -> u32
+pub fn charuco_restate(bytes: &[u8], sheet: &mut [u8], values: &mut [u32]) -> u32
     ensures answer { Tells (converted_told (restate_answer bytes.now sheet.old)) result values.old values.new }
     ensures list { sheet.new ≡ restate_list bytes.now sheet.old }
 {

@@ -37,8 +37,7 @@ fn tell_corners(answer: MappedCorners, values: &mut [u32]) -> u32
     }
 }
 
-#[unsafe(no_mangle)]
-pub extern "C" fn charuco_map_charuco_corners(
+pub fn charuco_map_charuco_corners(
     rows: u32,
     cols: u32,
     bits: u32,

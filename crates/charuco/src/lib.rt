@@ -1,5 +1,8 @@
-// Exposes every entry point with its types, to Rattle under its own name and to C as `charuco_NAME`.
+// Exposes every entry point with its types, under its own name and, with words for results, as `charuco_NAME`, which `charuco_c` exports to C.
 // No entry point has a `requires`. A C function returns 0 or the error number, and writes words to an output array; `include/charuco.h` lists them.
+
+#![tactic(auto)]
+
 mod boards;
 mod cells;
 mod converters;

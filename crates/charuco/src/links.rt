@@ -26,8 +26,7 @@ fn tell_links(answer: CheckedLinks, values: &mut [u32]) -> u32
     }
 }
 
-#[unsafe(no_mangle)]
-pub extern "C" fn charuco_validate_marker_corner_links(
+pub fn charuco_validate_marker_corner_links(
     rows: u32,
     cols: u32,
     bits: u32,

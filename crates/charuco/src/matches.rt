@@ -105,8 +105,7 @@ fn tell_match(answer: Matched, values: &mut [u32]) -> u32
     }
 }
 
-#[unsafe(no_mangle)]
-pub extern "C" fn charuco_match_board(bytes: &[u8], markers: &mut [u32], values: &mut [u32]) -> u32
+pub fn charuco_match_board(bytes: &[u8], markers: &mut [u32], values: &mut [u32]) -> u32
     ensures answer { Tells (match_told (match_answer bytes.now markers.old)) result values.old values.new }
     ensures list { markers.new ≡ match_list bytes.now markers.old }
     ensures accuracy { Accuracy bytes.now (match_answer bytes.now markers.old) }
@@ -115,8 +114,7 @@ pub extern "C" fn charuco_match_board(bytes: &[u8], markers: &mut [u32], values:
     tell_match(answer, values)
 }
 
-#[unsafe(no_mangle)]
-pub extern "C" fn charuco_match_board_with_scores(
+pub fn charuco_match_board_with_scores(
     bytes: &[u8],
     scores: &mut [f32],
     markers: &mut [u32],

@@ -53,8 +53,7 @@ fn tell_header(answer: ReadHeader, values: &mut [u32]) -> u32
     }
 }
 
-#[unsafe(no_mangle)]
-pub extern "C" fn charuco_read_header(bytes: &[u8], values: &mut [u32]) -> u32
+pub fn charuco_read_header(bytes: &[u8], values: &mut [u32]) -> u32
     ensures { Tells (header_told (header_answer bytes.now)) result values.old values.new }
 {
     tell_header(shot_record::read_header(bytes), values)
@@ -70,8 +69,7 @@ fn tell_entry(answer: ReadEntry, values: &mut [u32]) -> u32
     }
 }
 
-#[unsafe(no_mangle)]
-pub extern "C" fn charuco_table_entry(bytes: &[u8], k: usize, values: &mut [u32]) -> u32
+pub fn charuco_table_entry(bytes: &[u8], k: usize, values: &mut [u32]) -> u32
     ensures { Tells (entry_told (entry_answer (parse bytes.now) k)) result values.old values.new }
 {
     tell_entry(shot_record::table_entry(bytes, k), values)
@@ -94,8 +92,7 @@ fn tell_code(answer: ReadCode, values: &mut [u32]) -> u32
     }
 }
 
-#[unsafe(no_mangle)]
-pub extern "C" fn charuco_code(bytes: &[u8], k: usize, values: &mut [u32]) -> u32
+pub fn charuco_code(bytes: &[u8], k: usize, values: &mut [u32]) -> u32
     ensures { Tells (code_told (code_answer (parse bytes.now) k)) result values.old values.new }
 {
     tell_code(shot_record::code(bytes, k), values)
@@ -135,16 +132,14 @@ fn tell_cell(answer: ReadCell, values: &mut [u32]) -> u32
     }
 }
 
-#[unsafe(no_mangle)]
-pub extern "C" fn charuco_cell(bytes: &[u8], k: usize, values: &mut [u32]) -> u32
+pub fn charuco_cell(bytes: &[u8], k: usize, values: &mut [u32]) -> u32
     ensures { Tells (cell_told (cell_answer (parse bytes.now) k)) result values.old values.new }
 {
     tell_cell(shot_record::cell(bytes, k), values)
 }
 
 // The byte range of the grid of cell k.
-#[unsafe(no_mangle)]
-pub extern "C" fn charuco_grid(bytes: &[u8], k: usize, values: &mut [u32]) -> u32
+pub fn charuco_grid(bytes: &[u8], k: usize, values: &mut [u32]) -> u32
     ensures answer { Tells (grid_told bytes.now (header_answer bytes.now) k) result values.old values.new }
     ensures grid { Lies bytes.now (part_answer bytes.now (parse bytes.now) k)
         (grid_answer (parse bytes.now) k) }

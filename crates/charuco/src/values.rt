@@ -36,9 +36,6 @@ fn value_count(number: u32) -> usize
     if number == 16 {
         return 1;
     }
-    if number == 26 {
-        return 1;
-    }
     0
 }
 

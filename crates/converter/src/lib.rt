@@ -1,16 +1,20 @@
 // Runs a converter of records as a program: reads a record from the standard input and prints the new one.
 // A refused record prints `refused` and the error number on the standard error, and nothing on the standard output.
+
+#![tactic(auto)]
+
 ghost use Rattle.std.specs.Prelude.{◌≡◌, ℕ, ◌≤◌, length};
 ghost use Rattle.shot_record.specs.declared.Converted.TheVariants as converted;
+ghost use Rattle.place_text.specs.Text.{refusal_line};
+ghost use Rattle.place_text.specs.Writing.{Printed};
 ghost use Rattle.converter.specs.Conversions.{answer_of, list_of};
 
-use libc::{STDERR_FILENO, STDOUT_FILENO};
 use place_text::{lines, writer};
 use refusal::Refusal;
 use shot_record::Converted;
 use standard_input::Input;
 
-#[derive(Drop)]
+#[derive(Clone, Copy)]
 pub enum Conversion {
     Restate,
 }
@@ -25,35 +29,43 @@ fn convert(conversion: Conversion, bytes: &[u8], sheet: &mut [u8]) -> Converted
     }
 }
 
-fn tell_refusal(refusal: Refusal) {
-    let mut text: [u8; 22] = [0; 22];
-    let length = lines::put_refusal(&mut text, 0, refusal);
-    io::write_all(STDERR_FILENO, &text[..length]);
+// The line of a refusal, complete if the text has 20 bytes.
+fn put_line(text: &mut [u8], refusal: Refusal) -> usize
+    ensures line { Printed (refusal_line refusal) 0 result text.old text.new }
+    ensures room { length (refusal_line refusal) ≤ 20 }
+{
+    lines::put_refusal(text, 0, refusal)
 }
 
-// A program has no exit status: a failure is printed on the standard error, after the program's name.
-fn fail(name: &[u8], what: &[u8]) {
-    io::write_all(STDERR_FILENO, name);
-    io::write_all(STDERR_FILENO, what);
+fn tell_refusal(rt: HostRuntime, refusal: Refusal) {
+    let mut text: [u8; 20] = [0; 20];
+    let length = put_line(&mut text, refusal);
+    standard_output::write_all(&mut rt.stderr(), &text[..length]);
 }
 
-fn put_sheet(name: &[u8], sheet: &[u8], count: usize)
+// The exit status is always 0: a failure is printed on the standard error, after the program's name.
+fn fail(rt: HostRuntime, name: &[u8], what: &[u8]) {
+    standard_output::write_all(&mut rt.stderr(), name);
+    standard_output::write_all(&mut rt.stderr(), what);
+}
+
+fn put_sheet(rt: HostRuntime, name: &[u8], sheet: &[u8], count: usize)
     requires { count ≤ length sheet.now }
 {
-    if !io::write_all(STDOUT_FILENO, &sheet[..count]) {
-        fail(name, b": cannot write the standard output\n");
+    if !standard_output::write_all(&mut rt.stdout(), &sheet[..count]) {
+        fail(rt, name, b": cannot write the standard output\n");
     }
 }
 
 // A record has at most 65,535 bytes. One more byte is read, so that a longer input fails question 21.
-pub fn run(name: &[u8], conversion: Conversion) {
+pub fn run(rt: HostRuntime, name: &[u8], conversion: Conversion) {
     let mut bytes: [u8; 65536] = [0; 65536];
-    let input = standard_input::read_all(&mut bytes);
+    let input = standard_input::read_all(&mut rt.stdin(), &mut bytes);
     let read = match input {
         Input::Ended(count) => count,
         Input::Full(count) => count,
         Input::Failed => {
-            fail(name, b": cannot read the standard input\n");
+            fail(rt, name, b": cannot read the standard input\n");
             return;
         }
     };
@@ -62,7 +74,7 @@ pub fn run(name: &[u8], conversion: Conversion) {
     let mut sheet: [u8; 65536] = [0; 65536];
     let answer = convert(conversion, &all[..end], &mut sheet);
     match answer {
-        Converted::Written(count) => put_sheet(name, &sheet, count),
-        Converted::Refused(refusal) => tell_refusal(refusal),
+        Converted::Written(count) => put_sheet(rt, name, &sheet, count),
+        Converted::Refused(refusal) => tell_refusal(rt, refusal),
     }
 }

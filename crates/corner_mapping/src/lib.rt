@@ -1,4 +1,7 @@
 // The corner entry point: maps input corners to inner corners of the board, per id the one of greatest score (corner_mapping.rs).
+
+#![tactic(auto)]
+
 ghost use Rattle.std.specs.Prelude.{◌≡◌, ◌≤◌};
 ghost use Rattle.corner_mapping.specs.Entry.{alignment_answer, corner_range_answer, input, mapped_on, list_on, map_corners, map_corners_list};
 
@@ -11,7 +14,7 @@ use marker_sampling::questions;
 use refusal::Refusal;
 
 // The number of corners mapped.
-#[derive(Drop)]
+#[derive(Clone, Copy)]
 pub enum MappedCorners {
     Mapped(usize),
     Refused(Refusal),

@@ -14,7 +14,7 @@ use score_matrix::BorderSample;
 use shot_record::index;
 
 // A sampled cell and the marker expected in it, with the marker's rotated code.
-#[derive(Drop)]
+#[derive(Clone, Copy)]
 pub struct Candidate {
     pub cell: u32,
     pub id: u32,
@@ -27,7 +27,7 @@ pub struct Candidate {
 }
 
 // `Absent` for an unsampled cell, and where no marker is expected.
-#[derive(Drop)]
+#[derive(Clone, Copy)]
 pub enum Expected {
     Marker(Candidate),
     Absent,

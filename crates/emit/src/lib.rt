@@ -1,4 +1,7 @@
 // Emits, in cell order, the markers that a placement expects in sampled cells with weight above 0 and evidence above 0 (emit.rs).
+
+#![tactic(auto)]
+
 ghost use Rattle.std.specs.Prelude.{◌≡◌, ◌+◌, ◌*◌, ◌≤◌, length};
 ghost use mathlib.Core.List.{flat_map};
 ghost use Rattle.lent_list.specs.Front.{in_front, Put};

@@ -1,5 +1,8 @@
 // Converts, tests and clamps f32 values, specified for every bit pattern and every value.
 // `proofs/` bounds the rounding errors of sums and products, in integer multiples of 2⁻¹⁴⁹ (`specs/Units.antt`).
+
+#![tactic(auto)]
+
 ghost use Rattle.std.specs.Prelude.{◌≡◌};
 ghost use Rattle.std.specs.Float.{binary32};
 ghost use Rattle.std.specs.Float.Ieee.{nan_bits, of_bits, to_bits};

@@ -1,18 +1,21 @@
 // Rotates grid points by multiples of 90° and applies grid alignments (grid_alignment.rs; `rotate_gc_top_left` of emit.rs).
 // A grid point is two i16, as in the record; results are i32, as upstream's `Coord`.
+
+#![tactic(auto)]
+
 ghost use Rattle.std.specs.Prelude.{◌≡◌};
 ghost use Rattle.grid_alignment.specs.Alignment.{point, sends, matrix_of, corner, rect_corners};
 
 pub mod alignments;
 
-#[derive(Drop)]
+#[derive(Clone, Copy)]
 pub struct Coord {
     pub u: i32,
     pub v: i32,
 }
 
 // A turn (rotation by 90° × turn), then a translation: of cells or of corners.
-#[derive(Drop)]
+#[derive(Clone, Copy)]
 pub struct GridAlignment {
     pub turn: u8,
     pub tx: i32,
@@ -20,7 +23,7 @@ pub struct GridAlignment {
 }
 
 // Maps (u, v) to (a u + b v, c u + d v).
-#[derive(Drop)]
+#[derive(Clone, Copy)]
 pub struct Matrix {
     pub a: i32,
     pub b: i32,

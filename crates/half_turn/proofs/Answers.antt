@@ -20,8 +20,6 @@ use Rattle.shot_record.proofs.LittleEndian.{byte-below}
 use Rattle.ranking.specs.declared.Hypothesis.{Hypothesis}
 use Rattle.ranking.specs.declared.Choice.{Choice}
 use Rattle.ranking.specs.declared.Choice.TheVariants as choice
-use Rattle.ranking.specs.Margin.{margin}
-use Rattle.hypothesis.specs.Placements.{placements}
 use Rattle.hypothesis.specs.Search.{best, runner_up}
 use Rattle.hypothesis.specs.Inputs.{PassedShot}
 use Rattle.emit.specs.Markers.{Marker, markers, marker_words}

@@ -7,14 +7,14 @@ use super::Frame;
 use board::Board;
 use shot_record::index;
 
-#[derive(Drop)]
+#[derive(Clone, Copy)]
 pub struct Extremes {
     pub least: i16,
     pub greatest: i16,
 }
 
 // The bounding box: the least and the greatest u and v.
-#[derive(Drop)]
+#[derive(Clone, Copy)]
 pub struct Sides {
     pub u: Extremes,
     pub v: Extremes,
@@ -22,7 +22,7 @@ pub struct Sides {
 
 // A turn (rotation by 90° × `turn`): the least u and v of its frame, and the number of translations that keep the frame on the board, across and
 // down.
-#[derive(Drop)]
+#[derive(Clone, Copy)]
 pub struct Turn {
     pub turn: u8,
     pub u: i32,

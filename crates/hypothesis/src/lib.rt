@@ -1,4 +1,7 @@
 // Searches all placements of the observed cells on the board for the one with the greatest evidence (hypothesis.rs).
+
+#![tactic(auto)]
+
 mod capacity;
 mod counting;
 mod fill;
@@ -13,7 +16,7 @@ use ranking::{Choice, Hypothesis};
 use score_matrix::BoardMatchConfig;
 
 // The inputs of the search beside the index of the cells, computed from the record once. `grid_size` is the number of bytes in a cell's grid.
-#[derive(Drop)]
+#[derive(Clone, Copy)]
 pub struct Inputs {
     pub cells: usize,
     pub grid_size: usize,
@@ -22,7 +25,7 @@ pub struct Inputs {
 }
 
 // The bounding box of the rotated cells: least u and v, width and height in squares.
-#[derive(Drop)]
+#[derive(Clone, Copy)]
 pub struct Frame {
     pub u: i32,
     pub v: i32,
@@ -31,7 +34,7 @@ pub struct Frame {
 }
 
 // The best placement, its runner-up, the number of placements, and the margin.
-#[derive(Drop)]
+#[derive(Clone, Copy)]
 pub struct Selection {
     pub best: Hypothesis,
     pub runner_up: Choice,
@@ -39,7 +42,7 @@ pub struct Selection {
     pub margin: f32,
 }
 
-#[derive(Drop)]
+#[derive(Clone, Copy)]
 pub enum Enumerated {
     Selected(Selection),
     Absent,

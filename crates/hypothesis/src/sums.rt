@@ -12,7 +12,7 @@ use board::{Board, squares};
 use score_matrix::turned;
 
 // A cell that may contribute: its square in the frame, its weight, and what is the same for all cells of a shot.
-#[derive(Drop)]
+#[derive(Clone, Copy)]
 pub struct Counted {
     pub i: usize,
     pub j: usize,
@@ -22,7 +22,7 @@ pub struct Counted {
 }
 
 // A move of the frame by (a, b).
-#[derive(Drop)]
+#[derive(Clone, Copy)]
 pub struct Move {
     pub a: usize,
     pub b: usize,

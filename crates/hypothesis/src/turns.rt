@@ -14,7 +14,7 @@ use grid_alignment::GridAlignment;
 use ranking::{Choice, Evidence, Hypothesis, Ranking};
 
 // Counts of contributing cells. Markers alternate by parity, so all placements with the same parity of a + b have the same count.
-#[derive(Drop)]
+#[derive(Clone, Copy)]
 pub struct Contributing {
     pub even: usize,
     pub odd: usize,

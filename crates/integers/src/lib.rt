@@ -1,5 +1,8 @@
 // Computes combinations, minima, distances and words of small signed numbers, specified on the integers.
 // `proofs/Parts.antt` has the laws of ℤ, `proofs/Distances.antt` those of order and distance.
+
+#![tactic(auto)]
+
 ghost use Rattle.std.specs.Prelude.{◌≡◌, ◌^◌, ◌≤◌, nat_abs, ◌+ℤ◌, ◌-ℤ◌, ◌*ℤ◌};
 ghost use Rattle.std.specs.Int.{w32};
 ghost use Rattle.std.proofs.Common.{of_z};

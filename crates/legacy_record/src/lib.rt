@@ -1,4 +1,7 @@
 // Restates a record of a legacy board in the current layout (document 02, 2.7).
+
+#![tactic(auto)]
+
 ghost use Rattle.std.specs.Prelude.{◌≡◌};
 ghost use Rattle.legacy_record.specs.Restating.{restate_answer, restate_list};
 

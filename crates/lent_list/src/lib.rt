@@ -1,5 +1,8 @@
 // Writes results to the start of an output array, later elements unchanged, and moves elements within an array.
 // The laws are in `proofs/Front.antt`, `proofs/Loops.antt` and `proofs/Moves.antt`.
+
+#![tactic(auto)]
+
 ghost use Rattle.std.specs.Prelude.{◌≡◌, ◌+◌, ◌≤◌, length, take, drop};
 ghost use Rattle.lent_list.specs.Front.{in_front, Put};
 

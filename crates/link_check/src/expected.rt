@@ -4,7 +4,7 @@ ghost use Rattle.link_check.specs.Violations.{expectation, of_corners, has};
 
 use board::{Board, Located, Surrounding};
 
-#[derive(Drop)]
+#[derive(Clone, Copy)]
 pub enum MarkerExpectation {
     Unknown,
     NoFourCorners,
@@ -16,7 +16,7 @@ pub enum MarkerExpectation {
     },
 }
 
-#[derive(Drop)]
+#[derive(Clone, Copy)]
 pub struct MarkerCorners {
     pub marker: u32,
     pub top_left: u32,

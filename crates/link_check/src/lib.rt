@@ -1,4 +1,7 @@
 // The link entry point: checks reported links of markers and corners against the board and lists the violations (link_check.rs).
+
+#![tactic(auto)]
+
 ghost use Rattle.std.specs.Prelude.{◌≡◌, ◌*◌, ◌≤◌, length};
 ghost use Rattle.lent_list.specs.Front.{Put};
 ghost use Rattle.link_check.specs.Links.{link_count};
@@ -18,7 +21,7 @@ use passes::Standard;
 use refusal::Refusal;
 
 // How strictly links are checked.
-#[derive(Drop)]
+#[derive(Clone, Copy)]
 pub enum LinkCheckMode {
     // The corners of a marker are some of its four, each once.
     SubsetOk,
@@ -26,7 +29,7 @@ pub enum LinkCheckMode {
     MustMatchAll4,
 }
 
-#[derive(Drop)]
+#[derive(Clone, Copy)]
 pub enum LinkViolationKind {
     UnknownMarker,
     MarkerHasNoFourCorners,
@@ -50,7 +53,7 @@ impl LinkViolationKind {
 }
 
 // The number of violations.
-#[derive(Drop)]
+#[derive(Clone, Copy)]
 pub enum CheckedLinks {
     Checked(usize),
     Refused(Refusal),

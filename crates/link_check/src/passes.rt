@@ -10,7 +10,7 @@ use super::{LinkCheckMode, chains, expected, missing, own, repeats};
 use board::Board;
 
 // What links are checked against: the board, and how strictly.
-#[derive(Drop)]
+#[derive(Clone, Copy)]
 pub struct Standard {
     pub board: Board,
     pub mode: LinkCheckMode,

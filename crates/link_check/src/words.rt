@@ -6,7 +6,7 @@ ghost use Rattle.link_check.specs.Violations.{told, kind_number};
 use super::LinkViolationKind;
 
 // The missing ones of four corners, in order, padded with 0.
-#[derive(Drop)]
+#[derive(Clone, Copy)]
 pub struct Missing {
     pub count: u32,
     pub corners: [u32; 4],

@@ -1,11 +1,10 @@
 -- Document 02, 2.9: the lines of an entry, as bytes.
 use Rattle.std.specs.Prelude.{ℕ, ◌+◌, ◌-◌, cond, List, [], ◌∷◌, ◌++◌, leb, ltb}
-use Rattle.refusal.specs.declared.Refusal.TheVariants as refusal
 use Rattle.shot_record.specs.Shots.{parse}
 use Rattle.board_match.specs.declared.Matched.{Matched}
 use Rattle.board_match.specs.Match.{matched_shot}
 use Rattle.place_text.specs.Numerals.{decimal}
-use Rattle.place_text.specs.Text.{line, refusal_line, answer_line}
+use Rattle.place_text.specs.Text.{line, the_refused, answer_line}
 use Rattle.log_text.specs.declared.Highest.{Highest}
 use Rattle.log_text.specs.declared.Highest.TheVariants as highest
 
@@ -44,4 +43,4 @@ entry_lines h n shot = order_line h n ++ entry_line n (shot_answer shot)
 
 -- "26: the last entry is cut off; printed as `refused 26` and the count of bytes from that entry's first"
 abbrev pub cut_line : ℕ → List ℕ
-cut_line count = refusal_line (refusal.EntryCutOff count)
+cut_line count = line the_refused (decimal 26 ∷ decimal count ∷ [])

@@ -1,4 +1,7 @@
 // Formats the text of a log of shot records, entry by entry, from bytes that come in pieces of any size (document 02, 2.9).
+
+#![tactic(auto)]
+
 ghost use Rattle.std.specs.Prelude.{◌≡◌, false, ◌≤◌, ◌<◌, length, take, drop};
 ghost use Rattle.place_text.specs.Writing.{Printed};
 ghost use Rattle.log_text.specs.Log.{is_whole, rest_text};
@@ -7,18 +10,15 @@ ghost use Rattle.log_text.specs.Rules.{Takes};
 mod entries;
 mod lines;
 
-use place_text::lines as place_lines;
-use refusal::Refusal;
-
 // The greatest number of the entries before, if there is one.
-#[derive(Drop)]
+#[derive(Clone, Copy)]
 pub enum Highest {
     Absent,
     Seen(u32),
 }
 
 // The number of bytes that were read, the number of bytes of their lines, and the highest number after them.
-#[derive(Drop)]
+#[derive(Clone, Copy)]
 pub struct Fed {
     pub used: usize,
     pub written: usize,
@@ -63,11 +63,5 @@ pub fn finish(bytes: &[u8], text: &mut [u8]) -> usize
     if count == 0 {
         return 0;
     }
-    place_lines::put_refusal(
-        text,
-        0,
-        Refusal::EntryCutOff {
-            bytes: (count % 0x1_0000_0000) as u32,
-        },
-    )
+    lines::put_cut(text, 0, count)
 }

@@ -2,7 +2,7 @@
 ghost use Rattle.std.specs.Prelude.{◌≤◌, length};
 ghost use Rattle.place_text.specs.Text.{answer_line};
 ghost use Rattle.place_text.specs.Writing.{Printed};
-ghost use Rattle.log_text.specs.Lines.{step_line, order_line, entry_line, shot_answer, entry_lines};
+ghost use Rattle.log_text.specs.Lines.{step_line, order_line, entry_line, shot_answer, entry_lines, cut_line};
 
 use super::Highest;
 use board_match::Matched;
@@ -70,4 +70,14 @@ pub fn put_lines(
 {
     let next = put_order(text, at, highest, n);
     put_entry(text, next, n, shot, markers)
+}
+
+// The line of an entry that the end of the log cuts off, of which `count` bytes are there.
+pub fn put_cut(text: &mut [u8], at: usize, count: usize) -> usize
+    ensures { Printed (cut_line count) at result text.old text.new }
+{
+    let mut next = writer::put_all(text, at, b"refused");
+    next = words::and_decimal(text, next, 26);
+    next = words::and_decimal(text, next, count as u64);
+    writer::put(text, next, b'\n')
 }

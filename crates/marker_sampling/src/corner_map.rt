@@ -84,7 +84,7 @@ fn seek(map: &[u64; 1024], n: usize, from: usize, x: u64) -> usize
 }
 
 // An inlier or −1, and the index at which the next search can start.
-#[derive(Drop)]
+#[derive(Clone, Copy)]
 pub struct Found {
     pub index: i32,
     pub end: usize,

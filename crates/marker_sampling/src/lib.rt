@@ -1,4 +1,7 @@
 // The cells entry point: finds the whole cells, those with an inlier at each of their four corners (marker_sampling.rs, corner_map.rs).
+
+#![tactic(auto)]
+
 ghost use Rattle.std.specs.Prelude.{◌≡◌};
 ghost use Rattle.marker_sampling.specs.Entry.{corners_answer, marker_cells, marker_cells_list};
 
@@ -9,7 +12,7 @@ mod walk;
 use refusal::Refusal;
 
 // The number of cells found.
-#[derive(Drop)]
+#[derive(Clone, Copy)]
 pub enum MarkerCells {
     Found(usize),
     Refused(Refusal),

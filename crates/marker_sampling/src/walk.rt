@@ -13,7 +13,7 @@ fn coordinate(offset: u64) -> i32
 }
 
 // A cell's words, and the indices at which the searches for the cells after it can start: in its row, and in the row below.
-#[derive(Drop)]
+#[derive(Clone, Copy)]
 struct Cell {
     words: [i32; 6],
     here: usize,

@@ -1,9 +1,12 @@
 // Rotates marker codes by multiples of 90° and computes their Hamming distance (matcher.rs).
+
+#![tactic(auto)]
+
 ghost use Rattle.std.specs.Prelude.{◌≡◌, ◌+◌, ◌*◌, ◌<◌, ◌≤◌};
 ghost use Rattle.matcher.specs.Codes.{from_bits, source, turned_bit, turned_word, differing};
 
 // Column and row of a bit in a code, from 0.
-#[derive(Drop)]
+#[derive(Clone, Copy)]
 pub struct Place {
     pub x: u64,
     pub y: u64,

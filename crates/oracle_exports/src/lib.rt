@@ -1,5 +1,8 @@
-// Exports to C, for tests only, what no entry point returns by itself: one number each, or all scores of a cell.
-// The oracle and `stored_rows` call these functions; they call the entry points through `charuco`. Every function accepts every number and array.
+// For tests only: what no entry point returns by itself, one number each, or all scores of a cell.
+// `oracle_exports_c` exports these functions to C for the oracle, and `stored_rows` calls them; both call the entry points through `charuco`. Every function accepts every number and array.
+
+#![tactic(auto)]
+
 ghost use Rattle.std.specs.Prelude.{◌≡◌, ◌%◌};
 ghost use Rattle.matcher.specs.Codes.{turned_word, differing};
 ghost use Rattle.grid_alignment.specs.Alignment.{point, sends, corner};
@@ -13,22 +16,20 @@ use grid_alignment::{Coord, GridAlignment, alignments};
 mod scores;
 
 pub use scores::{
-    oracle_cell_weight, oracle_evidence, oracle_null_score, oracle_read_code, oracle_score,
-    oracle_table_entry,
+    oracle_cell_scores, oracle_cell_weight, oracle_evidence, oracle_is_table, oracle_null_score,
+    oracle_read_code, oracle_score, oracle_table_entry,
 };
 
 // No id or no position.
 const ABSENT: u64 = 18446744073709551615;
 
-#[unsafe(no_mangle)]
-pub extern "C" fn oracle_rotate_code_u64(code: u64, n: u8, turn: u8) -> u64
+pub fn oracle_rotate_code_u64(code: u64, n: u8, turn: u8) -> u64
     ensures { result ≡ turned_word n turn code }
 {
     matcher::rotate_code_u64(code, n, turn)
 }
 
-#[unsafe(no_mangle)]
-pub extern "C" fn oracle_differing_bits(a: u64, b: u64) -> u32
+pub fn oracle_differing_bits(a: u64, b: u64) -> u32
     ensures { result ≡ differing 64 a b }
 {
     matcher::differing_bits(a, b)
@@ -44,22 +45,19 @@ fn along(p: Coord, axis: u8) -> i32
     p.v
 }
 
-#[unsafe(no_mangle)]
-pub extern "C" fn oracle_turned(turn: u8, u: i16, v: i16, axis: u8) -> i32
+pub fn oracle_turned(turn: u8, u: i16, v: i16, axis: u8) -> i32
     ensures { result ≡ axis_of (sends turn (point u v)) axis }
 {
     along(grid_alignment::turned(turn, u, v), axis)
 }
 
-#[unsafe(no_mangle)]
-pub extern "C" fn oracle_rotate_gc_top_left(turn: u8, u: i16, v: i16, axis: u8) -> i32
+pub fn oracle_rotate_gc_top_left(turn: u8, u: i16, v: i16, axis: u8) -> i32
     ensures { result ≡ axis_of (corner turn (point u v)) axis }
 {
     along(grid_alignment::rotate_gc_top_left(u, v, turn), axis)
 }
 
-#[unsafe(no_mangle)]
-pub extern "C" fn oracle_corner_translation(turn: u8, tx: i16, ty: i16, axis: u8) -> i32
+pub fn oracle_corner_translation(turn: u8, tx: i16, ty: i16, axis: u8) -> i32
     ensures { result ≡ axis_of (corner_translation turn tx ty) axis }
 {
     let cells = GridAlignment {
@@ -78,8 +76,7 @@ pub extern "C" fn oracle_corner_translation(turn: u8, tx: i16, ty: i16, axis: u8
 }
 
 // Corners 0 to 3 are top left, top right, bottom right, bottom left.
-#[unsafe(no_mangle)]
-pub extern "C" fn oracle_cell_rect_corner(u: i16, v: i16, px: f32, corner: u8, axis: u8) -> f32
+pub fn oracle_cell_rect_corner(u: i16, v: i16, px: f32, corner: u8, axis: u8) -> f32
     ensures { result ≡ rect_corner u v px (corner % 4) (axis % 2) }
 {
     let corners = grid_alignment::cell_rect_corners_at(u, v, px);
@@ -122,51 +119,38 @@ fn place_word(place: Located) -> u64
     }
 }
 
-#[unsafe(no_mangle)]
-pub extern "C" fn oracle_marker_count(rows: u8, cols: u8, legacy: u32) -> u64
+pub fn oracle_marker_count(rows: u8, cols: u8, legacy: u32) -> u64
     ensures { result ≡ marker_total (board_with rows cols legacy unit_size) }
 {
     board_of(rows, cols, legacy, 1.0).marker_count() as u64
 }
 
-#[unsafe(no_mangle)]
-pub extern "C" fn oracle_marker_id_at(rows: u8, cols: u8, legacy: u32, i: i32, j: i32) -> u64
+pub fn oracle_marker_id_at(rows: u8, cols: u8, legacy: u32, i: i32, j: i32) -> u64
     ensures { result ≡ id_word (marker_on (board_with rows cols legacy unit_size) i j) }
 {
     id_word(board_of(rows, cols, legacy, 1.0).marker_id_at(i, j))
 }
 
-#[unsafe(no_mangle)]
-pub extern "C" fn oracle_marker_position(rows: u8, cols: u8, legacy: u32, id: u32) -> u64
+pub fn oracle_marker_position(rows: u8, cols: u8, legacy: u32, id: u32) -> u64
     ensures { result ≡ place_word (marker_square (board_with rows cols legacy unit_size) id) }
 {
     place_word(board_of(rows, cols, legacy, 1.0).marker_position(id))
 }
 
-#[unsafe(no_mangle)]
-pub extern "C" fn oracle_corner_id(rows: u8, cols: u8, legacy: u32, i: i32, j: i32) -> u64
+pub fn oracle_corner_id(rows: u8, cols: u8, legacy: u32, i: i32, j: i32) -> u64
     ensures { result ≡ id_word (corner_at rows cols i j) }
 {
     id_word(board_of(rows, cols, legacy, 1.0).charuco_corner_id_from_board_corner(i, j))
 }
 
-#[unsafe(no_mangle)]
-pub extern "C" fn oracle_corner_position(rows: u8, cols: u8, legacy: u32, id: u32) -> u64
+pub fn oracle_corner_position(rows: u8, cols: u8, legacy: u32, id: u32) -> u64
     ensures { result ≡ place_word (corner_place rows cols id) }
 {
     place_word(board_of(rows, cols, legacy, 1.0).board_corner(id))
 }
 
 // NaN for an unknown id.
-#[unsafe(no_mangle)]
-pub extern "C" fn oracle_object_xy(
-    rows: u8,
-    cols: u8,
-    legacy: u32,
-    cell_size: f32,
-    id: u32,
-    axis: u8,
-) -> f32
+pub fn oracle_object_xy(rows: u8, cols: u8, legacy: u32, cell_size: f32, id: u32, axis: u8) -> f32
     ensures { result ≡ axis_of_point (object_point rows cols cell_size id) axis }
 {
     let point = board_of(rows, cols, legacy, cell_size).charuco_object_xy(id);
@@ -177,14 +161,7 @@ pub extern "C" fn oracle_object_xy(
 }
 
 // Corners 0 to 3 are top left, top right, bottom right, bottom left.
-#[unsafe(no_mangle)]
-pub extern "C" fn oracle_surrounding_corner(
-    rows: u8,
-    cols: u8,
-    legacy: u32,
-    marker: u32,
-    corner: u8,
-) -> u64
+pub fn oracle_surrounding_corner(rows: u8, cols: u8, legacy: u32, marker: u32, corner: u8) -> u64
     ensures { result ≡ four_word (surrounding_corners (board_with rows cols legacy unit_size) marker) (corner % 4) }
 {
     let around = board_of(rows, cols, legacy, 1.0).marker_surrounding_charuco_corners(marker);

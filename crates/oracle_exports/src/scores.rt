@@ -14,8 +14,7 @@ ghost use Rattle.oracle_exports.specs.Words.{whole_grid, ScoresWritten, border_s
 use score_matrix::{BoardMatchConfig, BorderSample, cell, table};
 
 // NaN past the table.
-#[unsafe(no_mangle)]
-pub extern "C" fn oracle_table_entry(i: usize) -> f32
+pub fn oracle_table_entry(i: usize) -> f32
     ensures { result ≡ get_or built_in i nan }
 {
     let entries = table::built_in_table();
@@ -25,8 +24,7 @@ pub extern "C" fn oracle_table_entry(i: usize) -> f32
     0.0 / 0.0
 }
 
-#[unsafe(no_mangle)]
-pub extern "C" fn oracle_is_table(table: &[f32]) -> u8
+pub fn oracle_is_table(table: &[f32]) -> u8
     ensures { result ≡ as_one (is_table table.now) }
 {
     if table::is_table(table) {
@@ -44,8 +42,7 @@ fn border_of(sampled: bool, fraction: f32) -> BorderSample
     BorderSample::Unsampled
 }
 
-#[unsafe(no_mangle)]
-pub extern "C" fn oracle_cell_weight(
+pub fn oracle_cell_weight(
     border_threshold: f32,
     least_weight: f32,
     sampled: bool,
@@ -62,15 +59,13 @@ pub extern "C" fn oracle_cell_weight(
     score_matrix::cell_weight(config, border_of(sampled, fraction))
 }
 
-#[unsafe(no_mangle)]
-pub extern "C" fn oracle_null_score(bits: u8) -> f32
+pub fn oracle_null_score(bits: u8) -> f32
     ensures { result ≡ null_score bits }
 {
     score_matrix::null_score(bits)
 }
 
-#[unsafe(no_mangle)]
-pub extern "C" fn oracle_evidence(score: f32, bits: u8) -> f32
+pub fn oracle_evidence(score: f32, bits: u8) -> f32
     ensures { result ≡ sub binary32 score (null_score bits) }
 {
     score_matrix::evidence(score, bits)
@@ -83,8 +78,7 @@ fn is_whole(len: usize, bits: u8, border: u8) -> bool
     bits <= 8 && len == n * n
 }
 
-#[unsafe(no_mangle)]
-pub extern "C" fn oracle_score(
+pub fn oracle_score(
     table: &[f32; 511],
     grid: &[u8],
     threshold: u8,
@@ -101,8 +95,7 @@ pub extern "C" fn oracle_score(
     0.0
 }
 
-#[unsafe(no_mangle)]
-pub extern "C" fn oracle_read_code(grid: &[u8], threshold: u8, bits: u8, border: u8) -> u64
+pub fn oracle_read_code(grid: &[u8], threshold: u8, bits: u8, border: u8) -> u64
     ensures { result ≡ cond (whole_grid (length grid.now) bits border) (read_code (samples bits border threshold grid.now)) 0 }
 {
     if is_whole(grid.len(), bits, border) {
@@ -127,8 +120,7 @@ fn fill_scores(likelihoods: &[f32; 128], bits: u8, codes: &[u64], out: &mut [f32
     }
 }
 
-#[unsafe(no_mangle)]
-pub extern "C" fn oracle_cell_scores(
+pub fn oracle_cell_scores(
     table: &[f32; 511],
     grid: &[u8],
     threshold: u8,

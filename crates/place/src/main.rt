@@ -1,24 +1,32 @@
 // Reads a shot record from the standard input and prints the placement of its board, or `refused` and the error number (document 01).
-use libc::{STDERR_FILENO, STDOUT_FILENO};
+
+#![tactic(auto)]
+
 use standard_input::Input;
 
-// A record has at most 65,535 bytes. One more byte is read, so that a longer input fails question 21. A program has no exit status: a failure is
+// A record has at most 65,535 bytes. One more byte is read, so that a longer input fails question 21. The exit status is always 0: a failure is
 // printed on the standard error. The text of a result is never empty.
-fn main() {
+fn main(rt: HostRuntime) {
     let mut bytes: [u8; 65536] = [0; 65536];
-    let input = standard_input::read_all(&mut bytes);
+    let input = standard_input::read_all(&mut rt.stdin(), &mut bytes);
     let read = match input {
         Input::Ended(count) => count,
         Input::Full(count) => count,
         Input::Failed => {
-            io::write_all(STDERR_FILENO, b"place: cannot read the standard input\n");
+            standard_output::write_all(
+                &mut rt.stderr(),
+                b"place: cannot read the standard input\n",
+            );
             return;
         }
     };
     let mut markers: [u32; 4608] = [0; 4608];
     let mut text: [u8; 32768] = [0; 32768];
     let length = place_text::place(&bytes, read, &mut markers, &mut text);
-    if !io::write_all(STDOUT_FILENO, &text[..length]) {
-        io::write_all(STDERR_FILENO, b"place: cannot write the standard output\n");
+    if !standard_output::write_all(&mut rt.stdout(), &text[..length]) {
+        standard_output::write_all(
+            &mut rt.stderr(),
+            b"place: cannot write the standard output\n",
+        );
     }
 }

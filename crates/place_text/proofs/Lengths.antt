@@ -9,7 +9,7 @@ use lib.Dec.{eqb, ltb, lit<}
 use lib.ListN.{length, get_or, length-append}
 use lib.Ieee.{binary32, to_bits}
 use lib.IntN.{ℤ, pos, negsuc, nat_abs}
-use borrow.Author.Tests.{ltb-true, ltb-false, eqb-true}
+use borrow.Author.Tests.{ltb-true, ltb-false}
 use Rattle.lent_list.proofs.Front.{up_to-most}
 use Rattle.refusal.specs.declared.Refusal.{Refusal}
 use Rattle.refusal.specs.declared.Refusal.TheVariants as refusal
@@ -28,9 +28,8 @@ use Rattle.grid_alignment.specs.Alignment.{SmallAlignment}
 use Rattle.board_match.specs.Sizes.{SmallHypothesis, SmallRunnerUp, SmallMatch, SmallAnswer}
 use Rattle.board_match.proofs.Sizes.{small-answer}
 use Rattle.place_text.specs.Numerals.{digit, hex2, hex4, hex8, decimal, signed_decimal, signed_word}
-use Rattle.place_text.specs.Text.{line, and_words, float_word, the_placed, the_best, the_next, the_margin, the_placements, evidence_word}
-use Rattle.place_text.specs.Text.{hypothesis_line, next_line, corners_line, word_of, reading, marker_line, marker_lines, match_lines, value_words, refusal_line}
-use Rattle.place_text.specs.Text.{answer_line, text_of}
+use Rattle.place_text.specs.Text.{line, and_words, float_word, the_placed, the_best, the_next, the_margin, the_placements, the_refused, evidence_word}
+use Rattle.place_text.specs.Text.{hypothesis_line, next_line, corners_line, word_of, reading, marker_line, marker_lines, match_lines, refusal_line, answer_line, text_of}
 use Rattle.place_text.specs.Room.{Room}
 use Rattle.place_text.proofs.Numerals.{decimal-short, decimal-long}
 
@@ -155,35 +154,26 @@ number_small refusal.CodesAlike = lit< tt
 number_small refusal.RepeatedPoint = lit< tt
 number_small refusal.ScoreListTooShort = lit< tt
 number_small refusal.EvenLegacyBoard = lit< tt
-number_small (refusal.EntryCutOff bytes) = lit< tt
 
 -- END generated number_small
 
--- 16 has a bit pattern of eight digits, and 26 a count of at most ten
-value_room : (number value : ℕ) → (number ≡ 26 → value < 2 ^ 32) → length (and_words (value_words number value)) ≤ 12
-value_room number value h = go (eqb number 16) (eqb number 26) (eqb-true number 26)
-  where
-    go : (a b : Bool) → (b ≡ true → number ≡ 26) → length (and_words (cond a (hex8 value ∷ []) (cond b (decimal value ∷ []) []))) ≤ 12
-    go true b is = simp length-append (omega (arith, hex8-room value))
-    go false true is = simp length-append (omega (arith, decimal-room 9 value (omega (arith, h (is refl)))))
-    go false false is = omega arith
-
-pub refusal_room : (r : Refusal) → (number_of r ≡ 26 → get_or (values_of r) 0 0 < 2 ^ 32) → length (refusal_line r) ≤ 22
+-- and 16 has a bit pattern of eight digits
+pub refusal_room : (r : Refusal) → length (refusal_line r) ≤ 20
 unfolding refusal_line
-refusal_room r h =
-    simp length-append (omega (arith, decimal-room 1 (number_of r) (number_small r), value_room (number_of r) (get_or (values_of r) 0 0) h))
-
--- a record is never refused by 26
-pub shot_refusal_room : (r : Refusal) → number_of r < 26 → length (refusal_line r) ≤ 22
-shot_refusal_room r h = refusal_room r (λ e. absurd (omega (arith, e, h)))
+refusal_room r = go (eqb (number_of r) 16)
+  where
+    go : (b : Bool) → length (line the_refused (decimal (number_of r) ∷ cond b (hex8 (get_or (values_of r) 0 0) ∷ []) [])) ≤ 20
+    go true =
+        simp length-append (omega (arith, decimal-room 1 (number_of r) (number_small r), hex8-room (get_or (values_of r) 0 0)))
+    go false = simp length-append (omega (arith, decimal-room 1 (number_of r) (number_small r)))
 
 pub answer-room : (bytes : List ℕ) (a : Matched) → SmallAnswer bytes a → length (answer_line a) ≤ 32
 answer-room bytes (matched.Placed m) s = hypothesis-room _ the_best m.best s.few_cells s.best
-answer-room bytes (matched.Refused r) s = omega (arith, shot_refusal_room r s)
+answer-room bytes (matched.Refused r) s = omega (arith, refusal_room r)
 
 pub room : Room
 room bytes lent small sizes = go (match_answer bytes lent) (small-answer bytes lent small)
   where
     go : (a : Matched) → SmallAnswer bytes a → length (text_of a (match_list bytes lent)) ≤ 32768
     go (matched.Placed m) s = match_room (match_list bytes lent) sizes _ m s
-    go (matched.Refused r) s = omega (arith, shot_refusal_room r s)
+    go (matched.Refused r) s = omega (arith, refusal_room r)

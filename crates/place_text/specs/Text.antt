@@ -126,12 +126,10 @@ match_lines m words =
     ++ (corners_line m.corners
     ++ marker_lines words m.markers)))))
 
--- `refused` and the error number, after 16 also the margin's bit pattern, after 26 the count of bytes (document 02, 2.9)
-abbrev pub value_words : ℕ → ℕ → List (List ℕ)
-value_words number value = cond (eqb number 16) (hex8 value ∷ []) (cond (eqb number 26) (decimal value ∷ []) [])
-
+-- `refused` and the error number, after 16 also the margin's bit pattern
 unfoldable pub refusal_line : Refusal → List ℕ
-refusal_line r = line the_refused (decimal (number_of r) ∷ value_words (number_of r) (get_or (values_of r) 0 0))
+refusal_line r =
+    line the_refused (decimal (number_of r) ∷ cond (eqb (number_of r) 16) (hex8 (get_or (values_of r) 0 0) ∷ []) [])
 
 -- the line of a result in the text of a log (document 02, 2.9): "`place`'s best or refused line"
 abbrev pub answer_line : Matched → List ℕ

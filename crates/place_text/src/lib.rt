@@ -1,4 +1,7 @@
 // Formats the result of Match for a shot record as the text that the program `place` prints (document 01).
+
+#![tactic(auto)]
+
 ghost use Rattle.std.specs.Prelude.{◌≡◌, ◌≤◌, min, length, take};
 ghost use Rattle.board_match.specs.Match.{match_list};
 ghost use Rattle.place_text.specs.Place.{place_text};

@@ -1,7 +1,7 @@
 // The lines of a result except those of its markers.
-ghost use Rattle.std.specs.Prelude.{[], ◌∷◌, ◌≤◌, length};
+ghost use Rattle.std.specs.Prelude.{[], ◌∷◌};
 ghost use Rattle.place_text.specs.Numerals.{decimal};
-ghost use Rattle.place_text.specs.Text.{line, and_words, float_word, hypothesis_line, next_line, corners_line, value_words, refusal_line};
+ghost use Rattle.place_text.specs.Text.{line, float_word, hypothesis_line, next_line, corners_line, refusal_line};
 ghost use Rattle.place_text.specs.Writing.{Printed};
 
 use super::{words, writer};
@@ -58,29 +58,16 @@ pub fn put_number(text: &mut [u8], at: usize, first: &[u8], n: u64) -> usize
     writer::put(text, next, b'\n')
 }
 
-// Of all values of errors, the margin of 16 and the count of 26 are printed.
-fn and_value(text: &mut [u8], at: usize, number: u32, value: u32) -> usize
-    ensures { Printed (and_words (value_words number value)) at result text.old text.new }
-{
-    if number == 16 {
-        let next = words::and_hex8(text, at, value);
-        return writer::put(text, next, b'\n');
-    }
-    if number == 26 {
-        let next = words::and_decimal(text, at, value as u64);
-        return writer::put(text, next, b'\n');
-    }
-    writer::put(text, at, b'\n')
-}
-
-// The line has at most 22 bytes.
+// Of all values of errors, only the margin of 16 is printed.
 pub fn put_refusal(text: &mut [u8], at: usize, refusal: Refusal) -> usize
-    ensures line { Printed (refusal_line refusal) at result text.old text.new }
-    ensures room { length (refusal_line refusal) ≤ 22 }
+    ensures { Printed (refusal_line refusal) at result text.old text.new }
 {
     let number = refusal.number();
-    let value = refusal.value(0);
+    if number != 16 {
+        return put_number(text, at, b"refused", number as u64);
+    }
     let mut next = writer::put_all(text, at, b"refused");
     next = words::and_decimal(text, next, number as u64);
-    and_value(text, next, number, value)
+    next = words::and_hex8(text, next, refusal.value(0));
+    writer::put(text, next, b'\n')
 }

@@ -1,5 +1,8 @@
 // Checks that no two cells of a shot have the same grid point (document 02, 2.3).
 // The index of `shot_record` has the point of each cell as a word, u in its low half and v in its high half.
+
+#![tactic(auto)]
+
 ghost use Rattle.std.specs.Prelude.{◌≡◌, ◌≤◌, length};
 ghost use Rattle.sorting.specs.Order.{Told};
 ghost use Rattle.points.specs.Points.{all_apart, point_of, SmallWords, residue_of, residue_in, HasPoints};

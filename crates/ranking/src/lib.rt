@@ -1,4 +1,7 @@
 // Ranks placements in one pass: the best, the runner-up, and the margin between the two (hypothesis.rs).
+
+#![tactic(auto)]
+
 ghost use Rattle.std.specs.Prelude.{◌≡◌, [], ◌^◌, ◌<◌};
 ghost use Rattle.ranking.specs.Greatest.{lies_below as lies-below};
 ghost use Rattle.ranking.specs.Margin.{margin as margin_of};
@@ -7,28 +10,28 @@ ghost use Rattle.ranking.specs.Ranking.{ranking_of, better as betterOf, ranked a
 use grid_alignment::GridAlignment;
 
 // The evidence of a placement. `Absent` (upstream's −∞) is below every number.
-#[derive(Drop)]
+#[derive(Clone, Copy)]
 pub enum Evidence {
     Number(f32),
     Absent,
 }
 
 // A placement (candidate grid alignment) with its evidence and its number of contributing cells, which does not affect the ranking.
-#[derive(Drop)]
+#[derive(Clone, Copy)]
 pub struct Hypothesis {
     pub alignment: GridAlignment,
     pub evidence: Evidence,
     pub contributing_cells: usize,
 }
 
-#[derive(Drop)]
+#[derive(Clone, Copy)]
 pub enum Choice {
     Placement(Hypothesis),
     Absent,
 }
 
 // The best of the placements seen, the best of the others, and the number seen.
-#[derive(Drop)]
+#[derive(Clone, Copy)]
 pub struct Ranking {
     pub best: Choice,
     pub runner_up: Choice,

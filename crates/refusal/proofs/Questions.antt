@@ -1,25 +1,14 @@
--- Laws of checks: one that passes or fails, a sequence that goes on with a rest, and the numbers of its errors. Assumes nothing.
+-- Laws of checks: one that passes or fails, and a sequence that goes on with a rest. Assumes nothing.
 use mathlib.Core.Path.{◌≡◌, refl, sym, ap, ◌∙◌}
 use mathlib.Core.Bool.{Bool, true, false}
 use mathlib.Core.Option.{Option, none, some, or_else, none-ne-some}
-use Prim.Native.Nat.{ℕ, ◌<◌}
 use Rattle.refusal.specs.declared.Refusal.{Refusal}
-use Rattle.refusal.specs.Numbers.{number_of}
 use Rattle.refusal.specs.Questions.{ask}
 
 -- if nothing is refused, this check passed and nothing is refused after it
 pub answered : (a : Bool) (r : Refusal) (next : Option Refusal) → ask a r next ≡ none → (a ≡ true) × (next ≡ none)
 answered true r next e = (refl, e)
 answered false r next e = absurd (none-ne-some r (sym e))
-
--- the error, if there is one, has a number below n
-abbrev pub Below : ℕ → Option Refusal → Type 0
-Below n none = Unit {0}
-Below n (some r) = number_of r < n
-
-pub ask-below : (n : ℕ) (a : Bool) (r : Refusal) (next : Option Refusal) → number_of r < n → Below n next → Below n (ask a r next)
-ask-below n true r next h below = below
-ask-below n false r next h below = h
 
 -- checks that go on with a rest: they refuse as they do alone, else the rest decides
 abbrev pub GoesOn : (Option Refusal → Option Refusal) → Type 0

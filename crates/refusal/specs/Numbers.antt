@@ -8,7 +8,7 @@ use Rattle.refusal.specs.declared.Refusal.TheVariants.{BoardOutOfRange, NotEnoug
 use Rattle.refusal.specs.declared.Refusal.TheVariants.{InvalidSettings, InvalidTable, NoCells, CellsOutOfRange, InvalidSample, ListTooShort}
 use Rattle.refusal.specs.declared.Refusal.TheVariants.{TranslationWindow, Margin, NoMarkers}
 use Rattle.refusal.specs.declared.Refusal.TheVariants.{CornersOutOfRange, TooManyLinks, TooManyCells, InvalidRecord, CodesAlike, RepeatedPoint}
-use Rattle.refusal.specs.declared.Refusal.TheVariants.{ScoreListTooShort, EvenLegacyBoard, EntryCutOff}
+use Rattle.refusal.specs.declared.Refusal.TheVariants.{ScoreListTooShort, EvenLegacyBoard}
 
 -- error number: the number of the question that failed
 abbrev pub number_of : Refusal → ℕ
@@ -62,10 +62,8 @@ number_of RepeatedPoint = 23
 number_of ScoreListTooShort = 24
 -- Is it no legacy board with rows and cols both even?
 number_of EvenLegacyBoard = 25
--- Is the last entry of the log whole?
-number_of (EntryCutOff bytes) = 26
 
--- the values of an error: 7 needed and available, 16 the margin as its bit pattern, 26 the count of bytes from the entry's first
+-- the values of an error: 7 needed and available, 16 the margin as its bit pattern
 abbrev pub values_of : Refusal → List ℕ
 values_of InvalidSize = []
 values_of InvalidCellSize = []
@@ -92,4 +90,3 @@ values_of CodesAlike = []
 values_of RepeatedPoint = []
 values_of ScoreListTooShort = []
 values_of EvenLegacyBoard = []
-values_of (EntryCutOff bytes) = bytes ∷ []

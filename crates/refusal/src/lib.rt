@@ -1,9 +1,12 @@
 // Defines the errors of all entry points: the checks (questions) of documents 01 and 02 that can fail.
 // A variant has upstream's error name if there is one. `specs/Numbers.antt` has the error numbers and values.
+
+#![tactic(auto)]
+
 ghost use Rattle.std.specs.Prelude.{◌≡◌, get_or};
 ghost use Rattle.refusal.specs.Numbers.{number_of, values_of};
 
-#[derive(Drop)]
+#[derive(Clone, Copy)]
 pub enum Refusal {
     // The board.
     InvalidSize,
@@ -29,12 +32,11 @@ pub enum Refusal {
     TooManyLinks,
     TooManyCells,
     InvalidRecord,
-    // Document 02: the board, Match, converters of records, and logs.
+    // Document 02: the board, Match, and converters of records.
     CodesAlike,
     RepeatedPoint,
     ScoreListTooShort,
     EvenLegacyBoard,
-    EntryCutOff { bytes: u32 },
 }
 
 impl Refusal {
@@ -71,7 +73,6 @@ impl Refusal {
             Refusal::RepeatedPoint => 23,
             Refusal::ScoreListTooShort => 24,
             Refusal::EvenLegacyBoard => 25,
-            Refusal::EntryCutOff { bytes: _ } => 26,
         }
     }
 
@@ -92,12 +93,6 @@ impl Refusal {
             Refusal::Margin { margin } => {
                 if k == 0 {
                     return floats::to_bits(margin);
-                }
-                0
-            }
-            Refusal::EntryCutOff { bytes } => {
-                if k == 0 {
-                    return bytes;
                 }
                 0
             }

@@ -4,12 +4,14 @@
 // NUMBER is the error number, 0 if the record is placed. The values are those of the error, as words (include/charuco.h): 7 has needed and available,
 // 16 the bit pattern of the margin; a missing value is 0. MINIMUM is the bit pattern of the record's minimum margin, 0 if the record is not
 // well-formed.
+
+#![tactic(auto)]
+
 ghost use Rattle.std.specs.Prelude.{◌≡◌, ◌≤◌, length};
 ghost use Rattle.place_text.specs.Writing.{Printed};
 ghost use Rattle.refusal_values.specs.Values.{number_in, value_in, minimum_in, words_line, values_line};
 
 use board_match::Matched;
-use libc::{STDERR_FILENO, STDOUT_FILENO};
 use place_text::{words, writer};
 use shot_record::ReadHeader;
 use standard_input::Input;
@@ -69,15 +71,15 @@ fn put_values(bytes: &[u8], markers: &mut [u32], text: &mut [u8]) -> usize
 }
 
 // As in `place`: one byte more than a record may have is read, and a failure is printed on the standard error.
-fn main() {
+fn main(rt: HostRuntime) {
     let mut bytes: [u8; 65536] = [0; 65536];
-    let input = standard_input::read_all(&mut bytes);
+    let input = standard_input::read_all(&mut rt.stdin(), &mut bytes);
     let read = match input {
         Input::Ended(count) => count,
         Input::Full(count) => count,
         Input::Failed => {
-            io::write_all(
-                STDERR_FILENO,
+            standard_output::write_all(
+                &mut rt.stderr(),
                 b"refusal_values: cannot read the standard input\n",
             );
             return;
@@ -88,9 +90,9 @@ fn main() {
     let mut markers: [u32; 4608] = [0; 4608];
     let mut text: [u8; 44] = [0; 44];
     let length = put_values(&all[..end], &mut markers, &mut text);
-    if !io::write_all(STDOUT_FILENO, &text[..length]) {
-        io::write_all(
-            STDERR_FILENO,
+    if !standard_output::write_all(&mut rt.stdout(), &text[..length]) {
+        standard_output::write_all(
+            &mut rt.stderr(),
             b"refusal_values: cannot write the standard output\n",
         );
     }

@@ -1,6 +1,9 @@
 // Computes the stored answers in the file `stdin` again with this library and prints how many agree.
 // The comment at the top of that file defines the rows. Entry points are called through the C functions of `charuco`, the text comes from
 // `place_text`, the rest from `stored_rows`.
+
+#![tactic(auto)]
+
 mod entries;
 mod rows;
 mod texts;
@@ -9,12 +12,12 @@ use stored_rows::tally::{Tally, Used};
 use stored_rows::{lines, tally};
 
 // `main` owns the arrays.
-fn after_input(bytes: &mut [u8; 65536], words: &mut [u64]) -> Tally {
+fn after_input(rt: HostRuntime, bytes: &mut [u8; 65536], words: &mut [u64]) -> Tally {
     let mut tally = Tally::new();
     let mut used = Used { bytes: 0, words: 0 };
     let mut turns = u64::MAX;
     while turns > 0 {
-        let line = lines::next_line();
+        let line = lines::next_line(&mut rt.stdin());
         let row = line.words;
         turns = lines::turns_left(turns, line.more);
         let did = rows::effect_of(bytes, words, used, row, line.count);
@@ -24,8 +27,9 @@ fn after_input(bytes: &mut [u8; 65536], words: &mut [u64]) -> Tally {
     tally
 }
 
-fn main() {
+fn main(rt: HostRuntime) {
     let mut bytes: [u8; 65536] = [0; 65536];
     let mut words: [u64; 8600] = [0; 8600];
-    tally::print_all(after_input(&mut bytes, &mut words));
+    let tally = after_input(rt, &mut bytes, &mut words);
+    tally::print_all(&mut rt.stdout(), tally);
 }

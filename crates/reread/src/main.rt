@@ -1,30 +1,35 @@
 // Reads a log of shot records from the standard input and prints for each entry its number and the best placement or the error (document 02, 2.9).
 // `log_text` has the text: proved is that it is the same in whatever pieces the log is read (`PiecesRule`).
+
+#![tactic(auto)]
+
 ghost use Rattle.std.specs.Prelude.{◌≤◌, length};
 ghost use Rattle.reread.specs.Printing.{Leaves};
 
-use libc::{STDERR_FILENO, STDOUT_FILENO};
 use log_text::Highest;
 use standard_input::{Input, Step};
 
 // After the lines of whole entries: the number of bytes left, less than an entry may have, and the highest number; or a failed write.
-#[derive(Drop)]
+#[derive(Clone, Copy)]
 enum AfterPrint {
     Left { count: usize, highest: Highest },
     Failed,
 }
 
-// A program has no exit status: what failed is printed on the standard error.
-fn print(text: &[u8]) -> bool {
-    if io::write_all(STDOUT_FILENO, text) {
+// The exit status is always 0: what failed is printed on the standard error.
+fn print(rt: HostRuntime, text: &[u8]) -> bool {
+    if standard_output::write_all(&mut rt.stdout(), text) {
         return true;
     }
-    io::write_all(STDERR_FILENO, b"reread: cannot write the standard output\n");
+    standard_output::write_all(
+        &mut rt.stderr(),
+        b"reread: cannot write the standard output\n",
+    );
     false
 }
 
 // Prints the lines of the whole entries among the first `count` bytes, and moves the bytes after them to the start.
-fn print_whole(bytes: &mut [u8], count: usize, highest: Highest) -> AfterPrint
+fn print_whole(rt: HostRuntime, bytes: &mut [u8], count: usize, highest: Highest) -> AfterPrint
     requires { count ≤ length bytes.old }
     ensures { Leaves highest bytes.old count bytes.new result }
 {
@@ -39,7 +44,7 @@ fn print_whole(bytes: &mut [u8], count: usize, highest: Highest) -> AfterPrint
                 highest: seen,
             };
         }
-        if !print(&text[..fed.written]) {
+        if !print(rt, &text[..fed.written]) {
             return AfterPrint::Failed;
         }
         left -= fed.used;
@@ -53,28 +58,28 @@ fn print_whole(bytes: &mut [u8], count: usize, highest: Highest) -> AfterPrint
 }
 
 // Prints the line of an entry that the end of the log cuts off, also on the standard error.
-fn print_rest(bytes: &[u8]) {
+fn print_rest(rt: HostRuntime, bytes: &[u8]) {
     let mut text: [u8; 22] = [0; 22];
     let length = log_text::finish(bytes, &mut text);
-    if 0 < length && print(&text[..length]) {
-        io::write_all(STDERR_FILENO, b"reread: the last entry is cut off: ");
-        io::write_all(STDERR_FILENO, &text[..length]);
+    if 0 < length && print(rt, &text[..length]) {
+        standard_output::write_all(&mut rt.stderr(), b"reread: the last entry is cut off: ");
+        standard_output::write_all(&mut rt.stderr(), &text[..length]);
     }
 }
 
 // An array of 65,541 bytes that is full has a whole entry, so that there is room for at least one byte before each read: a read of no byte would look
 // like the end of the log. Lines are printed before the next read. Each read reads a byte, so that a log below 2^64 bytes ends before the count does.
-fn main() {
+fn main(rt: HostRuntime) {
     let mut bytes: [u8; 65541] = [0; 65541];
     let mut count: usize = 0;
     let mut highest = Highest::Absent;
     let mut reads: u64 = 0xFFFF_FFFF_FFFF_FFFF;
     while 0 < reads {
         reads -= 1;
-        let step = standard_input::read_part(&mut bytes, count);
+        let step = standard_input::read_part(&mut rt.stdin(), &mut bytes, count);
         match step {
             Step::Read(by_now) => {
-                let printed = print_whole(&mut bytes, by_now, highest);
+                let printed = print_whole(rt, &mut bytes, by_now, highest);
                 match printed {
                     AfterPrint::Left {
                         count: left,
@@ -89,7 +94,10 @@ fn main() {
             Step::Stop(input) => {
                 match input {
                     Input::Failed => {
-                        io::write_all(STDERR_FILENO, b"reread: cannot read the standard input\n");
+                        standard_output::write_all(
+                            &mut rt.stderr(),
+                            b"reread: cannot read the standard input\n",
+                        );
                         return;
                     }
                     _ => break,
@@ -97,5 +105,5 @@ fn main() {
             }
         }
     }
-    print_rest(&bytes[..count]);
+    print_rest(rt, &bytes[..count]);
 }

@@ -1,7 +1,10 @@
 // Reads a shot record from the standard input and prints it in the current layout, or `refused` and the error number (document 02, 2.7).
 // A refusal is printed on the standard error.
+
+#![tactic(auto)]
+
 use converter::Conversion;
 
-fn main() {
-    converter::run(b"restate", Conversion::Restate);
+fn main(rt: HostRuntime) {
+    converter::run(rt, b"restate", Conversion::Restate);
 }

@@ -1,4 +1,7 @@
 // Fills the array of scores that the search by look-up takes (document 02, 2.6): one f32 for each cell, marker and turn, eight cells side by side.
+
+#![tactic(auto)]
+
 ghost use Rattle.std.specs.Prelude.{◌≡◌, ℕ, ◌+◌, ◌*◌, ◌<◌, ◌≤◌, leb, length, get_or};
 ghost use Rattle.std.specs.Float.{nan};
 ghost use Rattle.floats.specs.Units.{nought};

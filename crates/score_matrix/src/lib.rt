@@ -1,4 +1,7 @@
 // Computes the score (log-likelihood) and the evidence of a cell for a code (score_matrix.rs, bit_likelihood.rs; `read_code` of emit.rs).
+
+#![tactic(auto)]
+
 ghost use Rattle.std.specs.Prelude.{◌≡◌};
 ghost use Rattle.std.specs.Float.{binary32};
 ghost use Rattle.std.specs.Float.Ieee.{sub};
@@ -12,7 +15,7 @@ pub mod table;
 pub mod turned;
 
 // The settings of a match, as upstream's, without slope and floor, which the likelihood table contains.
-#[derive(Drop)]
+#[derive(Clone, Copy)]
 pub struct BoardMatchConfig {
     pub px_per_square: f32,
     pub alignment_min_margin: f32,
@@ -22,7 +25,7 @@ pub struct BoardMatchConfig {
 }
 
 // The black fraction of a cell's border; only sampled cells have one.
-#[derive(Drop)]
+#[derive(Clone, Copy)]
 pub enum BorderSample {
     BlackFraction(f32),
     Unsampled,

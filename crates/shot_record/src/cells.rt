@@ -10,7 +10,7 @@ use super::fields::Fields;
 use super::{ReadCell, fields, maps, numbers};
 
 // Position of an iteration over the cells: the cell, and the offset where its bytes start. After the last cell that is where the record must end.
-#[derive(Drop)]
+#[derive(Clone, Copy)]
 pub struct Cursor {
     pub cell: usize,
     pub start: usize,
@@ -123,7 +123,7 @@ pub fn cell(bytes: &[u8], f: Fields, c: Cursor) -> ReadCell
 }
 
 // A part of a record (document 02): the byte range `first..end`.
-#[derive(Drop)]
+#[derive(Clone, Copy)]
 pub struct Part {
     pub first: usize,
     pub end: usize,

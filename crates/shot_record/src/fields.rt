@@ -9,7 +9,7 @@ use board::CharucoBoardSpec;
 use score_matrix::{BoardMatchConfig, table};
 
 // Offsets are in bytes from the start of the record.
-#[derive(Drop)]
+#[derive(Clone, Copy)]
 pub struct Fields {
     pub map: u8,
     pub threshold_at: usize,

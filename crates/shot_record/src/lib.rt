@@ -1,6 +1,9 @@
 // Parses the shot record: board, settings, marker codes and observed cells of one shot, as bytes.
 // Every function of this file accepts every record; one that is not well-formed gets error 21. A match reads the fields before the cells with
 // `fields` and `bulk`, and each cell once with `index`.
+
+#![tactic(auto)]
+
 ghost use Rattle.std.specs.Prelude.{◌≡◌};
 ghost use Rattle.shot_record.specs.Shots.{parse};
 ghost use Rattle.shot_record.specs.Answers.{header_answer, entry_answer, code_answer, cell_answer, grid_answer};
@@ -18,7 +21,7 @@ use refusal::Refusal;
 use score_matrix::BoardMatchConfig;
 
 // The fields before the cells. `map` has the presence flags of the settings; a setting whose flag is 0 has its default.
-#[derive(Drop)]
+#[derive(Clone, Copy)]
 pub struct Header {
     pub map: u8,
     pub config: BoardMatchConfig,
@@ -27,28 +30,28 @@ pub struct Header {
     pub cell_count: usize,
 }
 
-#[derive(Drop)]
+#[derive(Clone, Copy)]
 pub enum ReadHeader {
     Header(Header),
     Refused(Refusal),
 }
 
 // An entry of the record's own likelihood table or of the built-in one.
-#[derive(Drop)]
+#[derive(Clone, Copy)]
 pub enum ReadEntry {
     Entry(f32),
     Absent,
     Refused(Refusal),
 }
 
-#[derive(Drop)]
+#[derive(Clone, Copy)]
 pub enum ReadCode {
     Code(u64),
     Absent,
     Refused(Refusal),
 }
 
-#[derive(Drop)]
+#[derive(Clone, Copy)]
 pub enum ReadCell {
     Sampled {
         u: i16,
@@ -65,7 +68,7 @@ pub enum ReadCell {
 }
 
 // The result of a converter of records: the number of bytes that it wrote.
-#[derive(Drop)]
+#[derive(Clone, Copy)]
 pub enum Converted {
     Written(usize),
     Refused(Refusal),

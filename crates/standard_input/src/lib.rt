@@ -1,15 +1,19 @@
-// Reads the standard input into the caller's array, to its end or by single reads.
-// Proved: the step after each result of `libc::read` (`after_read`); a read does not change the bytes of the reads before it (`read_part`); an array
-// that is reported full is full to its last byte, and the end of the input is reported with room for at least one more byte (`read_all`). The
-// contract of `libc::read` states nothing about the bytes, and no contract can name its result. Tested instead (tests/programs): the array has the
-// input's bytes, and the result that is checked is that of `read`, so that the end is reported only if a read found it.
-ghost use Rattle.std.specs.Prelude.{◌≡◌, ◌+◌, ◌<◌, ◌^◌, nat_abs, length, take};
-ghost use Rattle.standard_input.specs.Reading.{after_read, Goes, Stops};
+// Reads an input into the caller's array, to its end or by single reads.
+// Proved: the step after each result of a reader's `read` (`after_read`); a read does not change the bytes of the reads before it (`read_part`); an
+// array that is reported full is full to its last byte, and the end of the input is reported with room for at least one more byte (`read_all`); where
+// the reader's type says which bytes are left, the array has them (`Gives`, `Fills`). The type of the standard input does not say that. Tested instead
+// (tests/programs): the array has the input's bytes, and the end is reported only if a read found it.
 
-use libc::STDIN_FILENO;
+#![tactic(auto)]
+
+ghost use Rattle.std.specs.Prelude.{◌≡◌, ◌+◌, ◌<◌, ◌^◌, IfOk, length, take};
+ghost use Rattle.standard_input.specs.Reading.{after_read, Goes, Stops, Gives, Fills};
+
+use std::io;
+use std::io::Read;
 
 // The number of bytes up to the end of the input; the number of bytes of a full array, after which more may follow; or a failed read.
-#[derive(Drop)]
+#[derive(Clone, Copy)]
 pub enum Input {
     Ended(usize),
     Full(usize),
@@ -17,41 +21,41 @@ pub enum Input {
 }
 
 // After one read: the number of bytes read so far, or reading stops.
-#[derive(Drop)]
+#[derive(Clone, Copy)]
 pub enum Step {
     Read(usize),
     Stop(Input),
 }
 
 // The read after the first `done` bytes returned `got`. One that a signal interrupts counts as failed.
-fn after_read(done: usize, got: isize) -> Step
-    requires { done + nat_abs got < 2 ^ 64 }
+fn after_read(done: usize, got: io::Result<usize>) -> Step
+    requires { IfOk got (λ n. done + n < 2 ^ 64) }
     ensures { result ≡ after_read done got }
 {
-    if 0 < got {
-        return Step::Read(done + got as usize);
+    match got {
+        Ok(0) => Step::Stop(Input::Ended(done)),
+        Ok(n) => Step::Read(done + n),
+        Err(_) => Step::Stop(Input::Failed),
     }
-    if got < 0 {
-        return Step::Stop(Input::Failed);
-    }
-    Step::Stop(Input::Ended(done))
 }
 
 // One read, after the first `done` bytes.
-pub fn read_part(bytes: &mut [u8], done: usize) -> Step
+pub fn read_part<R: Read>(reader: &mut R, bytes: &mut [u8], done: usize) -> Step
     requires { done < length bytes.old }
     ensures step { Goes (length bytes.old) done result }
     ensures before { take done bytes.new ≡ take done bytes.old }
+    ensures bytes { Gives (R.remaining reader.old) (R.remaining reader.new) done bytes.new result }
 {
-    after_read(done, libc::read(STDIN_FILENO, &mut bytes[done..]))
+    after_read(done, reader.read(&mut bytes[done..]))
 }
 
-pub fn read_all(bytes: &mut [u8]) -> Input
-    ensures { Stops (length bytes.old) result }
+pub fn read_all<R: Read>(reader: &mut R, bytes: &mut [u8]) -> Input
+    ensures stops { Stops (length bytes.old) result }
+    ensures bytes { Fills (R.remaining reader.old) (R.remaining reader.new) bytes.new result }
 {
     let mut done: usize = 0;
     while 0 < bytes.len() - done {
-        let step = read_part(bytes, done);
+        let step = read_part(reader, bytes, done);
         match step {
             Step::Read(by_now) => done = by_now,
             Step::Stop(input) => return input,

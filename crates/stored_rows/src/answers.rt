@@ -2,7 +2,7 @@
 use super::numbers;
 
 // The returned number, the words in `values`, and the digest of the output array.
-#[derive(Drop)]
+#[derive(Clone, Copy)]
 pub struct Answer {
     pub number: u32,
     pub words: [u32; 19],
@@ -15,7 +15,7 @@ pub const BEFORE: [u32; 19] = [
 ];
 
 // The numbers of arguments and words in a row of a kind.
-#[derive(Drop)]
+#[derive(Clone, Copy)]
 pub struct Shape {
     pub arguments: u8,
     pub words: u8,

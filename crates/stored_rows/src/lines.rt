@@ -1,10 +1,11 @@
-// The lines of the standard input, one at a time. Words are upper-case hexadecimal, separated by one space; a line that starts with # is a comment.
+// The lines of an input, one at a time. Words are upper-case hexadecimal, separated by one space; a line that starts with # is a comment.
 ghost use Rattle.std.specs.Prelude.{◌<◌};
 
 use standard_input::Input;
+use std::io::Read;
 
 // A line as far as it is read. A comment has no words; a line that is not read has one, of no known kind.
-#[derive(Drop)]
+#[derive(Clone, Copy)]
 pub struct Line {
     // The complete words, and their number.
     pub words: [u64; 32],
@@ -141,7 +142,7 @@ impl Line {
 }
 
 // A byte, the end of the input, or a failed read.
-#[derive(Drop)]
+#[derive(Clone, Copy)]
 enum Next {
     Byte(u8),
     Ended,
@@ -149,9 +150,9 @@ enum Next {
 }
 
 // The input is small enough to be read byte by byte.
-fn next_byte() -> Next {
+fn next_byte<R: Read>(reader: &mut R) -> Next {
     let mut buffer: [u8; 1] = [0];
-    let input = standard_input::read_all(&mut buffer);
+    let input = standard_input::read_all(reader, &mut buffer);
     match input {
         Input::Full(_) => Next::Byte(buffer[0]),
         Input::Ended(_) => Next::Ended,
@@ -160,12 +161,12 @@ fn next_byte() -> Next {
 }
 
 // A line may have any length, and a loop must terminate: it counts down from a number that no run uses up.
-pub fn next_line() -> Line {
+pub fn next_line<R: Read>(reader: &mut R) -> Line {
     let mut line = Line::new();
     let mut turns = u64::MAX;
     while turns > 0 {
         turns -= 1;
-        let next = next_byte();
+        let next = next_byte(reader);
         match next {
             Next::Byte(byte) => {
                 if byte == b'\n' {

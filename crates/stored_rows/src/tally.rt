@@ -1,15 +1,15 @@
 // The effects of rows, and how many of them agree.
-use libc::STDOUT_FILENO;
+use std::io::Write;
 
 // The used lengths of the lists.
-#[derive(Drop)]
+#[derive(Clone, Copy)]
 pub struct Used {
     pub bytes: usize,
     pub words: usize,
 }
 
 // The effect of a row: the used length after adding, or whether the result agrees.
-#[derive(Drop)]
+#[derive(Clone, Copy)]
 pub enum Effect {
     Nothing,
     Unread,
@@ -35,7 +35,7 @@ pub fn used_after(mut used: Used, effect: Effect) -> Used {
 }
 
 // Rows that are compared, those of them that agree, rows that are not read, and lines.
-#[derive(Drop)]
+#[derive(Clone, Copy)]
 pub struct Tally {
     asked: u64,
     agreed: u64,
@@ -96,18 +96,18 @@ impl Tally {
     }
 }
 
-fn print_count(name: &[u8], count: u64) {
-    io::write_all(STDOUT_FILENO, name);
-    io::print_decimal(STDOUT_FILENO, count);
+fn print_count<W: Write>(output: &mut W, name: &[u8], count: u64) {
+    standard_output::write_all(output, name);
+    let _ = write!(output, "{count}");
 }
 
-pub fn print_all(tally: Tally) {
+pub fn print_all<W: Write>(output: &mut W, tally: Tally) {
     if tally.first != 0 {
-        print_count(b"the first that fails is line ", tally.first);
-        io::write_all(STDOUT_FILENO, b"\n");
+        print_count(output, b"the first that fails is line ", tally.first);
+        standard_output::write_all(output, b"\n");
     }
-    print_count(b"not read: ", tally.unread);
-    print_count(b"\nagree: ", tally.agreed);
-    print_count(b" of ", tally.asked);
-    io::write_all(STDOUT_FILENO, b"\n");
+    print_count(output, b"not read: ", tally.unread);
+    print_count(output, b"\nagree: ", tally.agreed);
+    print_count(output, b" of ", tally.asked);
+    standard_output::write_all(output, b"\n");
 }

@@ -1,0 +1,73 @@
+-- `alike::quarters::picked` meets its contract. The loop's invariant: `sum` has the first k bits. Assumes nothing.
+use mathlib.Core.Path.{◌≡◌, refl, ap, ◌∙◌}
+use mathlib.Core.List.{List}
+use Prim.Native.Nat.{ℕ, ◌+◌, ◌*◌, ◌%◌, ◌^◌, ◌<◌}
+use native.Mathlib.Omega.{arith}
+use lib.ListN.{get_or}
+use Rattle.matcher.specs.Codes.{from_bits}
+use Rattle.matcher.proofs.Bits.{Bits, bit-small, next_bit, word_below}
+use Rattle.alike.proofs.quarters.picked.Invariants.{picks}
+use Rattle.alike.proofs.quarters.picked.Goals as goal
+use Rattle.alike.proofs.quarters.picked.Goals.{After-sum-1, Start}
+
+picks_bits : (sources : List ℕ) (code : ℕ) → Bits (picks sources code)
+picks_bits sources code k = bit-small code (get_or sources k 0)
+
+pub loop-k-init : goal.loop-k-init
+unfolding from_bits
+loop-k-init c = (omega arith, refl)
+
+pub bounds-sources-k : goal.bounds-sources-k
+bounds-sources-k c = omega (arith, c.loop-k-test.true, c.requires.0)
+
+-- in the loop
+module _ (c : After-sum-1) where
+  abbrev f : ℕ → ℕ
+  f = picks c.args.sources.now c.args.code
+
+  abbrev k : ℕ
+  k = c.loop-k.k
+
+  inside : k < c.args.count
+  inside = c.loop-k-test.true
+
+  small : k < 64
+  small = omega (arith, inside, c.requires.0)
+
+  from-small : get_or c.args.sources.now k 0 < 64
+  from-small = c.requires.1 k inside
+
+  sum : c.loop-k.sum + f k * 2 ^ k % 2 ^ 64 ≡ from_bits f (k + 1)
+  sum =
+      ap (λ (x : ℕ). x + f k * 2 ^ k % 2 ^ 64) c.loop-k.invariant.1
+      ∙ next_bit f (picks_bits c.args.sources.now c.args.code) k small
+
+  sum_fits : c.loop-k.sum + f k * 2 ^ k % 2 ^ 64 < 2 ^ 64
+  sum_fits = rw sum (word_below f (picks_bits c.args.sources.now c.args.code) (k + 1) (omega (arith, small)))
+
+pub returns : goal.returns
+returns c =
+    let x = c.args in
+    let all : c.loop-k.k ≡ x.count = omega (arith, c.loop-k.invariant.0, c.loop-k-test.false) in
+    c.loop-k.invariant.1 ∙ ap (from_bits (picks x.sources.now x.code)) all
+
+pub overflow_cast-sum : goal.overflow_cast-sum
+overflow_cast-sum c = omega (arith, from-small c)
+
+pub overflow_shr-sum : goal.overflow_shr-sum
+overflow_shr-sum c = from-small c
+
+pub overflow_shl-sum : goal.overflow_shl-sum
+overflow_shl-sum c = small c
+
+pub overflow_add-sum : goal.overflow_add-sum
+overflow_add-sum c = record { fits = sum_fits c }
+
+pub overflow_add-k : goal.overflow_add-k
+overflow_add-k c = omega (arith, small c)
+
+pub loop-k-smaller : goal.loop-k-smaller
+loop-k-smaller c = omega (arith, inside c)
+
+pub loop-k-preserved : goal.loop-k-preserved
+loop-k-preserved c = (omega (arith, inside c), sum c)

@@ -1,0 +1,7 @@
+-- `charuco::matches::contributing_to` meets its contract. Assumes nothing.
+use mathlib.Core.Path.{sym, ap}
+use Rattle.charuco.specs.Entries.{contributing_to}
+use Rattle.charuco.proofs.matches.contributing_to.Goals as goal
+
+pub returns-in-Placement : goal.returns-in-Placement
+returns-in-Placement c = sym (ap contributing_to c.in-Placement.is)

@@ -1,0 +1,151 @@
+-- `emit::candidates::expected_in` meets its contract: from the cell's entry in the index and the marker on its square. Assumes nothing.
+use mathlib.Core.Path.{◌≡◌, refl, sym, ap, ap₂, ◌∙◌}
+use mathlib.Core.List.{List}
+use Prim.Native.Nat.{ℕ, ◌<◌}
+use native.Mathlib.Omega.{arith}
+use lib.IntN.{ℤ}
+use lib.Ieee.{Float}
+use mir.Syntax.{w16, w32}
+use mir.Val.{to_z, of_z}
+use mir.ValLaws.{to_z-of_z}
+use Rattle.grid_alignment.specs.declared.Coord.{Coord}
+use Rattle.grid_alignment.specs.Alignment.{point, applied}
+use Rattle.board.specs.declared.Board.{Board}
+use Rattle.board.specs.declared.Numbered.{Numbered}
+use Rattle.board.specs.declared.Numbered.TheVariants as numbered
+use Rattle.board.specs.Layout.{marker_on}
+use Rattle.board.specs.Questions.{board_of}
+use Rattle.board.proofs.Laws.{id-small}
+use Rattle.shot_record.specs.Shots.{Shot, shot}
+use Rattle.shot_record.specs.Answers.{spec_of}
+use Rattle.shot_record.specs.Index.{threshold_in}
+use Rattle.hypothesis.specs.Placements.{cell}
+use Rattle.hypothesis.specs.Inputs.{SearchCell, SearchInput}
+use Rattle.hypothesis.proofs.IndexedCells.{board-is, few, threshold-is, search-input}
+use Rattle.emit.specs.declared.candidates.Expected.TheVariants as expectation
+use Rattle.emit.proofs.Reading.{Sampled, sampled, unsampled, code_is, made, no_sample, by_expected, with_marker_lem}
+use Rattle.emit.proofs.candidates.expected_in.Goals as goal
+use Rattle.emit.proofs.candidates.expected_in.Goals.{After-marker_id_at-found, Start}
+
+module _ (s : Start) where
+  abbrev bytes : List ℕ
+  bytes = s.args.bytes.now
+
+  abbrev index : List ℕ
+  index = s.args.index.now
+
+  abbrev k : ℕ
+  k = s.args.k
+
+  input : SearchInput (shot bytes) s.args.inputs index
+  input = search-input bytes s.args.inputs index s.requires.0
+
+  at : SearchCell (shot bytes) index k
+  at = input.cells k s.requires.3
+
+  early : k < 256
+  early = few (shot bytes) s.args.inputs index input k s.requires.3
+
+pub returns-in_default : goal.returns-in_default
+returns-in_default c =
+    let e = sym c.in_default.is ∙ c.border-border.ensures ∙ (at (goal.at.returns-in_default c).Start).border in
+    no_sample (shot c.args.bytes.now) c.args.alignment c.args.k (unsampled (cell (shot c.args.bytes.now) c.args.k).sample e)
+
+-- the cell is sampled, and its square was looked up
+module _ (m : After-marker_id_at-found) where
+  abbrev s : Shot
+  s = shot m.args.bytes.now
+
+  abbrev u : ℤ
+  u = m.u-u.result
+
+  abbrev v : ℤ
+  v = m.v-v.result
+
+  abbrev fraction : Float
+  fraction = m.in-BlackFraction.fraction
+
+  entry : SearchCell s m.args.index.now m.args.k
+  entry = (search-input m.args.bytes.now m.args.inputs m.args.index.now m.requires.0).cells m.args.k m.requires.3
+
+  module _ (threshold : ℕ) (t : threshold ≡ threshold_in m.args.index.now m.args.k) where
+    was : Sampled (cell s m.args.k) u v fraction threshold
+    was =
+        let i = m.args.inputs in
+        let h = m.requires in
+        sampled (cell s m.args.k) u v fraction threshold (m.u-u.ensures ∙ entry.u) (m.v-v.ensures ∙ entry.v)
+        (sym m.in-BlackFraction.is ∙ m.border-border.ensures ∙ entry.border)
+        (t ∙ threshold-is m.args.bytes.now i m.args.index.now h.0 m.args.k h.3)
+
+  u_back : to_z w16 (of_z w16 u) ≡ u
+  u_back = to_z-of_z w16 u (record { sfits = m.u-u.type_inv })
+
+  v_back : to_z w16 (of_z w16 v) ≡ v
+  v_back = to_z-of_z w16 v (record { sfits = m.v-v.type_inv })
+
+  square : m.apply-square.result ≡ applied m.args.alignment (point u v)
+  square = m.apply-square.ensures ∙ ap₂ (λ (a b : ℤ). applied m.args.alignment (point a b)) u_back v_back
+
+  abbrev looked : Numbered
+  looked =
+      let q = applied m.args.alignment (point u v) in
+      marker_on (board_of (spec_of s)) q.u q.v
+
+  found_marker : m.marker_id_at-found.result ≡ looked
+  found_marker =
+      let r = m.apply-square.result in
+      let eb = board-is s m.args.inputs m.requires.0.is in
+      let eu = to_z-of_z w32 r.u (record { sfits = omega arith }) ∙ ap (λ (q : Coord). q.u) square in
+      let ev = to_z-of_z w32 r.v (record { sfits = omega arith }) ∙ ap (λ (q : Coord). q.v) square in
+      m.marker_id_at-found.ensures ∙ (λ i. marker_on (eb i) (eu i) (ev i))
+
+  -- a marker is expected
+  module _ (id : ℕ) (e : m.marker_id_at-found.result ≡ numbered.Id id) where
+    is-expected : numbered.Id id ≡ looked
+    is-expected = sym e ∙ found_marker
+
+    small : id < 512
+    small =
+        let h = m.requires.0.passed in
+        id-small (board_of (spec_of s)) _ _ id h.rows h.cols (sym is-expected)
+
+  bits_are : m.args.inputs.board.bits ≡ s.bits
+  bits_are = ap (λ (b : Board). b.bits) (board-is s m.args.inputs m.requires.0.is)
+
+pub returns-in_default-found : goal.returns-in_default-found
+returns-in_default-found c =
+    let m = (goal.at.returns-in_default-found c).After-marker_id_at-found in
+    by_expected (s m) c.args.alignment c.args.k c.u-u.result c.v-v.result c.in-BlackFraction.fraction _ (was m _ refl) numbered.Absent
+    (sym c.in_default-found.is ∙ found_marker m)
+
+pub returns : goal.returns
+returns c =
+    let code = c.turned_code in
+    let m = (goal.at.returns c).After-marker_id_at-found in
+    let a = c.args in
+    let p = a.alignment in
+    let h = c.requires in
+    let id = c.in-Id.id in
+    let turned = code_is c.args.bytes.now a.codes.now id a.inputs.board.bits p.turn code.result h.0.passed.checked.small (bits_are m)
+    h.1 (small m id c.in-Id.is) code.ensures in
+    ap₂ (λ (y z : ℤ). expectation.Marker (made a.k id y z p.turn code.result c.in-BlackFraction.fraction c.threshold.result)) (u_back m) (v_back m)
+    ∙ with_marker_lem (s m) p a.k c.u-u.result c.v-v.result c.in-BlackFraction.fraction c.threshold.result (was m c.threshold.result c.threshold.ensures) id code.result
+    (is-expected m id c.in-Id.is) turned
+
+pub border-border-requires : goal.border-border-requires
+border-border-requires c = early (goal.at.border-border-requires c).Start
+
+pub u-u-requires : goal.u-u-requires
+u-u-requires c = early (goal.at.u-u-requires c).Start
+
+pub v-v-requires : goal.v-v-requires
+v-v-requires c = early (goal.at.v-v-requires c).Start
+
+pub overflow_cast-result : goal.overflow_cast-result
+overflow_cast-result c = record { fits = omega (arith, early (goal.at.overflow_cast-result c).Start) }
+
+pub turned_code-requires : goal.turned_code-requires
+turned_code-requires c = small (goal.at.turned_code-requires c).After-marker_id_at-found c.in-Id.id c.in-Id.is
+
+pub threshold-requires : goal.threshold-requires
+threshold-requires c = omega (arith, early (goal.at.threshold-requires c).Start)

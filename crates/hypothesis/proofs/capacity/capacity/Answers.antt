@@ -1,0 +1,42 @@
+-- `hypothesis::capacity::capacity` meets its contract. The loop's invariant: the total is the sum over the cells before k. Assumes nothing.
+use mathlib.Core.Path.{◌≡◌, refl, ap, ◌∙◌}
+use Prim.Native.Nat.{suc, ◌+◌}
+use native.Mathlib.Nat.{le_antisymm}
+use native.Mathlib.Omega.{arith}
+use lib.Ieee.{Float, of_bits, of_fields, odd, neg}
+use Rattle.score_matrix.specs.Scores.{null_score}
+use Rattle.hypothesis.specs.Capacity.{with_cell, capacity_to}
+use Rattle.hypothesis.proofs.capacity.capacity.Goals as goal
+
+pub loop-k-init : goal.loop-k-init
+unfolding capacity_to of_bits of_fields odd
+loop-k-init c = (omega arith, refl)
+
+pub with_cell-total-requires : goal.with_cell-total-requires
+with_cell-total-requires c = (c.requires.1, omega (arith, c.loop-k-test.true, c.requires.0))
+
+pub overflow_add-k : goal.overflow_add-k
+overflow_add-k c = record { fits = omega (arith, c.loop-k-test.true, c.requires.0) }
+
+pub loop-k-preserved : goal.loop-k-preserved
+unfolding capacity_to
+loop-k-preserved c =
+    let l = c.loop-k in
+    let x = c.args in
+    let n = c.null_score-most in
+    let next : suc l.k ≡ l.k + 1 = omega arith in (
+      omega (arith, c.loop-k-test.true),
+      c.with_cell-total.ensures
+          ∙ ap (λ (y : Float). with_cell l.total y x.inputs x.alignment x.index.now l.k) (ap (λ (y : Float). neg y) n.ensures)
+          ∙ ap (λ (y : Float). with_cell y (neg (null_score x.inputs.board.bits)) x.inputs x.alignment x.index.now l.k) l.invariant.1
+          ∙ ap (capacity_to x.inputs x.alignment x.index.now) next,
+    )
+
+pub returns : goal.returns
+returns c =
+    let l = c.loop-k in
+    let x = c.args in
+    l.invariant.1 ∙ ap (capacity_to x.inputs x.alignment x.index.now) (le_antisymm l.invariant.0 (omega (arith, c.loop-k-test.false)))
+
+pub loop-k-smaller : goal.loop-k-smaller
+loop-k-smaller c = omega (arith, c.loop-k-test.true)

@@ -1,0 +1,56 @@
+-- `link_check::check` meets its contract: one pass after the other, with room for both. Assumes nothing.
+use mathlib.Core.Path.{◌≡◌, sym, ap, ◌∙◌}
+use mathlib.Core.List.{List, ◌++◌}
+use Prim.Native.Nat.{ℕ, ◌+◌, ◌≤◌}
+use native.Mathlib.Omega.{arith}
+use lib.ListN.{length, length-append}
+use Rattle.lent_list.specs.Front.{up_to}
+use Rattle.lent_list.proofs.Front.{put_as, put_more, put_length, flat_map_append}
+use Rattle.link_check.specs.declared.expected.MarkerExpectation.{MarkerExpectation}
+use Rattle.link_check.specs.Violations.{Violation, expectation, own, of_first, violations, violation_words, words_of_violations}
+use Rattle.link_check.proofs.Enough.{enough}
+use Rattle.link_check.proofs.Writing.{words-length}
+use Rattle.link_check.proofs.check.Goals as goal
+use Rattle.link_check.proofs.check.Goals.{After-put_own_entries-end, Start}
+
+module _ (s : Start) where
+  abbrev expected : ℕ → MarkerExpectation
+  expected = expectation s.args.board
+
+  abbrev owns : List Violation
+  owns = up_to (own s.args.links.now expected) s.args.n
+
+  abbrev grouped : List Violation
+  grouped = up_to (of_first s.args.links.now s.args.n s.args.mode expected) s.args.n
+
+  room : length (words_of_violations owns) + length (words_of_violations grouped) ≤ length s.args.violations.now
+  room =
+      omega (
+        arith,
+        s.requires.2,
+        enough s.args.links.now s.args.n s.args.mode expected,
+        words-length (owns ++ grouped),
+        ap length (flat_map_append violation_words owns grouped),
+        length-append (words_of_violations owns) (words_of_violations grouped),
+      )
+
+module _ (c : After-put_own_entries-end) where
+  long : length c.put_own_entries-end.new.violations ≡ length c.args.violations.now
+  long =
+      let p = c.put_own_entries-end.ensures in
+      put_length p (omega arith) (omega (arith, p.end, room c.before.before.before.before.before.before.before.before.before))
+
+pub put_marker_entries-requires : goal.put_marker_entries-requires
+put_marker_entries-requires c =
+    record {
+      n_bound = (c.requires.1, c.fill_chain.ensures, c.fill_chain-2.ensures);
+      n_in_bounds = omega (arith, long (goal.at.put_marker_entries-requires c).After-put_own_entries-end, c.put_own_entries-end.ensures.end, room (goal.at.put_marker_entries-requires c).Start);
+    }
+
+pub returns : goal.returns
+returns c =
+    let x = c.args in
+    put_as
+    (sym (flat_map_append violation_words (owns (goal.at.returns c).Start) (grouped (goal.at.returns c).Start))
+    ∙ ap (λ (n : ℕ). words_of_violations (violations x.links.now n x.mode (expected (goal.at.returns c).Start))) c.requires.0)
+    (put_more c.put_own_entries-end.ensures (omega arith) c.put_marker_entries.ensures)

@@ -1,0 +1,7 @@
+-- `link_check::expected::of_corners` meets its contract: by its two cases. Assumes nothing.
+use mathlib.Core.Path.{sym, ap}
+use Rattle.link_check.specs.Violations.{of_corners}
+use Rattle.link_check.proofs.expected.of_corners.Goals as goal
+
+pub returns-in-Corners : goal.returns-in-Corners
+returns-in-Corners c = ap of_corners (sym c.in-Corners.is)

@@ -1,0 +1,49 @@
+-- `link_check::passes::put_of_four` meets its contract: the repeated corners, then the missing ones. Assumes nothing.
+use mathlib.Core.Path.{◌≡◌, sym, ap}
+use mathlib.Core.List.{List}
+use Prim.Native.Nat.{◌+◌, ◌≤◌}
+use native.Mathlib.Omega.{arith}
+use lib.ListN.{length, length-append}
+use Rattle.lent_list.specs.Front.{up_to}
+use Rattle.lent_list.proofs.Front.{put_as, put_more, put_length, flat_map_append}
+use Rattle.link_check.specs.Violations.{Violation, repeat_at, missing_of, violation_words, words_of_violations}
+use Rattle.link_check.specs.Missing.{four_of}
+use Rattle.link_check.proofs.passes.put_of_four.Goals as goal
+use Rattle.link_check.proofs.passes.put_of_four.Goals.{After-put_repeats-end, Start}
+
+module _ (s : Start) where
+  abbrev repeats : List Violation
+  repeats = up_to (repeat_at s.args.links.now s.args.expected.marker (four_of s.args.expected)) s.args.n
+
+  abbrev missing : List Violation
+  missing = missing_of s.args.links.now s.args.n s.args.mode s.args.expected.marker (four_of s.args.expected)
+
+  room : s.args.at + (length (words_of_violations repeats) + length (words_of_violations missing)) ≤ length s.args.violations.now
+  room =
+      omega
+      (arith, s.requires.expected_in_bounds, ap length (flat_map_append violation_words repeats missing), length-append (words_of_violations repeats) (words_of_violations missing))
+
+pub put_repeats-end-requires : goal.put_repeats-end-requires
+put_repeats-end-requires c =
+    record {
+      n_bound = c.requires.n_bound;
+      n_in_bounds = omega (arith, room (goal.at.put_repeats-end-requires c).Start);
+    }
+
+module _ (c : After-put_repeats-end) where
+  long : length c.put_repeats-end.new.violations ≡ length c.args.violations.now
+  long =
+      let p = c.put_repeats-end.ensures in
+      put_length p (omega (arith, room c.before.before.before.before.before)) (omega (arith, p.end, room c.before.before.before.before.before))
+
+pub put_missing-requires : goal.put_missing-requires
+put_missing-requires c =
+    record {
+      n_bound = (c.requires.n_bound.0, c.requires.n_bound.2);
+      expected_in_bounds = omega (arith, long (goal.at.put_missing-requires c).After-put_repeats-end, c.put_repeats-end.ensures.end, room (goal.at.put_missing-requires c).Start);
+    }
+
+pub returns : goal.returns
+returns c =
+    put_as (sym (flat_map_append violation_words (repeats (goal.at.returns c).Start) (missing (goal.at.returns c).Start)))
+    (put_more c.put_repeats-end.ensures (omega (arith, room (goal.at.returns c).Start)) c.put_missing.ensures)

@@ -1,0 +1,25 @@
+-- `log_text::lines::put_order` meets its contract: by cases of the highest number. Assumes nothing.
+use mathlib.Core.Path.{sym, ap, subst}
+use Prim.Native.Nat.{◌≤◌}
+use native.Mathlib.Omega.{arith}
+use lib.ListN.{length}
+use Rattle.place_text.proofs.Printing.{said, nothing}
+use Rattle.log_text.specs.declared.Highest.{Highest}
+use Rattle.log_text.specs.Lines.{order_line}
+use Rattle.log_text.proofs.lines.put_order.Goals as goal
+
+pub returns-in-Absent : goal.returns-in-Absent
+returns-in-Absent c =
+    let n = c.args.n in
+    let e = sym c.in-Absent.is in record {
+      line = said (ap (λ (h : Highest). order_line h n) e) (nothing c.least.ensures);
+      room = subst (λ (h : Highest). length (order_line h n) ≤ 26) e (omega arith);
+    }
+
+pub returns-in-Seen : goal.returns-in-Seen
+returns-in-Seen c =
+    let n = c.args.n in
+    let e = sym c.in-Seen.is in record {
+      line = said (ap (λ (h : Highest). order_line h n) e) c.put_step.ensures.line;
+      room = subst (λ (h : Highest). length (order_line h n) ≤ 26) e c.put_step.ensures.room;
+    }

@@ -1,0 +1,89 @@
+-- `matcher::with_row` meets its contract. The loop's invariant: `sum` has the bits of the rows above and of the first x columns of this row.
+-- Assumes nothing.
+use mathlib.Core.Path.{◌≡◌, ap, ap₂, sym, subst, ◌∙◌}
+use Prim.Native.Nat.{ℕ, ◌+◌, ◌*◌, ◌/◌, ◌%◌, ◌^◌, ◌<◌}
+use native.Mathlib.Nat.{add-zero}
+use native.Mathlib.Omega.{arith}
+use Rattle.matcher.specs.declared.Place.{Place}
+use Rattle.matcher.specs.Codes.{from_bits, bit, index_of, turned_bit}
+use Rattle.matcher.proofs.Turns.{rank_small, source-small, next_turned_bit, next_below}
+use Rattle.matcher.proofs.with_row.Goals as goal
+use Rattle.matcher.proofs.with_row.Goals.{After-source_place-p, Start}
+
+pub loop-x-init : goal.loop-x-init
+loop-x-init c = (omega arith, c.requires.2 ∙ ap (from_bits (turned_bit c.args.n c.args.turn c.args.code)) (sym (add-zero (c.args.y * c.args.n))))
+
+pub source_place-p-requires : goal.source_place-p-requires
+source_place-p-requires c = (c.loop-x-test.true, c.requires.1)
+
+-- after the call, in the loop
+module _ (c : After-source_place-p) where
+  abbrev code : ℕ
+  code = c.args.code
+
+  abbrev n : ℕ
+  n = c.args.n
+
+  abbrev turn : ℕ
+  turn = c.args.turn
+
+  abbrev x : ℕ
+  x = c.loop-x.x
+
+  abbrev y : ℕ
+  y = c.args.y
+
+  abbrev at : ℕ
+  at = index_of n c.source_place-p.result
+
+  to-small : y * n + x < 64
+  to-small = rank_small code n turn x y c.requires.0 c.requires.1 c.loop-x-test.true
+
+  from-small : at < 64
+  from-small =
+      subst (λ (p : Place). index_of n p < 64) (sym c.source_place-p.ensures)
+      (source-small code n turn x y c.requires.0 c.requires.1 c.loop-x-test.true)
+
+  sum : c.loop-x.sum + code / 2 ^ at % 2 * 2 ^ (y * n + x) % 2 ^ 64 ≡ from_bits (turned_bit n turn code) (y * n + (x + 1))
+  sum =
+      ap₂ (λ (s : ℕ) (p : Place). s + bit code (index_of n p) * 2 ^ (y * n + x) % 2 ^ 64) c.loop-x.invariant.1 c.source_place-p.ensures
+      ∙ next_turned_bit code n turn x y c.requires.0 c.requires.1 c.loop-x-test.true
+
+  sum_fits : c.loop-x.sum + code / 2 ^ at % 2 * 2 ^ (y * n + x) % 2 ^ 64 < 2 ^ 64
+  sum_fits = rw sum (next_below code n turn x y c.requires.0 c.requires.1 c.loop-x-test.true)
+
+pub overflow_mul-sum : goal.overflow_mul-sum
+overflow_mul-sum c = omega (arith, from-small (goal.at.overflow_mul-sum c).After-source_place-p)
+
+pub overflow_add-sum : goal.overflow_add-sum
+overflow_add-sum c = omega (arith, from-small (goal.at.overflow_add-sum c).After-source_place-p)
+
+pub overflow_shr-sum : goal.overflow_shr-sum
+overflow_shr-sum c = from-small (goal.at.overflow_shr-sum c).After-source_place-p
+
+pub overflow_mul-sum-in-loop-x : goal.overflow_mul-sum-in-loop-x
+overflow_mul-sum-in-loop-x c = omega (arith, to-small (goal.at.overflow_mul-sum-in-loop-x c).After-source_place-p)
+
+pub overflow_add-sum-in-loop-x : goal.overflow_add-sum-in-loop-x
+overflow_add-sum-in-loop-x c = omega (arith, to-small (goal.at.overflow_add-sum-in-loop-x c).After-source_place-p)
+
+pub overflow_shl-sum : goal.overflow_shl-sum
+overflow_shl-sum c = to-small (goal.at.overflow_shl-sum c).After-source_place-p
+
+pub overflow_add-sum-in-loop-x-2 : goal.overflow_add-sum-in-loop-x-2
+overflow_add-sum-in-loop-x-2 c = record { fits = sum_fits (goal.at.overflow_add-sum-in-loop-x-2 c).After-source_place-p }
+
+pub overflow_add-x : goal.overflow_add-x
+overflow_add-x c = omega (arith, to-small (goal.at.overflow_add-x c).After-source_place-p)
+
+pub loop-x-smaller : goal.loop-x-smaller
+loop-x-smaller c = omega (arith, c.loop-x-test.true)
+
+pub loop-x-preserved : goal.loop-x-preserved
+loop-x-preserved c = (omega (arith, c.loop-x-test.true), sum (goal.at.loop-x-preserved c).After-source_place-p)
+
+pub returns : goal.returns
+returns c =
+    let all : c.loop-x.x ≡ c.args.n = omega arith in
+    c.loop-x.invariant.1
+    ∙ ap (λ (k : ℕ). from_bits (turned_bit c.args.n c.args.turn c.args.code) (c.args.y * c.args.n + k)) all

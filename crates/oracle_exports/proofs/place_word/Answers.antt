@@ -1,0 +1,7 @@
+-- `oracle_exports::place_word` meets its contract. Assumes nothing.
+use mathlib.Core.Path.{sym, ap}
+use Rattle.oracle_exports.specs.Words.{place_word}
+use Rattle.oracle_exports.proofs.place_word.Goals as goal
+
+pub returns-in-At : goal.returns-in-At
+returns-in-At c = ap place_word (sym c.in-At.is)

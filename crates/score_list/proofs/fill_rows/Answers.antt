@@ -1,0 +1,82 @@
+-- `score_list::fill_rows` meets its contract. The loop's invariant: the first x columns are written. Assumes nothing.
+use mathlib.Core.Path.{refl, ◌∙◌}
+use Prim.Native.Nat.{ℕ, ◌+◌, ◌*◌, ◌≤◌, ◌<◌}
+use native.Mathlib.Omega.{arith}
+use lib.Ieee.{Float}
+use native.Mathlib.Nat.{mul-le-mul}
+use borrow.Author.Count.{below_more}
+use Rattle.score_matrix.specs.Rows.{Column}
+use Rattle.score_matrix.proofs.Columns.{column_put, column-kept}
+use Rattle.shot_record.specs.Shots.{shot}
+use Rattle.hypothesis.proofs.IndexedCells.{few_bits}
+use Rattle.score_list.specs.Filling.{adds_of}
+use Rattle.score_list.proofs.fill_rows.Goals as goal
+use Rattle.score_list.proofs.fill_rows.Goals.{In-loop-x, Start}
+
+module _ (c : Start) where
+  abbrev bits : ℕ
+  bits = c.args.inputs.board.bits
+
+  small : bits ≤ 8
+  small = few_bits c.args.bytes.now c.args.inputs c.args.index.now c.requires.0
+
+  area : bits * bits ≤ 64
+  area = mul-le-mul {n₂ = 8} {m₂ = 8} small small
+
+pub overflow_cast-n : goal.overflow_cast-n
+overflow_cast-n c = record { fits = omega (arith, small (goal.at.overflow_cast-n c).Start) }
+
+pub overflow_cast-n-2 : goal.overflow_cast-n-2
+overflow_cast-n-2 c = record { fits = omega (arith, small (goal.at.overflow_cast-n-2 c).Start) }
+
+pub overflow_mul-n : goal.overflow_mul-n
+overflow_mul-n c = record { fits = omega (arith, area (goal.at.overflow_mul-n c).Start) }
+
+pub loop-x-init : goal.loop-x-init
+loop-x-init c = (omega arith, c.requires.4, refl, λ y h. absurd (omega (arith, h)))
+
+pub overflow_add-first : goal.overflow_add-first
+overflow_add-first c =
+    record { fits = omega (arith, c.loop-x-test.true, c.requires.2, c.requires.0.passed.checked.few) }
+
+pub cell_adds-requires : goal.cell_adds-requires
+cell_adds-requires c =
+    (c.requires.0, c.requires.1, omega (arith, c.loop-x-test.true, c.requires.2), c.loop-x.invariant.2)
+
+pub overflow_mul-n-in-loop-x : goal.overflow_mul-n-in-loop-x
+overflow_mul-n-in-loop-x c = record { fits = omega (arith, area (goal.at.overflow_mul-n-in-loop-x c).Start) }
+
+pub put_column-requires : goal.put_column-requires
+put_column-requires c =
+    (omega (arith, area (goal.at.put_column-requires c).Start), omega (arith, c.loop-x-test.true, c.requires.3), c.loop-x.invariant.1)
+
+pub overflow_add-x : goal.overflow_add-x
+overflow_add-x c =
+    record { fits = omega (arith, c.loop-x-test.true, c.requires.3) }
+
+pub loop-x-smaller : goal.loop-x-smaller
+loop-x-smaller c = omega (arith, c.loop-x-test.true)
+
+pub loop-x-preserved : goal.loop-x-preserved
+loop-x-preserved c =
+    let l = c.loop-x in
+    let n = c.args.inputs.board.bits * c.args.inputs.board.bits in
+    let adds = c.cell_adds.new.adds in
+    let w = c.put_column.ensures in
+    let last = c.put_column.new.rows in
+    let f : ℕ → ℕ → ℕ → Float = λ y. adds_of (shot c.args.bytes.now) (c.args.first + y) in
+    let inside : l.x < 8 = omega (arith, c.loop-x-test.true, c.requires.3) in (
+      omega (arith, c.loop-x-test.true),
+      w.size ∙ l.invariant.1,
+      c.cell_adds.ensures.size,
+      below_more (λ y. Column (f y) n last y) l.x
+          (λ y h. column-kept adds n l.x l.rows last w (f y) y inside (omega (arith, h, inside)) (λ e. absurd (omega (arith, h, e))) (l.invariant.3 y h))
+          (column_put adds n l.x l.rows last w (f l.x) c.cell_adds.ensures.holds),
+    )
+
+pub returns : goal.returns
+returns c =
+    let l = c.loop-x in record {
+      size = l.invariant.1;
+      columns = λ x h. l.invariant.3 x (omega (arith, h, l.invariant.0, c.loop-x-test.false));
+    }
