@@ -2,9 +2,9 @@
 """tests/tables.py [--check]: writes what tables/*.tsv and the code state into the files that repeat it, between lines with
 BEGIN generated NAME and END generated NAME. With --check it writes nothing, prints each block that differs, and exits with status 1 if one does.
 
-It also compares the tables with the definitions: numbers, variants and values of refusals.tsv with `numberOf` and `valuesOf`, the order of its rows
-with the chains of `ask` of each entry point, the functions of entries.tsv with the header, and limits that follow from others with these. The words of
-each array have no gap, the first line of each crate is a sentence, and AUDIT's minutes add up.
+It also compares the tables with the definitions: numbers, variants and values of refusals.tsv with `number_of`, `values_of` and `cut_line`, the order of
+its rows with the chains of `ask` of each entry point, the functions of entries.tsv with the header, and limits that follow from others with these. The
+words of each array have no gap, the first line of each crate is a sentence, and AUDIT's minutes add up.
 """
 
 import re
@@ -14,7 +14,7 @@ from functools import partial
 sys.dont_write_bytecode = True
 
 from generated import c_and_rust, documents, proofs  # noqa: E402
-from generated.sources import ENTRIES, LIMITS, LISTS, RECORD, REFUSALS, ROOT, count_of, errors, values  # noqa: E402
+from generated.sources import ENTRIES, LIMITS, LISTS, OF_CODE, RECORD, REFUSALS, ROOT, count_of, errors, values  # noqa: E402
 
 FOR_EACH_CELL = next(row for row in RECORD if row["field"] == "then for each cell")
 
@@ -31,18 +31,24 @@ def chain(place):
 
 
 def check_numbers():
-    """Numbers, variants and values of the refusals are those of the lines of `numberOf` and `valuesOf`."""
+    """Numbers, variants and values of the refusals are those of the lines of `number_of` and `values_of`, and of `cut_line` for the end of a log."""
     path = "crates/refusal/specs/Numbers.antt"
     text = (ROOT / path).read_text(encoding="utf-8")
     listed = set()
-    for row in REFUSALS:
+    for row in OF_CODE:
         name = " ".join([row["variant"], *(value for value, _ in values(row))])
         name = f"({name})" if values(row) else name
-        words = [f"toBits binary32 {value}" if kind == "f32" else value for value, kind in values(row)]
-        listed |= {f"numberOf {name} = {row['number']}", f"valuesOf {name} = {' ∷ '.join([*words, '[]'])}"}
-    defined = set(re.findall(r"^(?:numberOf|valuesOf) .* = .*$", text, re.M))
+        words = [f"to_bits binary32 {value}" if kind == "f32" else value for value, kind in values(row)]
+        listed |= {f"number_of {name} = {row['number']}", f"values_of {name} = {' ∷ '.join([*words, '[]'])}"}
+    defined = set(re.findall(r"^(?:number_of|values_of) .* = .*$", text, re.M))
     errors.extend(f"{path}: '{line}' is missing, by tables/refusals.tsv" for line in sorted(listed - defined))
     errors.extend(f"tables/refusals.tsv: no row for '{line}' of {path}" for line in sorted(defined - listed))
+    path = "crates/log_text/specs/Lines.antt"
+    text = (ROOT / path).read_text(encoding="utf-8")
+    for row in REFUSALS:
+        line = f"cut_line count = line the_refused (decimal {row['number']} ∷ decimal count ∷ [])"
+        if row not in OF_CODE and line not in text.splitlines():
+            errors.append(f"{path}: '{line}' is missing, by tables/refusals.tsv")
 
 
 def check_limits():
@@ -52,7 +58,7 @@ def check_limits():
     room = limit["bytes of a record"] - fixed
     cells = max(n for n in range(room // 4 + 1) if (n + 7) // 8 + 4 * n <= room)
     specs = (ROOT / "crates/link_check/specs/Entry.antt").read_text(encoding="utf-8")
-    per_link = int(re.search(r"leb \((\d+) \* linkCount", specs)[1])
+    per_link = int(re.search(r"leb \((\d+) \* link_count", specs)[1])
     follows = {
         "corners of a board": (limit["rows"] - 1) ** 2,
         "scores": limit["cells"] * (limit["rows"] ** 2 // 2) * 4,
@@ -121,10 +127,10 @@ BLOCKS = {
     "docs/AUDIT.md": {"reading-lines": documents.reading_lines, "must-fail": documents.must_fail_list},
     "docs/PROVING.md": {"requires": documents.requires_list},
     "docs/CHANGING.md": {"crates": documents.crate_list},
-    "crates/refusal/proofs/Refusal/number/Proof.antt": {"number-spec": proofs.proof_number},
-    "crates/refusal/proofs/Refusal/value/Proof.antt": {"nothing": proofs.proof_nothing},
+    "crates/refusal/proofs/Refusal/number/Answers.antt": {"returns-in": proofs.proof_number},
+    "crates/refusal/proofs/Refusal/value/Answers.antt": {"nothing": proofs.proof_nothing},
     "crates/charuco/proofs/Giving.antt": {"values-are": partial(proofs.proof_cases, "values-are", "refl")},
-    "crates/place_text/proofs/Lengths.antt": {"number-small": partial(proofs.proof_cases, "number-small", "lit< tt")},
+    "crates/place_text/proofs/Lengths.antt": {"number_small": partial(proofs.proof_cases, "number_small", "lit< tt")},
 }
 
 

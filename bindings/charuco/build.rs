@@ -1,4 +1,4 @@
-//! Links the static library that `rt staticlib charuco` builds.
+//! Links the static library that `bin/build charuco` builds.
 
 include!("link.rs");
 

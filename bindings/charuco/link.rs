@@ -1,4 +1,4 @@
-// For build scripts: links a static library that `rt staticlib` builds, from the folder that a variable names.
+// For build scripts: links a static library that `bin/build` builds, from the folder that a variable names.
 
 use std::env;
 use std::path::Path;
@@ -19,7 +19,7 @@ fn link(library: &str) {
         println!("cargo::rustc-link-lib=static={library}");
     } else {
         println!(
-            "cargo::error={} is missing: run `rt staticlib {library}` in the root of the repository, \
+            "cargo::error={} is missing: run `bin/build {library}` in the root of the repository, \
              or set {VARIABLE} to the folder that holds it",
             archive.display()
         );

@@ -1,4 +1,4 @@
-//! Links the static library that `rt staticlib oracle_exports` builds.
+//! Links the static library that `bin/build oracle_exports` builds.
 
 include!("../../bindings/charuco/link.rs");
 

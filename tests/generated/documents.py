@@ -35,7 +35,7 @@ def layout_record():
 def crates():
     """The crates in the order of crates.txt."""
     lines = (ROOT / "crates.txt").read_text(encoding="utf-8").splitlines()
-    return [line.partition(":")[0] for line in lines if line and not line.startswith("#")]
+    return [line.partition(":")[0].split()[0] for line in lines if line and not line.startswith("#")]
 
 
 def crate_list():

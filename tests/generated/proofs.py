@@ -1,8 +1,8 @@
 """Blocks of proofs with a line for each refusal. The format of proofs has a blank line before the comment that ends a block."""
 
-import textwrap
+from generated.sources import OF_CODE, values
 
-from generated.sources import BY_NUMBER, values
+COLUMNS = 150  # of a line in a proof
 
 
 def pattern(row):
@@ -11,19 +11,34 @@ def pattern(row):
 
 
 def proof_cases(law, answer):
-    return [f"{law} {pattern(row)} = {answer}" for row in BY_NUMBER] + [""]
+    return [f"{law} {pattern(row)} = {answer}" for row in OF_CODE] + [""]
 
 
 def proof_nothing():
-    tags = [str(tag) for tag, row in enumerate(BY_NUMBER) if not values(row)]
-    lines = ["abbrev silent : List ℕ", f"silent = {' ∷ '.join(tags)} ∷ []", "", "nothing : (r : Refusal) → OneOf silent (tagOf the-type r) → valuesOf r ≡ []"]
-    for tag, row in enumerate(BY_NUMBER):
-        lines.append(f"nothing {pattern(row)} h = " + (f"absurd (miss silent {tag} tt h)" if values(row) else "refl"))
+    """That a refusal has no values, if it is none of those that have some; the premise on a variant is named by its first letter."""
+    told = [row for row in OF_CODE if values(row)]
+    premises = [row["variant"][0].lower() for row in told]
+    parts = []
+    for row in told:
+        (kind,) = {kind for _, kind in values(row)}
+        names = " ".join("xyzw"[: len(values(row))])
+        parts.append(f"(({names} : {'Float' if kind == 'f32' else 'ℕ'}) → r ≡ refusal.{row['variant']} {names} → ⊥)")
+    lines = ["nothing : (r : Refusal)"]
+    for part in [*parts, "values_of r ≡ []"]:
+        if len(lines[-1]) + len(part) + 3 > COLUMNS:
+            lines.append("   ")
+        lines[-1] += f" → {part}"
+    for row in OF_CODE:
+        answer = "refl"
+        if values(row):
+            answer = f"absurd ({row['variant'][0].lower()} {' '.join(name for name, _ in values(row))} refl)"
+        lines.append(f"nothing {pattern(row)} {' '.join(premises)} = {answer}")
     return lines + [""]
 
 
 def proof_number():
-    answers = ["(λ c. search needs)"] * len(BY_NUMBER)
-    answers += [f"(λ c. rw (c .enum-told{k if k > 1 else ''} .given .1))" for k in range(1, len(BY_NUMBER) + 1)]
-    lines = textwrap.wrap("tie.close (tie.spec " + " ".join(a.replace(" ", "\0") for a in answers) + ")", 140, break_on_hyphens=False)
-    return ["pub number-spec : {M : Type 1} → statement M", "number-spec ="] + ["    " + line.replace("\0", " ") for line in lines] + [""]
+    lines = []
+    for row in OF_CODE:
+        name = row["variant"]
+        lines += [f"pub returns-in-{name} : goal.returns-in-{name}", f"returns-in-{name} c = rw c.in-{name}.is", ""]
+    return lines

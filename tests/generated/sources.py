@@ -24,6 +24,7 @@ def table(name):
 
 REFUSALS = table("refusals")  # in the order of the checks
 BY_NUMBER = sorted(REFUSALS, key=lambda row: int(row["number"]))
+OF_CODE = [row for row in BY_NUMBER if row["asked by"] != "reread"]  # the variants of Refusal; the line of a log's end is a text of its own
 ENTRIES = table("entries")
 LISTS = table("lists")
 WORDS = table("words")
