@@ -1,5 +1,5 @@
-// For tests only: what no entry point returns by itself, one number each, or all scores of a cell.
-// `oracle_exports_c` exports these functions to C for the oracle, and `stored_rows` calls them; both call the entry points through `charuco`. Every function accepts every number and array.
+// For tests only: what no entry point returns by itself, one number each, or all scores of a cell. Every function accepts every number and array.
+// `oracle_exports_c` exports these functions to C for the oracle, and `stored_rows` calls them.
 
 #![tactic(auto)]
 

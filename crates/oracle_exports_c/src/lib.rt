@@ -6,7 +6,8 @@ ghost use Rattle.std.specs.Prelude.{◌≡◌, ◌%◌, cond, length, get_or, T}
 ghost use Rattle.matcher.specs.Codes.{turned_word, differing};
 ghost use Rattle.grid_alignment.specs.Alignment.{point, sends, corner};
 ghost use Rattle.board.specs.Layout.{marker_total, marker_on, marker_square, corner_at, corner_place, object_point, surrounding_corners};
-ghost use Rattle.oracle_exports.specs.Words.{axis_of, corner_translation, rect_corner, unit_size, board_with, id_word, place_word, axis_of_point, four_word, whole_grid, ScoresWritten, border_sample, weight_settings};
+ghost use Rattle.oracle_exports.specs.Words.{axis_of, corner_translation, rect_corner, unit_size, board_with, id_word, place_word};
+ghost use Rattle.oracle_exports.specs.Words.{axis_of_point, four_word, whole_grid, ScoresWritten, border_sample, weight_settings};
 ghost use Rattle.std.specs.Float.{nan, binary32};
 ghost use Rattle.std.specs.Float.Ieee.{sub};
 ghost use Rattle.floats.specs.Units.{nought};
