@@ -25,10 +25,7 @@ fn put_least(least: &mut [u64; 512], codes: &[u64], n: usize, bits: u8)
 fn code_at(codes: &[u64], k: usize) -> u64
     ensures { result ≡ get_or codes.now k 0 }
 {
-    if k < codes.len() {
-        return codes[k];
-    }
-    0
+    codes.get(k).copied().unwrap_or(0)
 }
 
 // Are no two of the first `count` codes equal up to rotation? Reads at most 512, the most markers of a board.
@@ -36,8 +33,8 @@ pub fn none_alike(bits: u8, codes: &[u64], count: usize) -> bool
     requires { (1 ≤ bits) × (bits ≤ 8) }
     ensures { result ≡ not (two_alike bits codes.now (min count 512)) }
 {
-    let n = quarters::lesser(count as u64, 512) as usize;
+    let n = count.min(512);
     let mut least: [u64; 512] = [0; 512];
     put_least(&mut least, codes, n, bits);
-    sorting::all_different(&mut least, n)
+    sorting::all_different(&mut least[..n])
 }

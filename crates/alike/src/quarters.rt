@@ -71,15 +71,6 @@ fn moved_on(m: usize, w: u64) -> u64
     high + (low << 3 * m)
 }
 
-pub fn lesser(a: u64, b: u64) -> u64
-    ensures { result ≡ min a b }
-{
-    if a <= b {
-        return a;
-    }
-    b
-}
-
 // The canonical key of a code: the least number of the four rotations.
 pub fn least_turn(sources: &[u8; 64], bits: u8, code: u64) -> u64
     requires { (1 ≤ bits) × (bits ≤ 8) × QuarterSources bits (4 * quarterOf bits) sources.now }
@@ -90,5 +81,5 @@ pub fn least_turn(sources: &[u8; 64], bits: u8, code: u64) -> u64
     let once = moved_on(m, as_is);
     let twice = moved_on(m, once);
     let thrice = moved_on(m, twice);
-    lesser(lesser(as_is, once), lesser(twice, thrice))
+    as_is.min(once).min(twice.min(thrice))
 }

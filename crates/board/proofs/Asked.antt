@@ -21,11 +21,11 @@ use Rattle.refusal.proofs.Questions.{answered, GoesOn, ask-first, ask_last, foll
 use Rattle.integers.proofs.Tests.{both}
 use Rattle.board.specs.declared.CharucoBoardSpec.{CharucoBoardSpec}
 use Rattle.board.specs.declared.Board.{Board}
-use Rattle.board.specs.declared.NewBoard.TheVariants as new
 use Rattle.board.specs.Layout.{marker_total}
 use Rattle.board.specs.Questions.{size_answer, cell_size_answer, marker_size_answer, range_answer, code_in_range, codes_answer, apart_answer}
 use Rattle.board.proofs.Laws.{same_count}
 use Rattle.board.specs.Questions.{board_of, asked_of_size, asked_of_board, made_unless, sized_board, judged_by, new_board}
+use Rattle.std.specs.Prelude.{Ok, Err}
 
 -- ---- the sequence of questions
 size_goes_on : (s : CharucoBoardSpec) (count : ℕ) → GoesOn (asked_of_size s count)
@@ -46,20 +46,20 @@ board_goes_on s codes =
     (ask-first (codes_answer s.bits codes) _ _ (ask_last (apart_answer (board_of s) codes) refusal.CodesAlike))
 
 -- a board was made or refused
-pub made_if : (o : Option Refusal) (s : CharucoBoardSpec) (b : Board) → made_unless o s ≡ new.Made b → (o ≡ none) × (b ≡ board_of s)
+pub made_if : (o : Option Refusal) (s : CharucoBoardSpec) (b : Board) → made_unless o s ≡ Ok b → (o ≡ none) × (b ≡ board_of s)
 made_if none s b e = (refl, cc)
 made_if (some r) s b e = let z : ◌≡◌ {A = ℕ} 0 1 = cc in absurd (omega arith)
 
-pub refused_if : (o : Option Refusal) (s : CharucoBoardSpec) (r : Refusal) → made_unless o s ≡ new.Refused r → o ≡ some r
+pub refused_if : (o : Option Refusal) (s : CharucoBoardSpec) (r : Refusal) → made_unless o s ≡ Err r → o ≡ some r
 refused_if none s r e = let z : ◌≡◌ {A = ℕ} 0 1 = cc in absurd (omega arith)
 refused_if (some q) s r e = cc
 
 -- then the rest is checked, or the refusal is the result
 module _ (s : CharucoBoardSpec) (codes : List ℕ) (rest : Option Refusal) where
-  pub after_made : (b : Board) → new_board s codes ≡ new.Made b → asked_of_board s codes rest ≡ rest
+  pub after_made : (b : Board) → new_board s codes ≡ Ok b → asked_of_board s codes rest ≡ rest
   after_made b e = rest_asked (asked_of_board s codes) (board_goes_on s codes) rest (made_if (asked_of_board s codes none) s b e).0
 
-  pub after_refused : (r : Refusal) → new_board s codes ≡ new.Refused r → asked_of_board s codes rest ≡ some r
+  pub after_refused : (r : Refusal) → new_board s codes ≡ Err r → asked_of_board s codes rest ≡ some r
   after_refused r e = refusal_stands (asked_of_board s codes) (board_goes_on s codes) rest r (refused_if (asked_of_board s codes none) s r e)
 
 -- ---- questions 1 to 7
@@ -120,20 +120,20 @@ sized s count rest e =
     )
 
 -- the bits of a board that passed them
-pub sized_bits : (s : CharucoBoardSpec) (count : ℕ) (b : Board) → sized_board s count ≡ new.Made b → (1 ≤ b.bits) × (b.bits ≤ 8)
+pub sized_bits : (s : CharucoBoardSpec) (count : ℕ) (b : Board) → sized_board s count ≡ Ok b → (1 ≤ b.bits) × (b.bits ≤ 8)
 sized_bits s count b e =
     let m = made_if (asked_of_size s count none) s b e in
     let r = (sized s count none m.0).0.in_range in
     rw m.1 (r.some_bits, r.bits)
 
 -- and its markers: question 22 reads at most 512
-pub sized_few : (s : CharucoBoardSpec) (count : ℕ) (b : Board) → sized_board s count ≡ new.Made b → marker_total b ≤ 512
+pub sized_few : (s : CharucoBoardSpec) (count : ℕ) (b : Board) → sized_board s count ≡ Ok b → marker_total b ≤ 512
 sized_few s count b e =
     let m = made_if (asked_of_size s count none) s b e in
     let r = (sized s count none m.0).0.in_range in
     rw m.1 (omega (arith, same_count (board_of s), mul-le-mul {n₂ = 32} {m₂ = 32} r.rows r.cols))
 
-pub sized_count : (s : CharucoBoardSpec) (count : ℕ) (b : Board) → sized_board s count ≡ new.Made b → min (marker_total b) 512 ≡ marker_total b
+pub sized_count : (s : CharucoBoardSpec) (count : ℕ) (b : Board) → sized_board s count ≡ Ok b → min (marker_total b) 512 ≡ marker_total b
 sized_count s count b e = min-eq_left (sized_few s count b e)
 
 -- ---- questions 8 and 22
@@ -148,7 +148,7 @@ codes-below bits (c ∷ cs) e (suc k) h = codes-below bits cs (both (code_in_ran
 
 -- for a board that passed 1 to 7, and for one that did not
 module _ (s : CharucoBoardSpec) (codes : List ℕ) where
-  pub then_codes : (b : Board) (below apart : Bool) → new.Made b ≡ sized_board s (length codes) → below ≡ codes_answer b.bits codes
+  pub then_codes : (b : Board) (below apart : Bool) → Ok b ≡ sized_board s (length codes) → below ≡ codes_answer b.bits codes
       → apart ≡ apart_answer b codes → judged_by below apart b ≡ new_board s codes
   unfolding asked_of_board
   then_codes b below apart e p q =
@@ -160,11 +160,11 @@ module _ (s : CharucoBoardSpec) (codes : List ℕ) where
       m.1
     where
       go : (x y : Bool) → asked_of_board s codes none ≡ ask x refusal.CodeOutOfRange (ask y refusal.CodesAlike none) → b ≡ board_of s → judged_by x y b ≡ new_board s codes
-      go true true f is = ap new.Made is ∙ sym (ap (λ (o : Option Refusal). made_unless o s) f)
+      go true true f is = ap Ok is ∙ sym (ap (λ (o : Option Refusal). made_unless o s) f)
       go true false f is = sym (ap (λ (o : Option Refusal). made_unless o s) f)
       go false y f is = sym (ap (λ (o : Option Refusal). made_unless o s) f)
 
-  pub sized_refused : (r : Refusal) → new.Refused r ≡ sized_board s (length codes) → new.Refused r ≡ new_board s codes
+  pub sized_refused : (r : Refusal) → Err r ≡ sized_board s (length codes) → Err r ≡ new_board s codes
   unfolding asked_of_board
   sized_refused r e =
       sym
@@ -186,11 +186,11 @@ asked s codes rest e =
     (record { sized = q7.0; below = codes-below s.bits codes q8.0; apart = not-true _ q22.0 }, q22.1)
 
 -- of a board that was made
-pub made : (s : CharucoBoardSpec) (codes : List ℕ) (b : Board) → new_board s codes ≡ new.Made b → Asked s codes × (b ≡ board_of s)
+pub made : (s : CharucoBoardSpec) (codes : List ℕ) (b : Board) → new_board s codes ≡ Ok b → Asked s codes × (b ≡ board_of s)
 made s codes b e = let m = made_if (asked_of_board s codes none) s b e in ((asked s codes none m.0).0, m.1)
 
 -- the purpose of question 22: on a board that was made, an exactly read code is that of at most one marker at any turn
-pub reads_one : (s : CharucoBoardSpec) (codes : List ℕ) (b : Board) → new_board s codes ≡ new.Made b → (read m n r t : ℕ) → m < marker_total b → n < marker_total b
+pub reads_one : (s : CharucoBoardSpec) (codes : List ℕ) (b : Board) → new_board s codes ≡ Ok b → (read m n r t : ℕ) → m < marker_total b → n < marker_total b
     → turned b.bits r (get_or codes m 0) ≡ read → turned b.bits t (get_or codes n 0) ≡ read → m ≡ n
 reads_one s codes b e read m n r t hm hn x y =
     let p = made s codes b e in

@@ -12,29 +12,26 @@ use lib.Dec.{ltb, eqb, ltb→lt, lit<}
 use borrow.Author.Tests.{eqb-true}
 use lib.Ieee.Fits.{and_l, and_r}
 use Rattle.board.specs.declared.Board.{Board}
-use Rattle.board.specs.declared.Numbered.{Numbered}
-use Rattle.board.specs.declared.Numbered.TheVariants as numbered
-use Rattle.board.specs.declared.Located.TheVariants as located
-use Rattle.board.specs.declared.Surrounding.TheVariants as surrounding
 use Rattle.board.specs.Numbering.{number_at, number_atℤ, place_numbered, total}
 use Rattle.board.specs.Layout.{holds_marker, inner, even_parity, odd_parity, parity_of, marker_count, marker_total, marker_at, marker_on, square_of, all_four, around, four_corners}
 use Rattle.board.proofs.Places.{Place, number-has, place_of_number, number_of-place, placed, unplaced, number-below, numbers_differ, numbers_rise}
 use Rattle.board.proofs.Markers.{parity_bit, marker_total_lem}
 use Rattle.board.proofs.Surroundings.{OffRim, off_rim}
+use Rattle.std.specs.Prelude.{Option, Some, None}
 
 -- ---- ids
 pub record Numbering (t : ℕ → ℕ → Bool) (w h : ℕ) : Type 0 where
   -- id and place are inverse
-  pub place_of : (i j id : ℕ) → number_at t w h i j ≡ numbered.Id id → place_numbered t w h id ≡ located.At i j
-  pub id_of_lem : (i j id : ℕ) → place_numbered t w h id ≡ located.At i j → number_at t w h i j ≡ numbered.Id id
+  pub place_of : (i j id : ℕ) → number_at t w h i j ≡ Some id → place_numbered t w h id ≡ Some i j
+  pub id_of_lem : (i j id : ℕ) → place_numbered t w h id ≡ Some i j → number_at t w h i j ≡ Some id
   -- the ids are exactly 0 to count − 1
-  pub below : (i j id : ℕ) → number_at t w h i j ≡ numbered.Id id → id < total t w h
+  pub below : (i j id : ℕ) → number_at t w h i j ≡ Some id → id < total t w h
   pub known : (id : ℕ) → id < total t w h → Place t w h id
-  pub unknown : (id : ℕ) → total t w h ≤ id → place_numbered t w h id ≡ located.Absent
+  pub unknown : (id : ℕ) → total t w h ≤ id → place_numbered t w h id ≡ None
   -- no two places share an id
-  pub once : (i j i' j' id : ℕ) → number_at t w h i j ≡ numbered.Id id → number_at t w h i' j' ≡ numbered.Id id → (i ≡ i') × (j ≡ j')
+  pub once : (i j i' j' id : ℕ) → number_at t w h i j ≡ Some id → number_at t w h i' j' ≡ Some id → (i ≡ i') × (j ≡ j')
   -- ids increase in row-major order
-  pub rise : (i j i' j' id id' : ℕ) → number_at t w h i j ≡ numbered.Id id → number_at t w h i' j' ≡ numbered.Id id' → (j < j') ⊎ ((j ≡ j') × (i < i')) → id < id'
+  pub rise : (i j i' j' id id' : ℕ) → number_at t w h i j ≡ Some id → number_at t w h i' j' ≡ Some id' → (j < j') ⊎ ((j ≡ j') × (i < i')) → id < id'
 
 numbering : (t : ℕ → ℕ → Bool) (w h : ℕ) → Numbering t w h
 numbering t w h =
@@ -56,14 +53,14 @@ pub corners : (rows cols : ℕ) → Numbering inner cols rows
 corners rows cols = numbering inner cols rows
 
 -- the id at any two integers is below the count, and small on a board of at most 32 by 32 squares
-pub id_below : (p rows cols : ℕ) (i j : ℤ) (id : ℕ) → marker_at p rows cols i j ≡ numbered.Id id → id < marker_count p rows cols
+pub id_below : (p rows cols : ℕ) (i j : ℤ) (id : ℕ) → marker_at p rows cols i j ≡ Some id → id < marker_count p rows cols
 unfolding number_atℤ
 id_below p rows cols (pos i) (pos j) id e = (markers p rows cols).below i j id e
 id_below p rows cols (pos i) (negsuc j) id e = let z : ◌≡◌ {A = ℕ} 0 1 = cc in absurd (omega arith)
 id_below p rows cols (negsuc i) j id e = let z : ◌≡◌ {A = ℕ} 0 1 = cc in absurd (omega arith)
 
 -- no two squares share an id, at any two integers
-pub id-once : (p rows cols : ℕ) (i j i' j' : ℤ) (id : ℕ) → marker_at p rows cols i j ≡ numbered.Id id → marker_at p rows cols i' j' ≡ numbered.Id id → (i ≡ i') × (j ≡ j')
+pub id-once : (p rows cols : ℕ) (i j i' j' : ℤ) (id : ℕ) → marker_at p rows cols i j ≡ Some id → marker_at p rows cols i' j' ≡ Some id → (i ≡ i') × (j ≡ j')
 unfolding number_atℤ
 id-once p rows cols (pos i) (pos j) (pos i') (pos j') id e f = let o = (markers p rows cols).once i j i' j' id e f in (ap pos o.0, ap pos o.1)
 id-once p rows cols (pos i) (negsuc j) i' j' id e f = let z : ◌≡◌ {A = ℕ} 0 1 = cc in absurd (omega arith)
@@ -71,7 +68,7 @@ id-once p rows cols (negsuc i) j i' j' id e f = let z : ◌≡◌ {A = ℕ} 0 1 
 id-once p rows cols (pos i) (pos j) (pos i') (negsuc j') id e f = let z : ◌≡◌ {A = ℕ} 0 1 = cc in absurd (omega arith)
 id-once p rows cols (pos i) (pos j) (negsuc i') j' id e f = let z : ◌≡◌ {A = ℕ} 0 1 = cc in absurd (omega arith)
 
-pub id-small : (b : Board) (i j : ℤ) (id : ℕ) → b.rows ≤ 32 → b.cols ≤ 32 → marker_on b i j ≡ numbered.Id id → id < 512
+pub id-small : (b : Board) (i j : ℤ) (id : ℕ) → b.rows ≤ 32 → b.cols ≤ 32 → marker_on b i j ≡ Some id → id < 512
 id-small b i j id r c e =
     let p = parity_of b in
     omega (arith, id_below p b.rows b.cols i j id e, marker_total_lem p b.rows b.cols (parity_bit b), mul-le-mul {n₂ = 32} {m₂ = 32} r c)
@@ -111,30 +108,30 @@ same_count b = go b.legacy_pattern (eqb (b.rows % 2) 0) refl
     go false even e = odd
 
 -- ---- the four corners of a marker on square (i, j)
-each-four : (x y z u : Numbered) (a b c d : ℕ) → all_four x y z u ≡ surrounding.Corners a b c d → (x ≡ numbered.Id a) × (y ≡ numbered.Id b)
-    × (z ≡ numbered.Id c) × (u ≡ numbered.Id d)
-each-four (numbered.Id k) (numbered.Id l) (numbered.Id m) (numbered.Id n) a b c d e = (cc, cc, cc, cc)
-each-four (numbered.Id k) (numbered.Id l) (numbered.Id m) numbered.Absent a b c d e = let z : ◌≡◌ {A = ℕ} 0 1 = cc in absurd (omega arith)
-each-four (numbered.Id k) (numbered.Id l) numbered.Absent u a b c d e = let z : ◌≡◌ {A = ℕ} 0 1 = cc in absurd (omega arith)
-each-four (numbered.Id k) numbered.Absent z u a b c d e = let n : ◌≡◌ {A = ℕ} 0 1 = cc in absurd (omega arith)
-each-four numbered.Absent y z u a b c d e = let n : ◌≡◌ {A = ℕ} 0 1 = cc in absurd (omega arith)
+each-four : (x y z u : Option ℕ) (a b c d : ℕ) → all_four x y z u ≡ Some a b c d → (x ≡ Some a) × (y ≡ Some b)
+    × (z ≡ Some c) × (u ≡ Some d)
+each-four (Some k) (Some l) (Some m) (Some n) a b c d e = (cc, cc, cc, cc)
+each-four (Some k) (Some l) (Some m) None a b c d e = let z : ◌≡◌ {A = ℕ} 0 1 = cc in absurd (omega arith)
+each-four (Some k) (Some l) None u a b c d e = let z : ◌≡◌ {A = ℕ} 0 1 = cc in absurd (omega arith)
+each-four (Some k) None z u a b c d e = let n : ◌≡◌ {A = ℕ} 0 1 = cc in absurd (omega arith)
+each-four None y z u a b c d e = let n : ◌≡◌ {A = ℕ} 0 1 = cc in absurd (omega arith)
 
 pub record Four (rows cols i j a b c d : ℕ) : Type 0 where
-  pub top_left : number_at inner cols rows i j ≡ numbered.Id a
-  pub top_right : number_at inner cols rows (suc i) j ≡ numbered.Id b
-  pub bottom_right : number_at inner cols rows (suc i) (suc j) ≡ numbered.Id c
-  pub bottom_left : number_at inner cols rows i (suc j) ≡ numbered.Id d
+  pub top_left : number_at inner cols rows i j ≡ Some a
+  pub top_right : number_at inner cols rows (suc i) j ≡ Some b
+  pub bottom_right : number_at inner cols rows (suc i) (suc j) ≡ Some c
+  pub bottom_left : number_at inner cols rows i (suc j) ≡ Some d
 
-module _ (p rows cols id i j : ℕ) (square : square_of p rows cols id ≡ located.At i j) where
+module _ (p rows cols id i j : ℕ) (square : square_of p rows cols id ≡ Some i j) where
   -- if there are four, they are the inner corners of the marker's square
-  pub four_are : (a b c d : ℕ) → four_corners p rows cols id ≡ surrounding.Corners a b c d → Four rows cols i j a b c d
+  pub four_are : (a b c d : ℕ) → four_corners p rows cols id ≡ Some a b c d → Four rows cols i j a b c d
   four_are a b c d e =
       let corner = number_at inner cols rows in
       let f = each-four (corner i j) (corner (suc i) j) (corner (suc i) (suc j)) (corner i (suc j)) a b c d (sym (ap (around rows cols) square) ∙ e) in
       record { top_left = f.0; top_right = f.1; bottom_right = f.2; bottom_left = f.3 }
 
   -- and the square is off the rim
-  pub four_off_rim : (a b c d : ℕ) → four_corners p rows cols id ≡ surrounding.Corners a b c d → OffRim rows cols i j
+  pub four_off_rim : (a b c d : ℕ) → four_corners p rows cols id ≡ Some a b c d → OffRim rows cols i j
   four_off_rim a b c d e =
       let f = four_are a b c d e in
       let first = number-has inner cols rows i j a f.top_left in
@@ -144,6 +141,6 @@ module _ (p rows cols id i j : ℕ) (square : square_of p rows cols id ≡ locat
 
   -- off the rim there are four
   pub off_rim_four : OffRim rows cols i j
-      → four_corners p rows cols id ≡ surrounding.Corners ((j - 1) * (cols - 1) + (i - 1)) ((j - 1) * (cols - 1) + (i - 1) + 1)
+      → four_corners p rows cols id ≡ Some ((j - 1) * (cols - 1) + (i - 1)) ((j - 1) * (cols - 1) + (i - 1) + 1)
       ((j - 1) * (cols - 1) + (i - 1) + (cols - 1) + 1) ((j - 1) * (cols - 1) + (i - 1) + (cols - 1))
   off_rim_four o = ap (around rows cols) square ∙ off_rim rows cols i j o

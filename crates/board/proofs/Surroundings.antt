@@ -4,22 +4,19 @@ use Prim.Native.Nat.{ℕ, zero, suc, ◌+◌, ◌-◌, ◌*◌, ◌≤◌, ◌<�
 use native.Mathlib.Omega.{arith}
 use lib.Dec.{ltb, ltb→lt}
 use lib.Ieee.Fits.{and_l, and_r}
-use Rattle.board.specs.declared.Numbered.{Numbered}
-use Rattle.board.specs.declared.Numbered.TheVariants as numbered
-use Rattle.board.specs.declared.Located.TheVariants as located
-use Rattle.board.specs.declared.Surrounding.TheVariants as surrounding
 use Rattle.board.specs.Numbering.{number_at}
 use Rattle.board.specs.Layout.{inner, all_four, around}
 use Rattle.board.proofs.Places.{has-number, unnumbered}
 use Rattle.board.proofs.Corners.{inner-is, corner-number, less_one}
+use Rattle.std.specs.Prelude.{Option, Some, None}
 
 -- an inner corner has its number, and no other corner has one
-pub inner-corner : (rows w i j : ℕ) → 0 < i → 0 < j → i < w → j < rows → number_at inner w rows i j ≡ numbered.Id ((j - 1) * (w - 1) + (i - 1))
+pub inner-corner : (rows w i j : ℕ) → 0 < i → 0 < j → i < w → j < rows → number_at inner w rows i j ≡ Some ((j - 1) * (w - 1) + (i - 1))
 inner-corner rows w i j a b l k =
     has-number inner w rows i j ((j - 1) * (w - 1) + (i - 1))
     (record { column = l; row = k; passes = inner-is i j a b; number = corner-number w i j (omega arith) b })
 
-pub outer_corner : (rows w i j : ℕ) → (0 < i → 0 < j → i < w → j < rows → ⊥) → number_at inner w rows i j ≡ numbered.Absent
+pub outer_corner : (rows w i j : ℕ) → (0 < i → 0 < j → i < w → j < rows → ⊥) → number_at inner w rows i j ≡ None
 outer_corner rows w i j out =
     unnumbered inner w rows i j
     (λ l k y. out (ltb→lt 0 i (and_l (ltb 0 i) (ltb 0 j) y)) (ltb→lt 0 j (and_r (ltb 0 i) (ltb 0 j) y)) l k)
@@ -37,7 +34,7 @@ next_row (suc j) s h = omega (arith, less_one (suc j) s, less_one j s)
 
 -- off the rim: the number of the top left corner, the next, and the two of the row below
 pub off_rim : (rows w i j : ℕ) → OffRim rows w i j
-    → around rows w (located.At i j) ≡ surrounding.Corners ((j - 1) * (w - 1) + (i - 1)) ((j - 1) * (w - 1) + (i - 1) + 1)
+    → around rows w (Some i j) ≡ Some ((j - 1) * (w - 1) + (i - 1)) ((j - 1) * (w - 1) + (i - 1) + 1)
     ((j - 1) * (w - 1) + (i - 1) + (w - 1) + 1) ((j - 1) * (w - 1) + (i - 1) + (w - 1))
 off_rim rows w i j o =
     let a = (j - 1) * (w - 1) + (i - 1) in
@@ -56,27 +53,27 @@ off_rim rows w i j o =
     )
 
 -- on the rim one corner has no number
-second : (a c d : Numbered) → all_four a numbered.Absent c d ≡ surrounding.Absent
-second (numbered.Id n) c d = refl
-second numbered.Absent c d = refl
+second : (a c d : Option ℕ) → all_four a None c d ≡ None
+second (Some n) c d = refl
+second None c d = refl
 
-third : (a b d : Numbered) → all_four a b numbered.Absent d ≡ surrounding.Absent
-third (numbered.Id n) (numbered.Id m) d = refl
-third (numbered.Id n) numbered.Absent d = refl
-third numbered.Absent b d = refl
+third : (a b d : Option ℕ) → all_four a b None d ≡ None
+third (Some n) (Some m) d = refl
+third (Some n) None d = refl
+third None b d = refl
 
 module _ (rows w i j : ℕ) where
-  abbrev corner : ℕ → ℕ → Numbered
+  abbrev corner : ℕ → ℕ → Option ℕ
   corner = number_at inner w rows
 
-  pub rim_left : i ≤ 0 → around rows w (located.At i j) ≡ surrounding.Absent
+  pub rim_left : i ≤ 0 → around rows w (Some i j) ≡ None
   rim_left h = rw (outer_corner rows w i j (λ a b l k. omega arith))
 
-  pub rim_top : j ≤ 0 → around rows w (located.At i j) ≡ surrounding.Absent
+  pub rim_top : j ≤ 0 → around rows w (Some i j) ≡ None
   rim_top h = rw (outer_corner rows w i j (λ a b l k. omega arith))
 
-  pub rim_right : w ≤ suc i → around rows w (located.At i j) ≡ surrounding.Absent
+  pub rim_right : w ≤ suc i → around rows w (Some i j) ≡ None
   rim_right h = rw (outer_corner rows w (suc i) j (λ a b l k. omega arith)) (second (corner i j) (corner (suc i) (suc j)) (corner i (suc j)))
 
-  pub rim_bottom : rows ≤ suc j → around rows w (located.At i j) ≡ surrounding.Absent
+  pub rim_bottom : rows ≤ suc j → around rows w (Some i j) ≡ None
   rim_bottom h = rw (outer_corner rows w (suc i) (suc j) (λ a b l k. omega arith)) (third (corner i j) (corner (suc i) j) (corner i (suc j)))

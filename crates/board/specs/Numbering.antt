@@ -1,9 +1,6 @@
 -- Row-major numbers, from 0, of the places of a grid that pass a test: squares that have markers, corners that are inner.
-use Rattle.std.specs.Prelude.{ℕ, zero, suc, ◌+◌, ◌*◌, ◌/◌, ◌%◌, Bool, true, false, cond, ◌&&◌, ℤ, pos, negsuc, ltb, eqb}
-use Rattle.board.specs.declared.Numbered.{Numbered}
-use Rattle.board.specs.declared.Numbered.TheVariants as numbered
-use Rattle.board.specs.declared.Located.{Located}
-use Rattle.board.specs.declared.Located.TheVariants as located
+use Rattle.std.specs.Prelude.{ℕ, zero, suc, ◌+◌, ◌*◌, ◌/◌, ◌%◌, Bool, true, false, cond, ◌&&◌, ℤ, pos, negsuc, ltb, eqb, Option, Some, None}
+use Rattle.board.specs.declared.Position.{Position}
 
 abbrev pub as_one : Bool → ℕ
 as_one true = 1
@@ -26,34 +23,37 @@ abbrev pub total : (ℕ → ℕ → Bool) → ℕ → ℕ → ℕ
 total t w h = count_passing (by_rank t w) (h * w)
 
 -- the number of a place: none off the grid or if the test fails
-abbrev pub number_if : Bool → ℕ → Numbered
-number_if true n = numbered.Id n
-number_if false n = numbered.Absent
+abbrev pub number_if : Bool → ℕ → Option ℕ
+number_if true n = Some n
+number_if false n = None
 
-unfoldable pub number_at : (ℕ → ℕ → Bool) → ℕ → ℕ → ℕ → ℕ → Numbered
+unfoldable pub number_at : (ℕ → ℕ → Bool) → ℕ → ℕ → ℕ → ℕ → Option ℕ
 unfolding count_passing
 number_at t w h i j = number_if (ltb i w && (ltb j h && t i j)) (count_before t w i j)
 
 -- the same at any two integers
-unfoldable pub number_atℤ : (ℕ → ℕ → Bool) → ℕ → ℕ → ℤ → ℤ → Numbered
+unfoldable pub number_atℤ : (ℕ → ℕ → Bool) → ℕ → ℕ → ℤ → ℤ → Option ℕ
 number_atℤ t w h (pos i) (pos j) = number_at t w h i j
-number_atℤ t w h (pos i) (negsuc j) = numbered.Absent
-number_atℤ t w h (negsuc i) j = numbered.Absent
+number_atℤ t w h (pos i) (negsuc j) = None
+number_atℤ t w h (negsuc i) j = None
 
 -- a coordinate as a place from 0 to n, where n means off the grid
 unfoldable pub clipped : ℕ → ℤ → ℕ
 clipped n (pos k) = cond (ltb k n) k n
 clipped n (negsuc k) = n
 
+abbrev pub position : ℕ → ℕ → Position
+position i j = record { i = i; j = j }
+
 -- the place with number m: the one among the first n ranks that passes with m before it
-abbrev pub located_if : Bool → ℕ → ℕ → Located → Located
-located_if true w k other = located.At (k % w) (k / w)
+abbrev pub located_if : Bool → ℕ → ℕ → Option Position → Option Position
+located_if true w k other = Some (position (k % w) (k / w))
 located_if false w k other = other
 
-unfoldable pub search : (ℕ → ℕ → Bool) → ℕ → ℕ → ℕ → Located
+unfoldable pub search : (ℕ → ℕ → Bool) → ℕ → ℕ → ℕ → Option Position
 unfolding count_passing
-search t w m zero = located.Absent
+search t w m zero = None
 search t w m (suc k) = located_if (by_rank t w k && eqb (count_passing (by_rank t w) k) m) w k (search t w m k)
 
-abbrev pub place_numbered : (ℕ → ℕ → Bool) → ℕ → ℕ → ℕ → Located
+abbrev pub place_numbered : (ℕ → ℕ → Bool) → ℕ → ℕ → ℕ → Option Position
 place_numbered t w h m = search t w m (h * w)

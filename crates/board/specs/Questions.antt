@@ -1,5 +1,5 @@
 -- Document 01, "The questions asked": the board's questions, 1 to 8 in order, then 22 of document 02. The first that fails is the result.
-use Rattle.std.specs.Prelude.{ℕ, ◌*◌, ◌^◌, Bool, true, false, not, ◌&&◌, List, [], ◌∷◌, leb, ltb, length, Float}
+use Rattle.std.specs.Prelude.{ℕ, ◌*◌, ◌^◌, Bool, true, false, not, ◌&&◌, List, [], ◌∷◌, leb, ltb, length, Float, Result, Ok, Err}
 use Rattle.std.proofs.Math.Option.{Option, none, some}
 use Rattle.std.specs.Float.{binary32}
 use Rattle.std.specs.Float.Ieee.{of_bits, lt, le}
@@ -10,8 +10,6 @@ use Rattle.refusal.specs.Questions.{ask}
 use Rattle.alike.specs.Alike.{two_alike}
 use Rattle.board.specs.declared.CharucoBoardSpec.{CharucoBoardSpec}
 use Rattle.board.specs.declared.Board.{Board}
-use Rattle.board.specs.declared.NewBoard.{NewBoard}
-use Rattle.board.specs.declared.NewBoard.TheVariants as new
 use Rattle.board.specs.Layout.{marker_total}
 
 -- Are rows and cols at least 2?
@@ -78,18 +76,18 @@ asked_of_board s codes rest =
     rest))
 
 -- the board, unless a question fails
-abbrev pub made_unless : Option Refusal → CharucoBoardSpec → NewBoard
-made_unless none s = new.Made (board_of s)
-made_unless (some refused) s = new.Refused refused
+abbrev pub made_unless : Option Refusal → CharucoBoardSpec → Result Board Refusal
+made_unless none s = Ok (board_of s)
+made_unless (some refused) s = Err refused
 
-abbrev pub sized_board : CharucoBoardSpec → ℕ → NewBoard
+abbrev pub sized_board : CharucoBoardSpec → ℕ → Result Board Refusal
 sized_board s count = made_unless (asked_of_size s count none) s
 
 -- a board that passed 1 to 7, by the results of 8 and 22
-abbrev pub judged_by : Bool → Bool → Board → NewBoard
-judged_by false apart b = new.Refused refusal.CodeOutOfRange
-judged_by true false b = new.Refused refusal.CodesAlike
-judged_by true true b = new.Made b
+abbrev pub judged_by : Bool → Bool → Board → Result Board Refusal
+judged_by false apart b = Err refusal.CodeOutOfRange
+judged_by true false b = Err refusal.CodesAlike
+judged_by true true b = Ok b
 
-abbrev pub new_board : CharucoBoardSpec → List ℕ → NewBoard
+abbrev pub new_board : CharucoBoardSpec → List ℕ → Result Board Refusal
 new_board s codes = made_unless (asked_of_board s codes none) s

@@ -6,7 +6,7 @@ ghost use Rattle.std.specs.Float.Ieee.{mul, of_int};
 ghost use Rattle.board.specs.Numbering.{clipped, number_at};
 ghost use Rattle.board.specs.Layout.{holds_marker, inner, marker_count, square_of, corner_count, corner_place, object_point, around as around_of, four_corners};
 
-use super::{Located, Numbered, ObjectPoint, Surrounding};
+use super::{ObjectPoint, Position, Surrounding};
 
 // A coordinate off the board, on either side, becomes `limit`.
 pub fn clip(x: i32, limit: u8) -> u32
@@ -45,42 +45,42 @@ pub fn marker_count(parity: u8, rows: u8, cols: u8) -> u32
     ((rows as u32) * (cols as u32) + (1 - parity as u32)) / 2
 }
 
-pub fn marker_id(parity: u8, rows: u8, cols: u8, i: u32, j: u32) -> Numbered
+pub fn marker_id(parity: u8, rows: u8, cols: u8, i: u32, j: u32) -> Option<u32>
     requires { parity < 2 }
     ensures { result ≡ number_at (holds_marker parity) cols rows i j }
 {
     let x = i as usize;
     let y = j as usize;
     if cols as usize <= x {
-        return Numbered::Absent;
+        return None;
     }
     if rows as usize <= y {
-        return Numbered::Absent;
+        return None;
     }
     if !holds_marker(parity, x, y) {
-        return Numbered::Absent;
+        return None;
     }
-    Numbered::Id(id_on(rows, cols, x, y) as u32)
+    Some(id_on(rows, cols, x, y) as u32)
 }
 
-pub fn marker_square(parity: u8, rows: u8, cols: u8, id: u32) -> Located
+pub fn marker_square(parity: u8, rows: u8, cols: u8, id: u32) -> Option<Position>
     requires { parity < 2 }
     ensures { result ≡ square_of parity rows cols id }
 {
     if marker_count(parity, rows, cols) <= id {
-        return Located::Absent;
+        return None;
     }
     let width = cols as u32;
     let k = 2 * id;
     let i = k % width;
     let j = k / width;
     if holds_marker(parity, i as usize, j as usize) {
-        return Located::At { i, j };
+        return Some(Position { i, j });
     }
-    Located::At {
+    Some(Position {
         i: (k + 1) % width,
         j: (k + 1) / width,
-    }
+    })
 }
 
 pub fn corner_count(rows: u8, cols: u8) -> u32
@@ -95,36 +95,36 @@ pub fn corner_count(rows: u8, cols: u8) -> u32
     (rows as u32 - 1) * (cols as u32 - 1)
 }
 
-pub fn corner_id(rows: u8, cols: u8, i: u32, j: u32) -> Numbered
+pub fn corner_id(rows: u8, cols: u8, i: u32, j: u32) -> Option<u32>
     ensures { result ≡ number_at inner cols rows i j }
 {
     let width = cols as u32;
     if width <= i {
-        return Numbered::Absent;
+        return None;
     }
     if rows as u32 <= j {
-        return Numbered::Absent;
+        return None;
     }
     if i < 1 {
-        return Numbered::Absent;
+        return None;
     }
     if j < 1 {
-        return Numbered::Absent;
+        return None;
     }
-    Numbered::Id((j - 1) * (width - 1) + (i - 1))
+    Some((j - 1) * (width - 1) + (i - 1))
 }
 
-pub fn corner_place(rows: u8, cols: u8, id: u32) -> Located
+pub fn corner_place(rows: u8, cols: u8, id: u32) -> Option<Position>
     ensures { result ≡ corner_place rows cols id }
 {
     if corner_count(rows, cols) <= id {
-        return Located::Absent;
+        return None;
     }
     let stride = cols as u32 - 1;
-    Located::At {
+    Some(Position {
         i: id % stride + 1,
         j: id / stride + 1,
-    }
+    })
 }
 
 // `i` squares of a size. Integers up to 2²⁴ are exact in f32.
@@ -135,54 +135,50 @@ fn squares(i: u32, size: f32) -> f32
     i as f32 * size
 }
 
-pub fn object_point(rows: u8, cols: u8, size: f32, id: u32) -> ObjectPoint
+pub fn object_point(rows: u8, cols: u8, size: f32, id: u32) -> Option<ObjectPoint>
     ensures { result ≡ object_point rows cols size id }
 {
-    let place = corner_place(rows, cols, id);
-    match place {
-        Located::At { i, j } => ObjectPoint::At {
-            x: squares(i, size),
-            y: squares(j, size),
-        },
-        Located::Absent => ObjectPoint::Absent,
-    }
+    let place = corner_place(rows, cols, id)?;
+    Some(ObjectPoint {
+        x: squares(place.i, size),
+        y: squares(place.j, size),
+    })
 }
 
-// The four corners of square (i, j), if all are inner.
-fn around(rows: u8, cols: u8, i: u32, j: u32) -> Surrounding
-    requires { (i < cols) × (j < rows) }
-    ensures { result ≡ around_of rows cols (Located.At i j) }
+// The four corners of a square, if all are inner.
+fn around(rows: u8, cols: u8, place: Position) -> Option<Surrounding>
+    requires { (place.i < cols) × (place.j < rows) }
+    ensures { result ≡ around_of rows cols (Some place) }
 {
+    let i = place.i;
+    let j = place.j;
     let width = cols as u32;
     if i < 1 {
-        return Surrounding::Absent;
+        return None;
     }
     if j < 1 {
-        return Surrounding::Absent;
+        return None;
     }
     if width <= i + 1 {
-        return Surrounding::Absent;
+        return None;
     }
     if rows as u32 <= j + 1 {
-        return Surrounding::Absent;
+        return None;
     }
     let stride = width - 1;
     let top_left = (j - 1) * stride + (i - 1);
-    Surrounding::Corners {
+    Some(Surrounding {
         top_left,
         top_right: top_left + 1,
         bottom_right: top_left + stride + 1,
         bottom_left: top_left + stride,
-    }
+    })
 }
 
-pub fn surrounding(parity: u8, rows: u8, cols: u8, id: u32) -> Surrounding
+pub fn surrounding(parity: u8, rows: u8, cols: u8, id: u32) -> Option<Surrounding>
     requires { parity < 2 }
     ensures { result ≡ four_corners parity rows cols id }
 {
-    let place = marker_square(parity, rows, cols, id);
-    match place {
-        Located::At { i, j } => around(rows, cols, i, j),
-        Located::Absent => Surrounding::Absent,
-    }
+    let place = marker_square(parity, rows, cols, id)?;
+    around(rows, cols, place)
 }

@@ -37,87 +37,67 @@ pub struct Board {
     pub marker_size_rel: f32,
 }
 
+// Column and row of a square or of a board corner.
 #[derive(Clone, Copy)]
-pub enum NewBoard {
-    Made(Board),
-    Refused(Refusal),
+pub struct Position {
+    pub i: u32,
+    pub j: u32,
 }
 
-// The id of a marker or of a corner.
+// A point of the board's plane.
 #[derive(Clone, Copy)]
-pub enum Numbered {
-    Id(u32),
-    Absent,
-}
-
-// A square or a board corner.
-#[derive(Clone, Copy)]
-pub enum Located {
-    At { i: u32, j: u32 },
-    Absent,
-}
-
-#[derive(Clone, Copy)]
-pub enum ObjectPoint {
-    At { x: f32, y: f32 },
-    Absent,
+pub struct ObjectPoint {
+    pub x: f32,
+    pub y: f32,
 }
 
 // The ids of the four inner corners around a marker.
 #[derive(Clone, Copy)]
-pub enum Surrounding {
-    Corners {
-        top_left: u32,
-        top_right: u32,
-        bottom_right: u32,
-        bottom_left: u32,
-    },
-    Absent,
+pub struct Surrounding {
+    pub top_left: u32,
+    pub top_right: u32,
+    pub bottom_right: u32,
+    pub bottom_left: u32,
 }
 
 impl Board {
     // The questions 1 to 7, which need only the number of codes.
-    pub fn sized(spec: CharucoBoardSpec, count: usize) -> NewBoard
+    pub fn sized(spec: CharucoBoardSpec, count: usize) -> Result<Board, Refusal>
         ensures { result ≡ sized_board spec count }
     {
         if !questions::size(spec.rows, spec.cols) {
-            return NewBoard::Refused(Refusal::InvalidSize);
+            return Err(Refusal::InvalidSize);
         }
         if !questions::cell_size(spec.cell_size) {
-            return NewBoard::Refused(Refusal::InvalidCellSize);
+            return Err(Refusal::InvalidCellSize);
         }
         if !questions::marker_size_rel(spec.marker_size_rel) {
-            return NewBoard::Refused(Refusal::InvalidMarkerSizeRel);
+            return Err(Refusal::InvalidMarkerSizeRel);
         }
         if spec.border_bits < 1 {
-            return NewBoard::Refused(Refusal::InvalidBorderBits);
+            return Err(Refusal::InvalidBorderBits);
         }
         if count == 0 {
-            return NewBoard::Refused(Refusal::EmptyDictionary);
+            return Err(Refusal::EmptyDictionary);
         }
         if !questions::range(spec, count) {
-            return NewBoard::Refused(Refusal::BoardOutOfRange);
+            return Err(Refusal::BoardOutOfRange);
         }
         let board = questions::board_of(spec);
         let needed = board.marker_count();
         let available = count as u32;
         if available < needed {
-            return NewBoard::Refused(Refusal::NotEnoughDictionaryCodes { needed, available });
+            return Err(Refusal::NotEnoughDictionaryCodes { needed, available });
         }
-        NewBoard::Made(board)
+        Ok(board)
     }
 
     // A board from its specification and codes, or the first question that fails.
-    pub fn new(spec: CharucoBoardSpec, codes: &[u64]) -> NewBoard
+    pub fn new(spec: CharucoBoardSpec, codes: &[u64]) -> Result<Board, Refusal>
         ensures { result ≡ new_board spec codes.now }
     {
-        let sized = Board::sized(spec, codes.len());
-        match sized {
-            NewBoard::Made(board) => {
-                questions::judged(board, questions::codes(board.bits, codes), codes)
-            }
-            NewBoard::Refused(refusal) => NewBoard::Refused(refusal),
-        }
+        let board = Board::sized(spec, codes.len())?;
+        questions::judged(board, questions::codes(board.bits, codes), codes)
     }
 
     // The parity of i + j of the squares that have markers.
@@ -144,7 +124,7 @@ impl Board {
     }
 
     // The marker on square (i, j).
-    pub fn marker_id_at(self, i: i32, j: i32) -> Numbered
+    pub fn marker_id_at(self, i: i32, j: i32) -> Option<u32>
         ensures { result ≡ marker_on self i j }
     {
         layout::marker_id(
@@ -157,14 +137,14 @@ impl Board {
     }
 
     // The square of a marker.
-    pub fn marker_position(self, id: u32) -> Located
+    pub fn marker_position(self, id: u32) -> Option<Position>
         ensures { result ≡ marker_square self id }
     {
         layout::marker_square(self.parity(), self.rows, self.cols, id)
     }
 
     // The inner corner at board corner (i, j).
-    pub fn charuco_corner_id_from_board_corner(self, i: i32, j: i32) -> Numbered
+    pub fn charuco_corner_id_from_board_corner(self, i: i32, j: i32) -> Option<u32>
         ensures { result ≡ corner_at self.rows self.cols i j }
     {
         layout::corner_id(
@@ -182,21 +162,21 @@ impl Board {
     }
 
     // The board corner of an inner corner's id (`grid_from_charuco_id` of upstream's corner_mapping.rs).
-    pub fn board_corner(self, id: u32) -> Located
+    pub fn board_corner(self, id: u32) -> Option<Position>
         ensures { result ≡ corner_place self.rows self.cols id }
     {
         layout::corner_place(self.rows, self.cols, id)
     }
 
     // The point of an inner corner in the board's plane.
-    pub fn charuco_object_xy(self, id: u32) -> ObjectPoint
+    pub fn charuco_object_xy(self, id: u32) -> Option<ObjectPoint>
         ensures { result ≡ object_point self.rows self.cols self.cell_size id }
     {
         layout::object_point(self.rows, self.cols, self.cell_size, id)
     }
 
     // The four inner corners around a marker: none for an unknown marker or one on the rim.
-    pub fn marker_surrounding_charuco_corners(self, id: u32) -> Surrounding
+    pub fn marker_surrounding_charuco_corners(self, id: u32) -> Option<Surrounding>
         ensures { result ≡ surrounding_corners self id }
     {
         layout::surrounding(self.parity(), self.rows, self.cols, id)

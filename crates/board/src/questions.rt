@@ -4,7 +4,7 @@ ghost use Rattle.board.specs.Questions.{size_answer, cell_size_answer, marker_si
 ghost use Rattle.alike.specs.Alike.{two_alike};
 ghost use Rattle.board.specs.Layout.{marker_total};
 
-use super::{Board, CharucoBoardSpec, NewBoard};
+use super::{Board, CharucoBoardSpec};
 use refusal::Refusal;
 
 pub fn size(rows: u32, cols: u32) -> bool
@@ -72,17 +72,17 @@ pub fn codes(bits: u8, codes: &[u64]) -> bool
 
 // The questions 8 and 22 of a board that passed those before: `in_range` is the result of 8, and 22 checks the codes, those of the markers
 // being first.
-pub fn judged(board: Board, in_range: bool, codes: &[u64]) -> NewBoard
+pub fn judged(board: Board, in_range: bool, codes: &[u64]) -> Result<Board, Refusal>
     requires { (1 ≤ board.bits) × (board.bits ≤ 8) }
     ensures { result ≡ judged_by in_range (not (two_alike board.bits codes.now (min (marker_total board) 512))) board }
 {
     if !in_range {
-        return NewBoard::Refused(Refusal::CodeOutOfRange);
+        return Err(Refusal::CodeOutOfRange);
     }
     if !alike::none_alike(board.bits, codes, board.marker_count() as usize) {
-        return NewBoard::Refused(Refusal::CodesAlike);
+        return Err(Refusal::CodesAlike);
     }
-    NewBoard::Made(board)
+    Ok(board)
 }
 
 pub fn board_of(spec: CharucoBoardSpec) -> Board

@@ -2,7 +2,7 @@
 use mathlib.Core.Path.{◌≡◌, refl, subst, ◌∙◌}
 use mathlib.Core.Bool.{Bool, true, false, cond}
 use mathlib.Core.List.{List}
-use mathlib.Core.Option.{Option, none, some}
+use mathlib.Core.Option.{Option as Maybe, none, some}
 use Prim.Native.Nat.{ℕ, ◌<◌}
 use lib.ListN.{length}
 use borrow.Author.Tests.{ltb-true}
@@ -12,8 +12,6 @@ use Rattle.refusal.proofs.Questions.{answered, both-passed}
 use Rattle.shot_record.specs.Shots.{Shot, shot, whole_record, parse}
 use Rattle.shot_record.proofs.Reading.{Small}
 use Rattle.ranking.specs.declared.Hypothesis.{Hypothesis}
-use Rattle.ranking.specs.declared.Choice.{Choice}
-use Rattle.ranking.specs.declared.Choice.TheVariants as choice
 use Rattle.hypothesis.specs.Search.{best}
 use Rattle.hypothesis.specs.Inputs.{PassedShot}
 use Rattle.hypothesis.proofs.Contributing.{count_rule}
@@ -22,8 +20,6 @@ use Rattle.hypothesis.proofs.Placements.{count_is}
 use Rattle.hypothesis.proofs.Best.{best_placed, runner_up-placed}
 use Rattle.emit.specs.Markers.{markers}
 use Rattle.emit.proofs.Laws.{emitted-number}
-use Rattle.board_match.specs.declared.Matched.{Matched}
-use Rattle.board_match.specs.declared.Matched.TheVariants as matched
 use Rattle.board_match.specs.Questions.{asked_of_shot, asked_before15}
 use Rattle.board_match.specs.Match.{markers_with, markers_of, fits_answer, margin_answer, markers_answer, asked_from15, refused_by}
 use Rattle.board_match.specs.Match.{match_of, answer_with, matched_shot, match_answer}
@@ -31,9 +27,11 @@ use Rattle.board_match.specs.Accuracy.{PlacedAccurately, Accuracy}
 use Rattle.board_match.proofs.Order.{shot_goes_on}
 use Rattle.board_match.proofs.Sound.{sound}
 use Rattle.board_match.proofs.Passing.{passes}
+use Rattle.std.specs.Prelude.{Option, Result, Some, None, Ok, Err}
+use Rattle.board_match.specs.declared.Match.{Match}
 
 -- a shot whose best placement emits a marker
-module _ (s : Shot) (p : PassedShot s) (b : Hypothesis) (is : best s ≡ choice.Placement b) (some-marker : 0 < length (markers s b.alignment)) where
+module _ (s : Shot) (p : PassedShot s) (b : Hypothesis) (is : best s ≡ Some b) (some-marker : 0 < length (markers s b.alignment)) where
   pub accurately : PlacedAccurately s (match_of s b)
   accurately =
       let q = best_placed s p b is in
@@ -65,22 +63,22 @@ pub record PlacedAt (bytes lent : List ℕ) (b : Hypothesis) : Type 0 where
   pub passes_all : refused_by (shot bytes) (length lent) ≡ none
   pub asked : asked_before15 (shot bytes) (length lent) ≡ none
   pub passed : PassedShot (shot bytes)
-  pub is : best (shot bytes) ≡ choice.Placement b
+  pub is : best (shot bytes) ≡ Some b
   pub some-marker : 0 < length (markers (shot bytes) b.alignment)
 
 -- for every result, from errors and matches
-pub of_answer : (bytes lent : List ℕ) → Small bytes → (P : Matched → Type 0) → ((r : Refusal) → P (matched.Refused r))
-    → ((b : Hypothesis) → PlacedAt bytes lent b → P (matched.Placed (match_of (shot bytes) b))) → P (match_answer bytes lent)
+pub of_answer : (bytes lent : List ℕ) → Small bytes → (P : Result Match Refusal → Type 0) → ((r : Refusal) → P (Err r))
+    → ((b : Hypothesis) → PlacedAt bytes lent b → P (Ok (match_of (shot bytes) b))) → P (match_answer bytes lent)
 unfolding parse
 of_answer bytes lent small P refused placed = by_record (whole_record bytes) refl
   where
     s : Shot
     s = shot bytes
 
-    by_refusal : whole_record bytes ≡ true → (o : Option Refusal) → refused_by s (length lent) ≡ o → (c : Choice) → best s ≡ c → P (answer_with o s c)
+    by_refusal : whole_record bytes ≡ true → (o : Maybe Refusal) → refused_by s (length lent) ≡ o → (c : Option Hypothesis) → best s ≡ c → P (answer_with o s c)
     by_refusal w (some r) e c is = refused r
-    by_refusal w none e choice.Absent is = refused refusal.TranslationWindow
-    by_refusal w none e (choice.Placement b) is =
+    by_refusal w none e None is = refused refusal.TranslationWindow
+    by_refusal w none e (Some b) is =
         let q = both-passed (asked_of_shot s (length lent)) (shot_goes_on s (length lent)) (asked_from15 s) e in
         placed b (record {
           whole = w;
@@ -88,7 +86,7 @@ of_answer bytes lent small P refused placed = by_record (whole_record bytes) ref
           asked = q.0;
           passed = passes bytes small w (length lent) (sound s (length lent) q.0);
           is = is;
-          some-marker = subst (λ (c : Choice). 0 < length (markers_with s c)) is (some-emitted s q.1);
+          some-marker = subst (λ (c : Option Hypothesis). 0 < length (markers_with s c)) is (some-emitted s q.1);
         })
 
     by_record : (w : Bool) → whole_record bytes ≡ w → P (matched_shot (cond w (some s) none) (length lent))

@@ -20,8 +20,6 @@ use Rattle.shot_record.proofs.Whole.{passed, parse-whole}
 use Rattle.hypothesis.specs.Search.{best}
 use Rattle.hypothesis.specs.ScoreList.{score_count, score_list}
 use Rattle.emit.specs.Markers.{marker_words}
-use Rattle.board_match.specs.declared.Matched.{Matched}
-use Rattle.board_match.specs.declared.Matched.TheVariants as matched
 use Rattle.board_match.specs.Questions.{asked_of_shot, asked_before15, after_record}
 use Rattle.board_match.specs.Match.{markers_of, asked_from15, refused_by, answer_with, matched_shot, left_list, Gives}
 use Rattle.board_match.specs.Scores.{asked_from24, refused_with_scores, scored_shot, scored_answer, scored_left, filled_left}
@@ -29,6 +27,8 @@ use Rattle.board_match.specs.Scores.{GivesScored, SameMatch, EnginesAgree, Engin
 use Rattle.board_match.specs.Accuracy.{Accuracy}
 use Rattle.board_match.proofs.Order.{shot_goes_on}
 use Rattle.board_match.proofs.Accurately.{match_accurate}
+use Rattle.std.specs.Prelude.{Result, Err}
+use Rattle.board_match.specs.declared.Match.{Match}
 
 -- ---- questions of a shot
 module _ (s : Shot) (words places : ℕ) where
@@ -81,7 +81,7 @@ module _ (bytes : List ℕ) (scores : List Float) (lent : List ℕ) where
   roomy_same none h = (refl, refl)
   roomy_same (some s) h = by_refusal s (same_refusal s (length lent) places (h s refl))
 
-  short_or_same : (o : Option Shot) → (scored_shot o (length lent) places ≡ matched.Refused refusal.ScoreListTooShort) ⊎ Same o
+  short_or_same : (o : Option Shot) → (scored_shot o (length lent) places ≡ Err refusal.ScoreListTooShort) ⊎ Same o
   short_or_same none = inr (refl, refl)
   short_or_same (some s) = elim (lt_or_le places (score_count s)) [
     | inl h ↦ elim (refused-either s (length lent) places h) [
@@ -111,12 +111,12 @@ scored_accurate bytes scores lent small = elim (engines_agree bytes scores lent)
 -- ---- the result, by cases of the program
 module _ (bytes : List ℕ) (scores : List Float) (lent : List ℕ) where
   -- an error of the questions before 24
-  pub refused_scored : (r : Refusal) → after_record (parse bytes) (length lent) ≡ some r → GivesScored bytes scores lent (matched.Refused r) scores lent
+  pub refused_scored : (r : Refusal) → after_record (parse bytes) (length lent) ≡ some r → GivesScored bytes scores lent (Err r) scores lent
   refused_scored r e = record { answers = (go (parse bytes) e).0; leaves = (go (parse bytes) e).1; fills = (go (parse bytes) e).2 }
     where
       go : (o : Option Shot) → after_record o (length lent) ≡ some r
-          → (matched.Refused r ≡ scored_shot o (length lent) (length scores)) × (lent ≡ scored_left o (length scores) lent) × (scores ≡ filled_left o (length lent) scores)
-      go none q = (ap matched.Refused (sym (some-injective refusal.InvalidRecord r q)), refl, refl)
+          → (Err r ≡ scored_shot o (length lent) (length scores)) × (lent ≡ scored_left o (length scores) lent) × (scores ≡ filled_left o (length lent) scores)
+      go none q = (ap Err (sym (some-injective refusal.InvalidRecord r q)), refl, refl)
       go (some s) q =
           let stands = earlier s (length lent) (length scores) r q in (
             sym (ap (λ (x : Option Refusal). answer_with x s (best s)) (stands (asked_from24 s (length scores) (asked_from15 s)))),
@@ -132,7 +132,7 @@ module _ (bytes : List ℕ) (scores : List Float) (lent : List ℕ) where
     is-shot = parse-whole bytes (passed bytes w)
 
     -- 24
-    pub too_short : length scores < score_count s → GivesScored bytes scores lent (matched.Refused refusal.ScoreListTooShort) scores lent
+    pub too_short : length scores < score_count s → GivesScored bytes scores lent (Err refusal.ScoreListTooShort) scores lent
     too_short h =
         let fails : (rest : Option Refusal) → asked_of_shot s (length lent) (asked_from24 s (length scores) rest) ≡ some refusal.ScoreListTooShort =
         λ rest. then_asked s (length lent) (length scores) asked (asked_from24 s (length scores) rest) ∙ short s (length lent) (length scores) h rest in
@@ -146,7 +146,7 @@ module _ (bytes : List ℕ) (scores : List Float) (lent : List ℕ) where
         }
 
     -- filled and searched
-    pub searched : score_count s ≤ length scores → (filled : List Float) → filled ≡ in_front (score_list s) scores → (r : Matched) (exit : List ℕ)
+    pub searched : score_count s ≤ length scores → (filled : List Float) → filled ≡ in_front (score_list s) scores → (r : Result Match Refusal) (exit : List ℕ)
         → Gives bytes lent r exit → GivesScored bytes scores lent r filled exit
     searched h filled e r exit g =
         let agree : SameMatch bytes scores lent = (engines_agree bytes scores lent).with_room

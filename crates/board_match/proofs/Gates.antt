@@ -16,24 +16,21 @@ use Rattle.score_matrix.specs.declared.BoardMatchConfig.{BoardMatchConfig}
 use Rattle.shot_record.specs.Shots.{Shot, shot, whole_record}
 use Rattle.shot_record.specs.Answers.{config_of}
 use Rattle.ranking.specs.declared.Hypothesis.{Hypothesis}
-use Rattle.ranking.specs.declared.Choice.{Choice}
-use Rattle.ranking.specs.declared.Choice.TheVariants as choice
 use Rattle.hypothesis.specs.declared.Selection.{Selection}
-use Rattle.hypothesis.specs.declared.Enumerated.TheVariants as enumerated
 use Rattle.hypothesis.specs.Search.{enumerate}
 use Rattle.hypothesis.specs.Placements.{cell_total}
 use Rattle.hypothesis.specs.Inputs.{PassedShot}
 use Rattle.hypothesis.proofs.Best.{best_placed, Chosen, chosen, some_placement}
 use Rattle.emit.specs.Markers.{Marker, markers, marker_words}
 use Rattle.board_match.specs.declared.Match.{Match}
-use Rattle.board_match.specs.declared.Matched.TheVariants as matched
 use Rattle.board_match.specs.Questions.{asked_before15}
 use Rattle.board_match.specs.Match.{margin_with, margin_passes, match_of, Gives}
 use Rattle.board_match.proofs.Sound.{sound}
 use Rattle.board_match.proofs.Placing.{narrow, no_markers, placed}
+use Rattle.std.specs.Prelude.{Option, Some, Ok, Err}
 
 -- ---- preconditions of emission: the best placement's translation is small, and there is room
-pub near-best : (bytes : List ℕ) → PassedShot (shot bytes) → (x : Selection) → enumerate (shot bytes) ≡ enumerated.Selected x
+pub near-best : (bytes : List ℕ) → PassedShot (shot bytes) → (x : Selection) → enumerate (shot bytes) ≡ Some x
     → NearAlignment x.best.alignment
 near-best bytes p x e =
     let b = (best_placed (shot bytes) p x.best (chosen (shot bytes) x e).best_is).small in (omega (arith, b.tx), omega (arith, b.ty))
@@ -42,7 +39,7 @@ pub room_for : (bytes lent : List ℕ) → asked_before15 (shot bytes) (length l
 room_for bytes lent asked = (sound (shot bytes) (length lent) asked).room
 
 -- ---- the results
-match_parts : (b : Hypothesis) {r r' : Choice} {m m' : Float} {p p' : ℕ} {c c' : GridAlignment} {k k' : ℕ} → r ≡ r' → m ≡ m' → p ≡ p' → c ≡ c' → k ≡ k'
+match_parts : (b : Hypothesis) {r r' : (Option Hypothesis)} {m m' : Float} {p p' : ℕ} {c c' : GridAlignment} {k k' : ℕ} → r ≡ r' → m ≡ m' → p ≡ p' → c ≡ c' → k ≡ k'
     → ◌≡◌ {A = Match} (record { best = b; runner_up = r; margin = m; placements = p; corners = c; markers = k })
     (record { best = b; runner_up = r'; margin = m'; placements = p'; corners = c'; markers = k' })
 match_parts b e f g h i = cc
@@ -53,7 +50,7 @@ no_words [] lent e = ap (λ (l : List ℕ). l ++ lent) (take-nil (length lent))
 no_words (m ∷ ms) lent e = absurd (omega (arith, e))
 
 module _ (bytes lent : List ℕ) (w : whole_record bytes ≡ true) (asked : asked_before15 (shot bytes) (length lent) ≡ none)
-    (x : Selection) (e : enumerate (shot bytes) ≡ enumerated.Selected x)
+    (x : Selection) (e : enumerate (shot bytes) ≡ Some x)
     (config : BoardMatchConfig) (config_is : config ≡ config_of (shot bytes)) where
   abbrev s : Shot
   s = shot bytes
@@ -61,36 +58,36 @@ module _ (bytes lent : List ℕ) (w : whole_record bytes ≡ true) (asked : aske
   here : Chosen s x
   here = chosen s x e
 
-  margin-is : x.margin ≡ margin_with s (choice.Placement x.best)
+  margin-is : x.margin ≡ margin_with s (Some x.best)
   margin-is = ap (λ (y : Selection). y.margin) here.is
 
-  test_is : margin_passes config x.margin ≡ margin_passes (config_of s) (margin_with s (choice.Placement x.best))
+  test_is : margin_passes config x.margin ≡ margin_passes (config_of s) (margin_with s (Some x.best))
   test_is = ap₂ margin_passes config_is margin-is
 
-  pub too_narrow : margin_passes config x.margin ≡ false → Gives bytes lent (matched.Refused (refusal.Margin x.margin)) lent
+  pub too_narrow : margin_passes config x.margin ≡ false → Gives bytes lent (Err (refusal.Margin x.margin)) lent
   too_narrow t =
-      subst (λ (m : Float). Gives bytes lent (matched.Refused (refusal.Margin m)) lent) (sym margin-is)
+      subst (λ (m : Float). Gives bytes lent (Err (refusal.Margin m)) lent) (sym margin-is)
       (narrow bytes lent w asked x.best here.best_is (some_placement s x e) (sym test_is ∙ t))
 
   module _ (wide : margin_passes config x.margin ≡ true) (n : ℕ) (exit : List ℕ) (count : n ≡ length (markers s x.best.alignment))
       (list : exit ≡ in_front (flat_map marker_words (markers s x.best.alignment)) lent) where
-    enough : margin_passes (config_of s) (margin_with s (choice.Placement x.best)) ≡ true
+    enough : margin_passes (config_of s) (margin_with s (Some x.best)) ≡ true
     enough = sym test_is ∙ wide
 
     nothing_written : length (markers s x.best.alignment) ≡ 0 → exit ≡ lent
     nothing_written z = list ∙ no_words (markers s x.best.alignment) lent z
 
-    pub none_emitted : n ≡ 0 → Gives bytes lent (matched.Refused refusal.NoMarkers) exit
+    pub none_emitted : n ≡ 0 → Gives bytes lent (Err refusal.NoMarkers) exit
     none_emitted z =
         let q : length (markers s x.best.alignment) ≡ 0 = sym count ∙ z in
-        subst (Gives bytes lent (matched.Refused refusal.NoMarkers)) (sym (nothing_written q))
+        subst (Gives bytes lent (Err refusal.NoMarkers)) (sym (nothing_written q))
         (no_markers bytes lent w asked x.best here.best_is (some_placement s x e) enough q)
 
-    pub emitted-some : (n ≡ 0 → ⊥) → (m : Match) → m ≡ match_of s x.best → Gives bytes lent (matched.Placed m) exit
+    pub emitted-some : (n ≡ 0 → ⊥) → (m : Match) → m ≡ match_of s x.best → Gives bytes lent (Ok m) exit
     emitted-some some m is =
         let h : 0 < length (markers s x.best.alignment) = subst (λ (k : ℕ). 0 < k) count (positive n some) in
         let g = placed bytes lent w asked x.best here.best_is (some_placement s x e) enough h in
-        record { answers = ap matched.Placed is ∙ g.answers; leaves = list ∙ g.leaves }
+        record { answers = ap Ok is ∙ g.answers; leaves = list ∙ g.leaves }
       where
         positive : (k : ℕ) → (k ≡ 0 → ⊥) → 0 < k
         positive k f = omega (arith, f)

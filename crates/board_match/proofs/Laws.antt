@@ -13,8 +13,6 @@ use Rattle.refusal.specs.Questions.{ask}
 use Rattle.refusal.proofs.Questions.{rest_asked}
 use Rattle.shot_record.specs.Shots.{Shot, shot}
 use Rattle.ranking.specs.declared.Hypothesis.{Hypothesis}
-use Rattle.ranking.specs.declared.Choice.{Choice}
-use Rattle.ranking.specs.declared.Choice.TheVariants as choice
 use Rattle.hypothesis.specs.Placements.{placements}
 use Rattle.hypothesis.specs.Search.{best}
 use Rattle.hypothesis.specs.Accuracy.{Checked}
@@ -22,8 +20,6 @@ use Rattle.hypothesis.specs.Inputs.{PassedShot}
 use Rattle.hypothesis.proofs.Best.{best_placed}
 use Rattle.hypothesis.proofs.Margins.{margin-is-number}
 use Rattle.board_match.specs.declared.Match.{Match}
-use Rattle.board_match.specs.declared.Matched.{Matched}
-use Rattle.board_match.specs.declared.Matched.TheVariants as matched
 use Rattle.board_match.specs.Questions.{asked_of_shot, asked_before15}
 use Rattle.board_match.specs.Match.{margin_with, margin_of, margin_answer, markers_answer, asked_from15, refused_by, match_of}
 use Rattle.board_match.specs.Accuracy.{GateRule}
@@ -32,14 +28,16 @@ use Rattle.board_match.proofs.Order.{shot_goes_on}
 use Rattle.board_match.proofs.Sound.{sound}
 use Rattle.board_match.proofs.Passing.{passes}
 use Rattle.board_match.proofs.Accurately.{of_answer}
+use Rattle.std.specs.Prelude.{Option, Result, Some, None, Ok}
+use Rattle.refusal.specs.declared.Refusal.{Refusal}
 
 number : (s : Shot) → Checked s → T (not (is_nan (margin_of s)))
 unfolding is_nan
 number s c = go (best s) refl
   where
-    go : (b : Choice) → best s ≡ b → T (not (is_nan (margin_with s b)))
-    go choice.Absent e = tt
-    go (choice.Placement b) e = margin-is-number s c b e
+    go : (b : Option Hypothesis) → best s ≡ b → T (not (is_nan (margin_with s b)))
+    go None e = tt
+    go (Some b) e = margin-is-number s c b e
 
 -- from question 16 on
 from_16 : (s : Shot) (words : ℕ) → asked_before15 s words ≡ none → 0 < length (placements s)
@@ -70,13 +68,13 @@ margin_gate bytes words small w asked fits =
     }
 
 -- ---- corners
-module _ (s : Shot) (p : PassedShot s) (b : Hypothesis) (is : best s ≡ choice.Placement b) where
-  aligned : (m : Match) → ◌≡◌ {A = Matched} (matched.Placed (match_of s b)) (matched.Placed m) → CornersAligned m
+module _ (s : Shot) (p : PassedShot s) (b : Hypothesis) (is : best s ≡ Some b) where
+  aligned : (m : Match) → ◌≡◌ {A = (Result Match Refusal)} (Ok (match_of s b)) (Ok m) → CornersAligned m
   aligned m e =
       let same : match_of s b ≡ m = cc in
       subst CornersAligned same (record { are = refl; small = (best_placed s p b is).small })
 
 pub match_corners : CornersRule
 match_corners bytes lent small m =
-    of_answer bytes lent small (λ a. a ≡ matched.Placed m → CornersAligned m) (λ r e. let z : ◌≡◌ {A = ℕ} 0 1 = cc in absurd (omega arith))
+    of_answer bytes lent small (λ a. a ≡ Ok m → CornersAligned m) (λ r e. let z : ◌≡◌ {A = ℕ} 0 1 = cc in absurd (omega arith))
     (λ b p. aligned (shot bytes) p.passed b p.is m)

@@ -7,8 +7,6 @@ use lib.ListN.{length, length-map}
 use Rattle.grid_alignment.proofs.Entries.{small-corners}
 use Rattle.shot_record.specs.Shots.{Shot, shot}
 use Rattle.ranking.specs.declared.Hypothesis.{Hypothesis}
-use Rattle.ranking.specs.declared.Choice.{Choice}
-use Rattle.ranking.specs.declared.Choice.TheVariants as choice
 use Rattle.ranking.specs.Ranking.{ranking_of}
 use Rattle.hypothesis.specs.Placements.{cell_total, with_turns_below, placements}
 use Rattle.hypothesis.specs.Evidence.{contributing_cells}
@@ -22,6 +20,7 @@ use Rattle.emit.proofs.Laws.{one_per_cell}
 use Rattle.board_match.specs.Match.{match_of}
 use Rattle.board_match.specs.Sizes.{SmallHypothesis, SmallRunnerUp, SmallMatch, SmallAnswer, SizesRule}
 use Rattle.board_match.proofs.Accurately.{of_answer}
+use Rattle.std.specs.Prelude.{Option, Some, None}
 
 module _ (s : Shot) (p : PassedShot s) where
   -- a placement of the shot, with its count
@@ -36,10 +35,10 @@ module _ (s : Shot) (p : PassedShot s) where
       let t = total-small s p.cols p.rows 4 (ranking_of (map (hypothesis s) (with_turns_below s 4))) refl in
       omega (arith, t, length-map (with_turns_below s 4) (hypothesis s))
 
-  module _ (b : Hypothesis) (is : best s ≡ choice.Placement b) where
-    small_next : (c : Choice) → runner_up s ≡ c → SmallRunnerUp (cell_total s) c
-    small_next choice.Absent e = tt
-    small_next (choice.Placement g) e = let r = runner_up-placed s p.checked b g is e in small-hypothesis g r.placed r.count_is
+  module _ (b : Hypothesis) (is : best s ≡ Some b) where
+    small_next : (c : Option Hypothesis) → runner_up s ≡ c → SmallRunnerUp (cell_total s) c
+    small_next None e = tt
+    small_next (Some g) e = let r = runner_up-placed s p.checked b g is e in small-hypothesis g r.placed r.count_is
 
     small_match : SmallMatch (cell_total s) (match_of s b)
     small_match =

@@ -1,24 +1,21 @@
 -- Demand 3 for a result of Match: for every placement of a placed shot, and for those in the result; likewise the counts of contributing cells
 -- (document 02, 2.5). And which margins pass question 16.
-use Rattle.std.specs.Prelude.{◌≡◌, List, true, false, not, ℕ, ◌<◌, T, length, get_or, Float}
+use Rattle.std.specs.Prelude.{◌≡◌, List, true, false, not, ℕ, ◌<◌, T, length, get_or, Float, Result, Some, Ok, Err}
 use Rattle.std.proofs.Math.Option.{none, some}
 use Rattle.std.specs.Float.Ieee.{lt, is_nan}
 use Rattle.refusal.specs.declared.Refusal.TheVariants as refusal
 use Rattle.grid_alignment.specs.declared.GridAlignment.{GridAlignment}
 use Rattle.shot_record.specs.Shots.{Shot, shot, whole_record}
-use Rattle.ranking.specs.declared.Evidence.TheVariants as evidence
 use Rattle.ranking.specs.declared.Hypothesis.{Hypothesis}
-use Rattle.ranking.specs.declared.Choice.TheVariants as choice
 use Rattle.hypothesis.specs.Placements.{placements}
 use Rattle.hypothesis.specs.Evidence.{contributing_cells, reported}
 use Rattle.hypothesis.specs.Search.{best}
 use Rattle.hypothesis.specs.Rules.{count_of, CountsCells}
 use Rattle.hypothesis.specs.Accuracy.{Placement, AccurateEvidence, RunsUp}
 use Rattle.board_match.specs.declared.Match.{Match}
-use Rattle.board_match.specs.declared.Matched.{Matched}
-use Rattle.board_match.specs.declared.Matched.TheVariants as matched
 use Rattle.board_match.specs.Questions.{asked_before15}
 use Rattle.board_match.specs.Match.{margin_of, minimum, refused_by}
+use Rattle.refusal.specs.declared.Refusal.{Refusal}
 
 pub record PlacedAccurately (s : Shot) (m : Match) : Type 0 where
   -- every placement: reported none exactly when exact none, finite and within the bound, and a true lead
@@ -26,20 +23,20 @@ pub record PlacedAccurately (s : Shot) (m : Match) : Type 0 where
   -- every alignment: the count of its contributing cells, and that its evidence is none exactly when that is 0
   pub counts : (p : GridAlignment) → CountsCells s p
   -- the best is that of the search: a placement, with its count and its reported evidence, which is a number
-  pub best_is : best s ≡ choice.Placement m.best
+  pub best_is : best s ≡ Some m.best
   pub best_placed : Placement s m.best.alignment
   pub best_reported : m.best.evidence ≡ reported s m.best.alignment
   pub best_count : m.best.contributing_cells ≡ contributing_cells s m.best.alignment
   pub number : Float
-  pub best_number : m.best.evidence ≡ evidence.Number number
+  pub best_number : m.best.evidence ≡ Some number
   -- the runner_up_is, where there is one
-  pub runner_up_is : (g : Hypothesis) → m.runner_up ≡ choice.Placement g → RunsUp s m.best g
+  pub runner_up_is : (g : Hypothesis) → m.runner_up ≡ Some g → RunsUp s m.best g
   -- the number of placements, by document 01's formula
   pub count : m.placements ≡ count_of s
 
-abbrev pub Accuracy : List ℕ → Matched → Type 0
-Accuracy bytes (matched.Refused refused) = Unit {0}
-Accuracy bytes (matched.Placed m) = PlacedAccurately (shot bytes) m
+abbrev pub Accuracy : List ℕ → Result Match Refusal → Type 0
+Accuracy bytes (Err refused) = Unit {0}
+Accuracy bytes (Ok m) = PlacedAccurately (shot bytes) m
 
 -- ---- question 16
 -- of a shot that passes the questions before it and has a placement

@@ -1,7 +1,7 @@
 -- Document 01, Match: the result for every record and every output array, and the array at exit.
-use Rattle.std.specs.Prelude.{ℕ, ◌≡◌, Bool, not, ltb, length, Float}
+use Rattle.std.specs.Prelude.{ℕ, ◌≡◌, Bool, not, ltb, length, Float, Option, Result, Some, None, Ok, Err}
 use mathlib.Core.List.{List, [], flat_map}
-use Rattle.std.proofs.Math.Option.{Option, none, some}
+use Rattle.std.proofs.Math.Option.{Option as Maybe, none, some}
 use Rattle.std.specs.Float.Ieee.{lt}
 use Rattle.floats.specs.Units.{nought}
 use Rattle.lent_list.specs.Front.{at_exit}
@@ -13,27 +13,23 @@ use Rattle.shot_record.specs.Shots.{Shot, parse}
 use Rattle.score_matrix.specs.declared.BoardMatchConfig.{BoardMatchConfig}
 use Rattle.shot_record.specs.Answers.{of_pattern, config_of}
 use Rattle.ranking.specs.declared.Hypothesis.{Hypothesis}
-use Rattle.ranking.specs.declared.Choice.{Choice}
-use Rattle.ranking.specs.declared.Choice.TheVariants as choice
 use Rattle.hypothesis.specs.Placements.{placements}
 use Rattle.hypothesis.specs.Search.{best, runner_up, selection}
 use Rattle.emit.specs.Markers.{Marker, markers, marker_words}
 use Rattle.board_match.specs.declared.Match.{Match}
-use Rattle.board_match.specs.declared.Matched.{Matched}
-use Rattle.board_match.specs.declared.Matched.TheVariants as matched
 use Rattle.board_match.specs.Questions.{asked_of_shot}
 
 -- the best placement's margin, and its emitted markers
-abbrev pub margin_with : Shot → Choice → Float
-margin_with s choice.Absent = nought
-margin_with s (choice.Placement b) = (selection s b).margin
+abbrev pub margin_with : Shot → Option Hypothesis → Float
+margin_with s None = nought
+margin_with s (Some b) = (selection s b).margin
 
 abbrev pub margin_of : Shot → Float
 margin_of s = margin_with s (best s)
 
-abbrev pub markers_with : Shot → Choice → List Marker
-markers_with s choice.Absent = []
-markers_with s (choice.Placement b) = markers s b.alignment
+abbrev pub markers_with : Shot → Option Hypothesis → List Marker
+markers_with s None = []
+markers_with s (Some b) = markers s b.alignment
 
 abbrev pub markers_of : Shot → List Marker
 markers_of s = markers_with s (best s)
@@ -56,7 +52,7 @@ margin_answer s = margin_passes (config_of s) (margin_of s)
 abbrev pub markers_answer : Shot → Bool
 markers_answer s = ltb 0 (length (markers_of s))
 
-unfoldable pub asked_from15 : Shot → Option Refusal
+unfoldable pub asked_from15 : Shot → Maybe Refusal
 asked_from15 s =
     ask (fits_answer s) refusal.TranslationWindow
     (ask (margin_answer s) (refusal.Margin (margin_of s))
@@ -64,7 +60,7 @@ asked_from15 s =
     none))
 
 -- the error of the first question that fails, if one does
-abbrev pub refused_by : Shot → ℕ → Option Refusal
+abbrev pub refused_by : Shot → ℕ → Maybe Refusal
 refused_by s marker_words = asked_of_shot s marker_words (asked_from15 s)
 
 -- a placed shot: best, runner_up_is, margin, number of placements, the corner alignment and the number of markers
@@ -73,26 +69,26 @@ match_of s b =
     record {
       best = b;
       runner_up = runner_up s;
-      margin = margin_with s (choice.Placement b);
+      margin = margin_with s (Some b);
       placements = length (placements s);
       corners = corner_alignment b.alignment;
       markers = length (markers s b.alignment);
     }
 
-abbrev pub answer_with : Option Refusal → Shot → Choice → Matched
-answer_with (some refused) s b = matched.Refused refused
-answer_with none s choice.Absent = matched.Refused refusal.TranslationWindow
-answer_with none s (choice.Placement b) = matched.Placed (match_of s b)
+abbrev pub answer_with : Maybe Refusal → Shot → Option Hypothesis → Result Match Refusal
+answer_with (some refused) s b = Err refused
+answer_with none s None = Err refusal.TranslationWindow
+answer_with none s (Some b) = Ok (match_of s b)
 
-abbrev pub matched_shot : Option Shot → ℕ → Matched
-matched_shot none marker_words = matched.Refused refusal.InvalidRecord
+abbrev pub matched_shot : Maybe Shot → ℕ → Result Match Refusal
+matched_shot none marker_words = Err refusal.InvalidRecord
 matched_shot (some s) marker_words = answer_with (refused_by s marker_words) s (best s)
 
-abbrev pub match_answer : List ℕ → List ℕ → Matched
+abbrev pub match_answer : List ℕ → List ℕ → Result Match Refusal
 match_answer bytes lent = matched_shot (parse bytes) (length lent)
 
 -- the output array at exit: on error unchanged, else the markers' words overwrite its first elements
-abbrev pub left_list : Option Shot → List ℕ → List ℕ
+abbrev pub left_list : Maybe Shot → List ℕ → List ℕ
 left_list none lent = lent
 left_list (some s) lent = at_exit (refused_by s (length lent)) (flat_map marker_words (markers_of s)) lent
 
@@ -100,6 +96,6 @@ abbrev pub match_list : List ℕ → List ℕ → List ℕ
 match_list bytes lent = left_list (parse bytes) lent
 
 -- the result and the output array together
-pub record Gives (bytes lent : List ℕ) (answer : Matched) (exit : List ℕ) : Type 0 where
+pub record Gives (bytes lent : List ℕ) (answer : Result Match Refusal) (exit : List ℕ) : Type 0 where
   pub answers : answer ≡ match_answer bytes lent
   pub leaves : exit ≡ match_list bytes lent

@@ -1,5 +1,5 @@
 -- Document 01, "The questions asked": the checks of Match before the search, 1 to 14 in order, with document 02's 22 after 8 and 23 after 12.
-use Rattle.std.specs.Prelude.{ℕ, ◌*◌, Bool, true, ◌&&◌, List, map, leb, ltb, eqb, length, Float}
+use Rattle.std.specs.Prelude.{ℕ, ◌*◌, Bool, true, ◌&&◌, List, map, leb, ltb, eqb, length, Float, Result, Ok, Err}
 use Rattle.std.proofs.Math.Option.{Option, none, some}
 use Rattle.std.specs.Float.Ieee.{le}
 use Rattle.std.specs.Float.Ieee.Scale.{finite}
@@ -18,10 +18,7 @@ use Rattle.shot_record.specs.Answers.{of_pattern, config_of, spec_of}
 use Rattle.points.specs.Points.{all_apart}
 use Rattle.hypothesis.specs.Placements.{cell, cell_point}
 use Rattle.hypothesis.specs.Inputs.{inputs_of}
-use Rattle.board_match.specs.declared.Asked.{Asked}
-use Rattle.board_match.specs.declared.Asked.TheVariants as asked
-use Rattle.board_match.specs.declared.questions.Answer.{Answer}
-use Rattle.board_match.specs.declared.questions.Answer.TheVariants as answer
+use Rattle.hypothesis.specs.declared.Inputs.{Inputs}
 
 abbrev pub in_unit_interval : Float → Bool
 in_unit_interval x = le nought x && le x unity
@@ -89,13 +86,13 @@ after_record none words = some refusal.InvalidRecord
 after_record (some s) words = asked_before15 s words
 
 -- the result in the program
-abbrev pub told_answer : Option Refusal → Answer
-told_answer none = answer.Passed
-told_answer (some r) = answer.Refused r
+abbrev pub told_answer : Option Refusal → Result (Unit {0}) Refusal
+told_answer none = Ok
+told_answer (some r) = Err r
 
-abbrev pub asked_with : Option Refusal → Shot → Asked
-asked_with none s = asked.Passed (inputs_of s)
-asked_with (some r) s = asked.Refused r
+abbrev pub asked_with : Option Refusal → Shot → Result Inputs Refusal
+asked_with none s = Ok (inputs_of s)
+asked_with (some r) s = Err r
 
-abbrev pub asked_answer : List ℕ → ℕ → Asked
+abbrev pub asked_answer : List ℕ → ℕ → Result Inputs Refusal
 asked_answer bytes words = asked_with (after_record (parse bytes) words) (shot bytes)

@@ -1,5 +1,5 @@
 -- Consequences of question 23: a placement puts no two cells on one square, and no marker is emitted twice.
-use Rattle.std.specs.Prelude.{ℕ, ◌<◌, ◌≡◌, List, get_or}
+use Rattle.std.specs.Prelude.{ℕ, ◌<◌, ◌≡◌, List, get_or, Ok}
 use Rattle.std.proofs.Math.Option.{none}
 use Rattle.sorting.specs.Order.{AllDifferent}
 use Rattle.grid_alignment.specs.declared.GridAlignment.{GridAlignment}
@@ -8,7 +8,6 @@ use Rattle.shot_record.specs.Shots.{Shot}
 use Rattle.hypothesis.specs.Placements.{cell_total, cell_point}
 use Rattle.emit.specs.Markers.{id_in}
 use Rattle.board_match.specs.declared.Match.{Match}
-use Rattle.board_match.specs.declared.Matched.TheVariants as matched
 use Rattle.board_match.specs.Questions.{asked_before15}
 use Rattle.board_match.specs.Match.{match_answer, match_list}
 
@@ -19,5 +18,5 @@ SquaresRule = (s : Shot) (words : ℕ) → asked_before15 s words ≡ none → (
 
 -- for every placed record: the ids of its markers, in the output array at exit, are distinct
 abbrev pub IdsRule : Type 0
-IdsRule = (bytes lent : List ℕ) → ((i : ℕ) → get_or bytes i 0 < 256) → (m : Match) → match_answer bytes lent ≡ matched.Placed m
+IdsRule = (bytes lent : List ℕ) → ((i : ℕ) → get_or bytes i 0 < 256) → (m : Match) → match_answer bytes lent ≡ Ok m
     → AllDifferent m.markers (id_in (match_list bytes lent))

@@ -1,5 +1,5 @@
 -- Document 02, 2.6: Match with an array of scores: the result for every record and all output arrays, and the arrays at exit.
-use Rattle.std.specs.Prelude.{ℕ, ◌≤◌, ◌≡◌, ◌⊎◌, Bool, leb, length, Float}
+use Rattle.std.specs.Prelude.{ℕ, ◌≤◌, ◌≡◌, ◌⊎◌, Bool, leb, length, Float, Result, Err}
 use mathlib.Core.List.{List, flat_map}
 use Rattle.std.proofs.Math.Option.{Option, none, some}
 use Rattle.lent_list.specs.Front.{at_exit}
@@ -10,10 +10,9 @@ use Rattle.shot_record.specs.Shots.{Shot, parse}
 use Rattle.hypothesis.specs.Search.{best}
 use Rattle.hypothesis.specs.ScoreList.{score_count, score_list}
 use Rattle.emit.specs.Markers.{marker_words}
-use Rattle.board_match.specs.declared.Matched.{Matched}
-use Rattle.board_match.specs.declared.Matched.TheVariants as matched
 use Rattle.board_match.specs.Questions.{asked_of_shot}
 use Rattle.board_match.specs.Match.{markers_of, asked_from15, answer_with, match_answer, match_list}
+use Rattle.board_match.specs.declared.Match.{Match}
 
 -- 24: Has the score array cells × markers × 4 elements?
 abbrev pub score_room_answer : Shot → ℕ → Bool
@@ -32,11 +31,11 @@ refused_unfilled s words places = asked_of_shot s words (asked_from24 s places n
 abbrev pub refused_with_scores : Shot → ℕ → ℕ → Option Refusal
 refused_with_scores s words places = asked_of_shot s words (asked_from24 s places (asked_from15 s))
 
-abbrev pub scored_shot : Option Shot → ℕ → ℕ → Matched
-scored_shot none words places = matched.Refused refusal.InvalidRecord
+abbrev pub scored_shot : Option Shot → ℕ → ℕ → Result Match Refusal
+scored_shot none words places = Err refusal.InvalidRecord
 scored_shot (some s) words places = answer_with (refused_with_scores s words places) s (best s)
 
-abbrev pub scored_answer : List ℕ → List Float → List ℕ → Matched
+abbrev pub scored_answer : List ℕ → List Float → List ℕ → Result Match Refusal
 scored_answer bytes scores lent = scored_shot (parse bytes) (length lent) (length scores)
 
 -- the markers' array at exit: on error unchanged
@@ -56,7 +55,7 @@ abbrev pub scores_left : List ℕ → List Float → List ℕ → List Float
 scores_left bytes scores lent = filled_left (parse bytes) (length lent) scores
 
 -- the result and both arrays together
-pub record GivesScored (bytes : List ℕ) (scores : List Float) (lent : List ℕ) (answer : Matched) (filled : List Float) (exit : List ℕ) : Type 0 where
+pub record GivesScored (bytes : List ℕ) (scores : List Float) (lent : List ℕ) (answer : Result Match Refusal) (filled : List Float) (exit : List ℕ) : Type 0 where
   pub answers : answer ≡ scored_answer bytes scores lent
   pub leaves : exit ≡ scored_list bytes scores lent
   pub fills : filled ≡ scores_left bytes scores lent
@@ -68,7 +67,7 @@ pub record SameMatch (bytes : List ℕ) (scores : List Float) (lent : List ℕ) 
 
 -- for every record and all arrays: error 24, or the same match; and the same match if the array is long enough
 pub record EnginesAgree (bytes : List ℕ) (scores : List Float) (lent : List ℕ) : Type 0 where
-  pub either : (scored_answer bytes scores lent ≡ matched.Refused refusal.ScoreListTooShort) ⊎ SameMatch bytes scores lent
+  pub either : (scored_answer bytes scores lent ≡ Err refusal.ScoreListTooShort) ⊎ SameMatch bytes scores lent
   pub with_room : ((s : Shot) → parse bytes ≡ some s → score_count s ≤ length scores) → SameMatch bytes scores lent
 
 abbrev pub EnginesRule : Type 0

@@ -2,25 +2,17 @@
 ghost use Rattle.std.specs.Prelude.{◌≡◌, ◌&&◌, map, ◌≤◌};
 ghost use Rattle.std.proofs.Math.Option.{none};
 ghost use Rattle.integers.specs.Tests.{every};
-ghost use Rattle.shot_record.specs.Fields.{fields_of};
 ghost use Rattle.shot_record.specs.Shots.{shot};
 ghost use Rattle.shot_record.specs.Answers.{of_pattern, config_of};
 ghost use Rattle.shot_record.specs.Index.{Indexed};
-ghost use Rattle.integers.specs.Distance.{is_within as withinOf};
+ghost use Rattle.integers.specs.Distance.{is_within};
 ghost use Rattle.board_match.specs.Questions.{in_unit_interval, settings_answer, table_answer, asked_from9, told_answer};
 ghost use Rattle.board_match.specs.Entries.{placed_in, border_answer, sampled_in};
 ghost use Rattle.board_match.specs.Match.{margin_passes};
 
 use refusal::Refusal;
-use score_matrix::{BoardMatchConfig, BorderSample, table};
-use shot_record::fields::Fields;
-use shot_record::{fields, index};
-
-#[derive(Clone, Copy)]
-pub enum Answer {
-    Passed,
-    Refused(Refusal),
-}
+use score_matrix::{BoardMatchConfig, table};
+use shot_record::{Record, index};
 
 fn in_unit_interval(x: f32) -> bool
     ensures { result ≡ in_unit_interval x }
@@ -45,29 +37,23 @@ fn settings(config: BoardMatchConfig) -> bool
 }
 
 // Question 10. Only the record's own table is checked: the built-in one passes.
-fn table_passes(bytes: &[u8], f: Fields, entries: &[f32; 511]) -> bool
-    requires { (f ≡ fields_of bytes.now) × (entries.now ≡ map of_pattern (shot bytes.now).table) }
-    ensures { result ≡ table_answer (shot bytes.now) }
+fn table_passes(record: &Record<'_>, entries: &[f32; 511]) -> bool
+    requires { entries.now ≡ map of_pattern (shot record.now.bytes.now).table }
+    ensures { result ≡ table_answer (shot record.now.bytes.now) }
 {
-    if !fields::sets_table(f) {
-        return true;
-    }
-    table::is_table(entries)
+    !record.sets_table() || table::is_table(entries)
 }
 
 fn within(z: i16) -> bool
-    ensures { result ≡ withinOf 4096 z }
+    ensures { result ≡ is_within 4096 z }
 {
     -4096 <= z && z <= 4096
 }
 
 fn point(u: i16, v: i16) -> bool
-    ensures { result ≡ (withinOf 4096 u && withinOf 4096 v) }
+    ensures { result ≡ (is_within 4096 u && is_within 4096 v) }
 {
-    if !within(u) {
-        return false;
-    }
-    within(v)
+    within(u) && within(v)
 }
 
 // Question 12 of the indexed cells, at most 256.
@@ -75,22 +61,20 @@ fn all_placed(index: &[u32; 768], count: usize) -> bool
     requires { count ≤ 256 }
     ensures { result ≡ every (placed_in index.now) count }
 {
-    let mut k = 0;
-    while k < count {
+    for k in 0..count {
         if !point(index::u(index, k), index::v(index, k)) {
             return false;
         }
-        k += 1;
     }
     true
 }
 
-fn sample(border: BorderSample) -> bool
+fn sample(border: Option<f32>) -> bool
     ensures { result ≡ border_answer border }
 {
     match border {
-        BorderSample::BlackFraction(x) => in_unit_interval(x),
-        BorderSample::Unsampled => true,
+        Some(x) => in_unit_interval(x),
+        None => true,
     }
 }
 
@@ -99,54 +83,52 @@ fn all_sampled(index: &[u32; 768], count: usize) -> bool
     requires { count ≤ 256 }
     ensures { result ≡ every (sampled_in index.now) count }
 {
-    let mut k = 0;
-    while k < count {
+    for k in 0..count {
         if !sample(index::border(index, k)) {
             return false;
         }
-        k += 1;
     }
     true
 }
 
 // Questions 9 to 14, with 23 after 12.
 pub fn from_9(
-    bytes: &[u8],
-    f: Fields,
+    record: &Record<'_>,
     config: BoardMatchConfig,
     entries: &[f32; 511],
     index: &[u32; 768],
     words: usize,
-) -> Answer
-    requires { Indexed bytes.now f index.now × (config ≡ config_of (shot bytes.now)) × (entries.now ≡ map of_pattern (shot bytes.now).table) }
-    ensures { result ≡ told_answer (asked_from9 (shot bytes.now) words none) }
+) -> Result<(), Refusal>
+    requires { Indexed record.now.bytes.now record.now.fields index.now × (config ≡ config_of (shot record.now.bytes.now))
+        × (entries.now ≡ map of_pattern (shot record.now.bytes.now).table) }
+    ensures { result ≡ told_answer (asked_from9 (shot record.now.bytes.now) words none) }
 {
     if !settings(config) {
-        return Answer::Refused(Refusal::InvalidSettings);
+        return Err(Refusal::InvalidSettings);
     }
-    if !table_passes(bytes, f, entries) {
-        return Answer::Refused(Refusal::InvalidTable);
+    if !table_passes(record, entries) {
+        return Err(Refusal::InvalidTable);
     }
-    let count = f.cell_count;
+    let count = record.fields.cell_count;
     if count == 0 {
-        return Answer::Refused(Refusal::NoCells);
+        return Err(Refusal::NoCells);
     }
     if 256 < count {
-        return Answer::Refused(Refusal::CellsOutOfRange);
+        return Err(Refusal::CellsOutOfRange);
     }
     if !all_placed(index, count) {
-        return Answer::Refused(Refusal::CellsOutOfRange);
+        return Err(Refusal::CellsOutOfRange);
     }
     if !points::all_different(index, count) {
-        return Answer::Refused(Refusal::RepeatedPoint);
+        return Err(Refusal::RepeatedPoint);
     }
     if !all_sampled(index, count) {
-        return Answer::Refused(Refusal::InvalidSample);
+        return Err(Refusal::InvalidSample);
     }
     if words < 18 * count {
-        return Answer::Refused(Refusal::ListTooShort);
+        return Err(Refusal::ListTooShort);
     }
-    Answer::Passed
+    Ok(())
 }
 
 // Question 16: Is the margin not below the minimum?

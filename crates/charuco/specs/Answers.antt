@@ -1,5 +1,5 @@
 -- The result of a C function: a number, 0 on success and else the error number, and words in an output array.
-use Rattle.std.specs.Prelude.{ℕ, ◌%◌, ◌^◌, ◌≡◌, cond, List, [], ◌∷◌, eqb}
+use Rattle.std.specs.Prelude.{ℕ, ◌%◌, ◌^◌, ◌≡◌, cond, List, [], ◌∷◌, eqb, Result, Ok, Err}
 use Rattle.lent_list.specs.Front.{in_front}
 use Rattle.refusal.specs.declared.Refusal.{Refusal}
 use Rattle.refusal.specs.Numbers.{number_of, values_of}
@@ -15,11 +15,13 @@ worked words = record { number = 0; words = words }
 abbrev pub count_word : ℕ → ℕ
 count_word n = n % 2 ^ 32
 
-abbrev pub counted : ℕ → Answer
-counted n = worked (count_word n ∷ [])
-
 abbrev pub refused : Refusal → Answer
 refused r = record { number = number_of r; words = values_of r }
+
+-- of an entry point that returns a count: of whole cells, mapped corners, violations, or bytes of a converted record
+abbrev pub count_told : Result ℕ Refusal → Answer
+count_told (Ok n) = worked (count_word n ∷ [])
+count_told (Err r) = refused r
 
 -- the returned number and the output array at exit are those of the result
 pub record Tells (a : Answer) (r : ℕ) (lent exit : List ℕ) : Type 0 where

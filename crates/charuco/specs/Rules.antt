@@ -1,10 +1,9 @@
 -- How the entry points fit together, for every placed record: the laws of `proofs/Laws.antt`.
-use Rattle.std.specs.Prelude.{ℕ, ◌+◌, ◌*◌, ◌<◌, ◌≡◌, true, List, ℤ, get_or}
+use Rattle.std.specs.Prelude.{ℕ, ◌+◌, ◌*◌, ◌<◌, ◌≡◌, true, List, ℤ, get_or, Ok}
 use Rattle.grid_alignment.specs.declared.Coord.{Coord}
 use Rattle.grid_alignment.specs.Alignment.{applied, corner}
 use Rattle.board.specs.declared.Board.{Board}
 use Rattle.board_match.specs.declared.Match.{Match}
-use Rattle.board_match.specs.declared.Matched.TheVariants as matched
 use Rattle.board_match.specs.Match.{match_answer}
 use Rattle.marker_sampling.specs.Cells.{labelled, corners_of}
 use Rattle.corner_mapping.specs.Corners.{grid_point, id_at, id_of}
@@ -21,4 +20,4 @@ pub record MatchedCorners (m : Match) : Type 0 where
 
 abbrev pub CornersOfMatch : Type 0
 CornersOfMatch =
-    (bytes lent : List ℕ) → ((i : ℕ) → get_or bytes i 0 < 256) → (m : Match) → match_answer bytes lent ≡ matched.Placed m → MatchedCorners m
+    (bytes lent : List ℕ) → ((i : ℕ) → get_or bytes i 0 < 256) → (m : Match) → match_answer bytes lent ≡ Ok m → MatchedCorners m

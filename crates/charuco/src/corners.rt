@@ -1,11 +1,10 @@
 // The corner entry point.
 ghost use Rattle.std.specs.Prelude.{◌≡◌};
 ghost use Rattle.corner_mapping.specs.Entry.{map_corners, map_corners_list};
-ghost use Rattle.charuco.specs.Answers.{Tells};
-ghost use Rattle.charuco.specs.Entries.{spec_from, turn_byte, alignment_of, corners_told};
+ghost use Rattle.charuco.specs.Answers.{Tells, count_told};
+ghost use Rattle.charuco.specs.Entries.{spec_from, turn_byte, alignment_of};
 
 use super::{boards, values};
-use corner_mapping::MappedCorners;
 use grid_alignment::GridAlignment;
 
 // A turn above 3 becomes 4, which fails question 18.
@@ -28,15 +27,6 @@ fn alignment(turn: u32, tx: i32, ty: i32) -> GridAlignment
     }
 }
 
-fn tell_corners(answer: MappedCorners, values: &mut [u32]) -> u32
-    ensures { Tells (corners_told answer) result values.old values.new }
-{
-    match answer {
-        MappedCorners::Mapped(count) => values::counted(values, count),
-        MappedCorners::Refused(refusal) => values::refused(values, refusal),
-    }
-}
-
 pub fn charuco_map_charuco_corners(
     rows: u32,
     cols: u32,
@@ -54,7 +44,7 @@ pub fn charuco_map_charuco_corners(
     corners: &mut [u32],
     values: &mut [u32],
 ) -> u32
-    ensures answer { Tells (corners_told (map_corners (spec_from rows cols bits border_bits legacy_pattern cell_size marker_size_rel) codes.now
+    ensures answer { Tells (count_told (map_corners (spec_from rows cols bits border_bits legacy_pattern cell_size marker_size_rel) codes.now
         scores.now
         grid.now (alignment_of turn tx ty) corners.old)) result values.old values.new }
     ensures list { corners.new
@@ -72,5 +62,5 @@ pub fn charuco_map_charuco_corners(
     );
     let alignment = alignment(turn, tx, ty);
     let answer = corner_mapping::map_charuco_corners(spec, codes, scores, grid, alignment, corners);
-    tell_corners(answer, values)
+    values::counted(values, answer)
 }

@@ -18,33 +18,30 @@ pub use records::{
 };
 pub use score_matrix::BoardMatchConfig;
 pub use shot_record::{
-    Header, ReadCell, ReadCode, ReadEntry, ReadHeader, cell, code, grid, read_header, table_entry,
+    Header, ReadCell, ReadSample, cell, code, grid, read_header, table_entry,
 };
 
 // Match.
-pub use board_match::{Match, Matched, match_board, match_board_with_scores};
+pub use board_match::{Match, match_board, match_board_with_scores};
 pub use matches::{charuco_match_board, charuco_match_board_with_scores};
-pub use ranking::{Choice, Evidence, Hypothesis};
+pub use ranking::Hypothesis;
 
 // The cells entry point.
 pub use cells::charuco_build_marker_cells;
-pub use marker_sampling::{MarkerCells, build_marker_cells};
+pub use marker_sampling::build_marker_cells;
 
 // The corner entry point.
-pub use corner_mapping::{MappedCorners, map_charuco_corners};
+pub use corner_mapping::map_charuco_corners;
 pub use corners::charuco_map_charuco_corners;
 pub use grid_alignment::GridAlignment;
 
 // The link entry point.
-pub use link_check::{
-    CheckedLinks, LinkCheckMode, LinkViolationKind, validate_marker_corner_links,
-};
+pub use link_check::{LinkCheckMode, LinkViolationKind, validate_marker_corner_links};
 pub use links::charuco_validate_marker_corner_links;
 
 // Converters of records.
 pub use converters::charuco_restate;
 pub use legacy_record::restate;
-pub use shot_record::Converted;
 
 // Types of more than one entry point.
 pub use board::CharucoBoardSpec;

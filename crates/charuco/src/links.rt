@@ -1,11 +1,11 @@
 // The link entry point.
 ghost use Rattle.std.specs.Prelude.{◌≡◌};
 ghost use Rattle.link_check.specs.Entry.{check_links, check_links_list};
-ghost use Rattle.charuco.specs.Answers.{Tells};
-ghost use Rattle.charuco.specs.Entries.{spec_from, mode_of, links_told};
+ghost use Rattle.charuco.specs.Answers.{Tells, count_told};
+ghost use Rattle.charuco.specs.Entries.{spec_from, mode_of};
 
 use super::{boards, values};
-use link_check::{CheckedLinks, LinkCheckMode};
+use link_check::LinkCheckMode;
 
 // 0 is `SubsetOk`, every other number `MustMatchAll4`.
 fn mode_of(mode: u32) -> LinkCheckMode
@@ -15,15 +15,6 @@ fn mode_of(mode: u32) -> LinkCheckMode
         return LinkCheckMode::SubsetOk;
     }
     LinkCheckMode::MustMatchAll4
-}
-
-fn tell_links(answer: CheckedLinks, values: &mut [u32]) -> u32
-    ensures { Tells (links_told answer) result values.old values.new }
-{
-    match answer {
-        CheckedLinks::Checked(count) => values::counted(values, count),
-        CheckedLinks::Refused(refusal) => values::refused(values, refusal),
-    }
 }
 
 pub fn charuco_validate_marker_corner_links(
@@ -40,7 +31,7 @@ pub fn charuco_validate_marker_corner_links(
     violations: &mut [u32],
     values: &mut [u32],
 ) -> u32
-    ensures answer { Tells (links_told (check_links (spec_from rows cols bits border_bits legacy_pattern cell_size marker_size_rel) codes.now
+    ensures answer { Tells (count_told (check_links (spec_from rows cols bits border_bits legacy_pattern cell_size marker_size_rel) codes.now
         (mode_of mode)
         links.now violations.old)) result values.old values.new }
     ensures list { violations.new
@@ -63,5 +54,5 @@ pub fn charuco_validate_marker_corner_links(
         mode_of(mode),
         violations,
     );
-    tell_links(answer, values)
+    values::counted(values, answer)
 }

@@ -7,26 +7,27 @@ ghost use Rattle.charuco.specs.Answers.{Tells};
 ghost use Rattle.charuco.specs.Entries.{alignment_words, evidence_words, placement_words, choice_words, contributing_to, match_words, match_told};
 
 use super::values;
-use board_match::{Match, Matched};
+use board_match::Match;
 use grid_alignment::GridAlignment;
-use ranking::{Choice, Evidence, Hypothesis};
+use ranking::Hypothesis;
+use refusal::Refusal;
 
 fn alignment_words(alignment: GridAlignment) -> [u32; 3]
     ensures { result ≡ alignment_words alignment }
 {
     [
         alignment.turn as u32,
-        integers::word(alignment.tx),
-        integers::word(alignment.ty),
+        alignment.tx.cast_unsigned(),
+        alignment.ty.cast_unsigned(),
     ]
 }
 
-fn evidence_words(evidence: Evidence) -> [u32; 2]
+fn evidence_words(evidence: Option<f32>) -> [u32; 2]
     ensures { result ≡ evidence_words evidence }
 {
     match evidence {
-        Evidence::Number(x) => [1, floats::to_bits(x)],
-        Evidence::Absent => [0, 0],
+        Some(x) => [1, floats::to_bits(x)],
+        None => [0, 0],
     }
 }
 
@@ -39,25 +40,25 @@ fn placement_words(h: Hypothesis) -> [u32; 5]
     [at[0], at[1], at[2], number[0], number[1]]
 }
 
-fn choice_words(choice: Choice) -> [u32; 6]
+fn choice_words(choice: Option<Hypothesis>) -> [u32; 6]
     ensures { result ≡ choice_words choice }
 {
     match choice {
-        Choice::Placement(h) => {
+        Some(h) => {
             let p = placement_words(h);
             [1, p[0], p[1], p[2], p[3], p[4]]
         }
-        Choice::Absent => [0, 0, 0, 0, 0, 0],
+        None => [0, 0, 0, 0, 0, 0],
     }
 }
 
 // Without a placement no cell contributes.
-fn contributing_to(choice: Choice) -> usize
+fn contributing_to(choice: Option<Hypothesis>) -> usize
     ensures { result ≡ contributing_to choice }
 {
     match choice {
-        Choice::Placement(h) => h.contributing_cells,
-        Choice::Absent => 0,
+        Some(h) => h.contributing_cells,
+        None => 0,
     }
 }
 
@@ -93,15 +94,15 @@ fn match_words(m: Match) -> [u32; 19]
     ]
 }
 
-fn tell_match(answer: Matched, values: &mut [u32]) -> u32
+fn tell_match(answer: Result<Match, Refusal>, values: &mut [u32]) -> u32
     ensures { Tells (match_told answer) result values.old values.new }
 {
     match answer {
-        Matched::Placed(m) => {
+        Ok(m) => {
             let words = match_words(m);
             values::worked(values, &words)
         }
-        Matched::Refused(refusal) => values::refused(values, refusal),
+        Err(refusal) => values::refused(values, refusal),
     }
 }
 

@@ -4,19 +4,11 @@ ghost use Rattle.board.specs.Numbering.{as_one};
 ghost use Rattle.shot_record.specs.Shots.{parse};
 ghost use Rattle.shot_record.specs.Answers.{header_answer, entry_answer, code_answer, cell_answer, part_answer, grid_answer};
 ghost use Rattle.charuco.specs.Answers.{Tells};
-ghost use Rattle.charuco.specs.Records.{header_words, header_told, entry_told, code_told, cell_told, coordinate_word, grid_told, Lies};
+ghost use Rattle.charuco.specs.Records.{header_words, header_told, entry_told, code_told, cell_words, cell_told, coordinate_word, grid_told, Lies};
 
 use super::values;
-use shot_record::{Header, ReadCell, ReadCode, ReadEntry, ReadHeader, cells};
-
-fn mark_word(legacy_pattern: bool) -> u32
-    ensures { result ≡ as_one legacy_pattern }
-{
-    if legacy_pattern {
-        return 1;
-    }
-    0
-}
+use refusal::Refusal;
+use shot_record::{Header, ReadCell, cells};
 
 fn header_words(h: Header) -> [u32; 14]
     ensures { result ≡ header_words h }
@@ -36,20 +28,20 @@ fn header_words(h: Header) -> [u32; 14]
         floats::to_bits(spec.marker_size_rel),
         values::count_word(h.code_count),
         values::count_word(h.cell_count),
-        mark_word(spec.legacy_pattern),
+        u32::from(spec.legacy_pattern),
         floats::to_bits(config.least_weight),
     ]
 }
 
-fn tell_header(answer: ReadHeader, values: &mut [u32]) -> u32
+fn tell_header(answer: Result<Header, Refusal>, values: &mut [u32]) -> u32
     ensures { Tells (header_told answer) result values.old values.new }
 {
     match answer {
-        ReadHeader::Header(h) => {
+        Ok(h) => {
             let words = header_words(h);
             values::worked(values, &words)
         }
-        ReadHeader::Refused(refusal) => values::refused(values, refusal),
+        Err(refusal) => values::refused(values, refusal),
     }
 }
 
@@ -59,13 +51,13 @@ pub fn charuco_read_header(bytes: &[u8], values: &mut [u32]) -> u32
     tell_header(shot_record::read_header(bytes), values)
 }
 
-fn tell_entry(answer: ReadEntry, values: &mut [u32]) -> u32
+fn tell_entry(answer: Result<Option<f32>, Refusal>, values: &mut [u32]) -> u32
     ensures { Tells (entry_told answer) result values.old values.new }
 {
     match answer {
-        ReadEntry::Entry(x) => values::worked(values, &[1, floats::to_bits(x)]),
-        ReadEntry::Absent => values::worked(values, &[0, 0]),
-        ReadEntry::Refused(refusal) => values::refused(values, refusal),
+        Ok(Some(x)) => values::worked(values, &[1, floats::to_bits(x)]),
+        Ok(None) => values::worked(values, &[0, 0]),
+        Err(refusal) => values::refused(values, refusal),
     }
 }
 
@@ -75,11 +67,11 @@ pub fn charuco_table_entry(bytes: &[u8], k: usize, values: &mut [u32]) -> u32
     tell_entry(shot_record::table_entry(bytes, k), values)
 }
 
-fn tell_code(answer: ReadCode, values: &mut [u32]) -> u32
+fn tell_code(answer: Result<Option<u64>, Refusal>, values: &mut [u32]) -> u32
     ensures { Tells (code_told answer) result values.old values.new }
 {
     match answer {
-        ReadCode::Code(code) => values::worked(
+        Ok(Some(code)) => values::worked(
             values,
             &[
                 1,
@@ -87,8 +79,8 @@ fn tell_code(answer: ReadCode, values: &mut [u32]) -> u32
                 (code / 0x1_0000_0000) as u32,
             ],
         ),
-        ReadCode::Absent => values::worked(values, &[0, 0, 0]),
-        ReadCode::Refused(refusal) => values::refused(values, refusal),
+        Ok(None) => values::worked(values, &[0, 0, 0]),
+        Err(refusal) => values::refused(values, refusal),
     }
 }
 
@@ -101,34 +93,27 @@ pub fn charuco_code(bytes: &[u8], k: usize, values: &mut [u32]) -> u32
 fn coordinate_word(z: i16) -> u32
     ensures { result ≡ coordinate_word z }
 {
-    integers::word(z as i32)
+    i32::from(z).cast_unsigned()
 }
 
-fn tell_cell(answer: ReadCell, values: &mut [u32]) -> u32
+fn cell_words(cell: ReadCell) -> [u32; 5]
+    ensures { result ≡ cell_words cell }
+{
+    let u = coordinate_word(cell.u);
+    let v = coordinate_word(cell.v);
+    match cell.sample {
+        Some(sample) => [2, u, v, floats::to_bits(sample.fraction), sample.threshold as u32],
+        None => [1, u, v, 0, 0],
+    }
+}
+
+fn tell_cell(answer: Result<Option<ReadCell>, Refusal>, values: &mut [u32]) -> u32
     ensures { Tells (cell_told answer) result values.old values.new }
 {
     match answer {
-        ReadCell::Sampled {
-            u,
-            v,
-            fraction,
-            threshold,
-        } => values::worked(
-            values,
-            &[
-                2,
-                coordinate_word(u),
-                coordinate_word(v),
-                floats::to_bits(fraction),
-                threshold as u32,
-            ],
-        ),
-        ReadCell::Unsampled { u, v } => values::worked(
-            values,
-            &[1, coordinate_word(u), coordinate_word(v), 0, 0],
-        ),
-        ReadCell::Absent => values::worked(values, &[0, 0, 0, 0, 0]),
-        ReadCell::Refused(refusal) => values::refused(values, refusal),
+        Ok(Some(cell)) => values::worked(values, &cell_words(cell)),
+        Ok(None) => values::worked(values, &[0, 0, 0, 0, 0]),
+        Err(refusal) => values::refused(values, refusal),
     }
 }
 
@@ -147,13 +132,13 @@ pub fn charuco_grid(bytes: &[u8], k: usize, values: &mut [u32]) -> u32
     let header = shot_record::read_header(bytes);
     let part = cells::grid_part(bytes, k);
     match header {
-        ReadHeader::Header(_) => {
+        Ok(_) => {
             let words: [u32; 2] = [
                 values::count_word(part.first),
                 values::count_word(part.end - part.first),
             ];
             values::worked(values, &words)
         }
-        ReadHeader::Refused(refusal) => values::refused(values, refusal),
+        Err(refusal) => values::refused(values, refusal),
     }
 }

@@ -1,6 +1,6 @@
 // The result of a C function: a number, and words at the start of the caller's output array `values`, truncated to its length.
 ghost use Rattle.std.specs.Prelude.{◌≡◌};
-ghost use Rattle.charuco.specs.Answers.{worked as workedWith, counted as countedAs, refused as refused_by, value_count, count_word, Tells};
+ghost use Rattle.charuco.specs.Answers.{worked as worked_with, count_told, refused as refused_by, value_count, count_word, Tells};
 
 use refusal::Refusal;
 
@@ -13,17 +13,10 @@ pub fn count_word(n: usize) -> u32
 
 // The result on success.
 pub fn worked(values: &mut [u32], words: &[u32]) -> u32
-    ensures { Tells (workedWith words.now) result values.old values.new }
+    ensures { Tells (worked_with words.now) result values.old values.new }
 {
     lent_list::put_front(values, words);
     0
-}
-
-// The result on success for an entry point that returns a count.
-pub fn counted(values: &mut [u32], count: usize) -> u32
-    ensures { Tells (countedAs count) result values.old values.new }
-{
-    worked(values, &[count_word(count)])
 }
 
 // The number of values of an error number.
@@ -48,4 +41,14 @@ pub fn refused(values: &mut [u32], refusal: Refusal) -> u32
     let count = value_count(number);
     lent_list::put_front(values, &words[..count]);
     number
+}
+
+// The result of an entry point that returns a count.
+pub fn counted(values: &mut [u32], answer: Result<usize, Refusal>) -> u32
+    ensures { Tells (count_told answer) result values.old values.new }
+{
+    match answer {
+        Ok(count) => worked(values, &[count_word(count)]),
+        Err(refusal) => refused(values, refusal),
+    }
 }

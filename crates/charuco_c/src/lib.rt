@@ -4,8 +4,8 @@
 
 ghost use Rattle.std.specs.Prelude.{◌≡◌};
 ghost use Rattle.marker_sampling.specs.Entry.{marker_cells, marker_cells_list};
-ghost use Rattle.charuco.specs.Answers.{Tells};
-ghost use Rattle.charuco.specs.Entries.{cells_told, converted_told, spec_from, alignment_of, corners_told, mode_of, links_told, match_told};
+ghost use Rattle.charuco.specs.Answers.{Tells, count_told};
+ghost use Rattle.charuco.specs.Entries.{spec_from, alignment_of, mode_of, match_told};
 ghost use Rattle.legacy_record.specs.Restating.{restate_answer, restate_list};
 ghost use Rattle.corner_mapping.specs.Entry.{map_corners, map_corners_list};
 ghost use Rattle.link_check.specs.Entry.{check_links, check_links_list};
@@ -24,7 +24,7 @@ pub extern "C" fn charuco_build_marker_cells(
     cells: &mut [i32],
     values: &mut [u32],
 ) -> u32
-    ensures answer { Tells (cells_told (marker_cells scores.now grid.now inliers.now cells.old)) result
+    ensures answer { Tells (count_told (marker_cells scores.now grid.now inliers.now cells.old)) result
         values.old values.new }
     ensures list { cells.new ≡ marker_cells_list scores.now grid.now inliers.now cells.old }
 {
@@ -33,7 +33,7 @@ pub extern "C" fn charuco_build_marker_cells(
 
 #[unsafe(no_mangle)]
 pub extern "C" fn charuco_restate(bytes: &[u8], sheet: &mut [u8], values: &mut [u32]) -> u32
-    ensures answer { Tells (converted_told (restate_answer bytes.now sheet.old)) result values.old values.new }
+    ensures answer { Tells (count_told (restate_answer bytes.now sheet.old)) result values.old values.new }
     ensures list { sheet.new ≡ restate_list bytes.now sheet.old }
 {
     charuco::charuco_restate(bytes, sheet, values)
@@ -57,7 +57,7 @@ pub extern "C" fn charuco_map_charuco_corners(
     corners: &mut [u32],
     values: &mut [u32],
 ) -> u32
-    ensures answer { Tells (corners_told (map_corners (spec_from rows cols bits border_bits legacy_pattern cell_size marker_size_rel) codes.now
+    ensures answer { Tells (count_told (map_corners (spec_from rows cols bits border_bits legacy_pattern cell_size marker_size_rel) codes.now
         scores.now
         grid.now (alignment_of turn tx ty) corners.old)) result values.old values.new }
     ensures list { corners.new
@@ -98,7 +98,7 @@ pub extern "C" fn charuco_validate_marker_corner_links(
     violations: &mut [u32],
     values: &mut [u32],
 ) -> u32
-    ensures answer { Tells (links_told (check_links (spec_from rows cols bits border_bits legacy_pattern cell_size marker_size_rel) codes.now
+    ensures answer { Tells (count_told (check_links (spec_from rows cols bits border_bits legacy_pattern cell_size marker_size_rel) codes.now
         (mode_of mode)
         links.now violations.old)) result values.old values.new }
     ensures list { violations.new

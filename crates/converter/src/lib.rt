@@ -4,14 +4,12 @@
 #![tactic(auto)]
 
 ghost use Rattle.std.specs.Prelude.{◌≡◌, ℕ, ◌≤◌, length};
-ghost use Rattle.shot_record.specs.declared.Converted.TheVariants as converted;
 ghost use Rattle.place_text.specs.Text.{refusal_line};
 ghost use Rattle.place_text.specs.Writing.{Printed};
 ghost use Rattle.converter.specs.Conversions.{answer_of, list_of};
 
 use place_text::{lines, writer};
 use refusal::Refusal;
-use shot_record::Converted;
 use standard_input::Input;
 
 #[derive(Clone, Copy)]
@@ -19,10 +17,10 @@ pub enum Conversion {
     Restate,
 }
 
-fn convert(conversion: Conversion, bytes: &[u8], sheet: &mut [u8]) -> Converted
+fn convert(conversion: Conversion, bytes: &[u8], sheet: &mut [u8]) -> Result<usize, Refusal>
     ensures answer { result ≡ answer_of conversion bytes.now sheet.old }
     ensures list { sheet.new ≡ list_of conversion bytes.now sheet.old }
-    ensures room { (count : ℕ) → result ≡ converted.Written count → count ≤ length sheet.new }
+    ensures room { (count : ℕ) → result ≡ Ok count → count ≤ length sheet.new }
 {
     match conversion {
         Conversion::Restate => legacy_record::restate(bytes, sheet),
@@ -74,7 +72,7 @@ pub fn run(rt: HostRuntime, name: &[u8], conversion: Conversion) {
     let mut sheet: [u8; 65536] = [0; 65536];
     let answer = convert(conversion, &all[..end], &mut sheet);
     match answer {
-        Converted::Written(count) => put_sheet(rt, name, &sheet, count),
-        Converted::Refused(refusal) => tell_refusal(rt, refusal),
+        Ok(count) => put_sheet(rt, name, &sheet, count),
+        Err(refusal) => tell_refusal(rt, refusal),
     }
 }

@@ -18,20 +18,18 @@ use Rattle.integers.proofs.Tests.{both}
 use Rattle.grid_alignment.specs.declared.GridAlignment.{GridAlignment}
 use Rattle.board.specs.declared.Board.{Board}
 use Rattle.board.specs.declared.CharucoBoardSpec.{CharucoBoardSpec}
-use Rattle.board.specs.declared.NewBoard.TheVariants as new
 use Rattle.board.specs.Questions.{board_of, new_board}
 use Rattle.board.proofs.Asked.{made, after_made, after_refused}
 use Rattle.board.specs.Layout.{corner_count}
 use Rattle.marker_sampling.specs.Entry.{corners_answer}
 use Rattle.marker_sampling.proofs.Answered.{placed-corners}
-use Rattle.corner_mapping.specs.declared.MappedCorners.{MappedCorners}
-use Rattle.corner_mapping.specs.declared.MappedCorners.TheVariants as found
 use Rattle.lent_list.specs.Front.{at_exit, up_to, Put}
 use Rattle.lent_list.proofs.Front.{put_as, put_front, up_to_as}
 use Rattle.corner_mapping.specs.Corners.{Input, mapped_if, mapped_by, chosen, mapped, words_of_corners}
 use Rattle.corner_mapping.specs.Entry.{corner_range_answer, asked_from18, input, corners_refused_by, answered_by, mapped_on, list_on, map_corners, map_corners_list}
 use Rattle.corner_mapping.specs.Inner.{InputInRange, stored, ChoicesHeld}
 use Rattle.corner_mapping.proofs.Writing.{words-length, enough}
+use Rattle.std.specs.Prelude.{Result, Ok, Err}
 
 module _ (x : Input) where
   abbrev pub count : ℕ
@@ -53,34 +51,34 @@ module _ (x : Input) where
     unfolding asked_from18
     asked a b e f = ap₂ (λ (p q : Bool). ask p refusal.CornersOutOfRange (ask q refusal.ListTooShort none)) e f
 
-    pub refused : (r : Refusal) → asked_from18 x (length lent) ≡ some r → (found.Refused r ≡ mapped_on x lent) × (lent ≡ list_on x lent)
+    pub refused : (r : Refusal) → asked_from18 x (length lent) ≡ some r → (Err r ≡ mapped_on x lent) × (lent ≡ list_on x lent)
     refused r e =
         (sym (ap (λ (o : Option Refusal). answered_by o x) e), sym (ap (λ (o : Option Refusal). at_exit o (words_of_corners x.board (mapped x)) lent) e))
 
     -- the choices among all corners, written
     pub mapped_all : (end : ℕ) (choices after : List ℕ) → asked_from18 x (length lent) ≡ none → 6 * count ≤ length lent → count ≤ 1024
         → ChoicesHeld x (length x.scores) choices → Put lent after 0 end (words_of_corners x.board (up_to (mapped_by (stored choices)) count))
-        → (found.Mapped (end / 6) ≡ mapped_on x lent) × (after ≡ list_on x lent)
+        → (Ok (end / 6) ≡ mapped_on x lent) × (after ≡ list_on x lent)
     mapped_all end choices after e room few h p =
         let same : up_to (mapped_by (stored choices)) count ≡ mapped x =
         up_to_as (mapped_by (stored choices)) (mapped_by (chosen x)) count (λ id i. ap (mapped_if id) (h.at id (omega (arith, i, few)))) in
         let q = put_as (ap (words_of_corners x.board) same) p in
         let size : end / 6 ≡ length (mapped x) = omega (arith, q.end, words-length x.board (mapped x)) in
         let fits : end ≤ length lent = omega (arith, q.end, enough x.board (chosen x) count, room) in (
-          ap found.Mapped size ∙ sym (ap (λ (o : Option Refusal). answered_by o x) e),
+          ap Ok size ∙ sym (ap (λ (o : Option Refusal). answered_by o x) e),
           put_front fits q ∙ sym (ap (λ (o : Option Refusal). at_exit o (words_of_corners x.board (mapped x)) lent) e),
         )
 
 -- ---- the board's questions
 -- a board that was made is small
-pub small-board : (spec : CharucoBoardSpec) (codes : List ℕ) (b : Board) → new_board spec codes ≡ new.Made b → (b.rows ≤ 32) × (b.cols ≤ 32)
+pub small-board : (spec : CharucoBoardSpec) (codes : List ℕ) (b : Board) → new_board spec codes ≡ Ok b → (b.rows ≤ 32) × (b.cols ≤ 32)
 small-board spec codes b e =
     let q = made spec codes b e in
     let r = q.0.sized.in_range in
     rw q.1 (r.rows, r.cols)
 
 module _ (spec : CharucoBoardSpec) (codes : List ℕ) (scores : List Float) (grid : List ℤ) (a : GridAlignment) (lent : List ℕ) where
-  abbrev Promised : MappedCorners → List ℕ → Type 0
+  abbrev Promised : Result ℕ Refusal → List ℕ → Type 0
   Promised r after = (r ≡ map_corners spec codes scores grid a lent) × (after ≡ map_corners_list spec codes scores grid a lent)
 
   abbrev from : Input
@@ -90,7 +88,7 @@ module _ (spec : CharucoBoardSpec) (codes : List ℕ) (scores : List Float) (gri
       → Promised (answered_by o from) (at_exit o (words_of_corners (board_of spec) (mapped from)) lent)
   by o e = (ap (λ (q : Option Refusal). answered_by q from) e, ap (λ (q : Option Refusal). at_exit q (words_of_corners (board_of spec) (mapped from)) lent) e)
 
-  pub on-board : (b : Board) (r : MappedCorners) (after : List ℕ) → new_board spec codes ≡ new.Made b → r ≡ mapped_on (input b a scores grid) lent
+  pub on-board : (b : Board) (r : Result ℕ Refusal) (after : List ℕ) → new_board spec codes ≡ Ok b → r ≡ mapped_on (input b a scores grid) lent
       → after ≡ list_on (input b a scores grid) lent → Promised r after
   on-board b r after e f g =
       let is = (made spec codes b e).1 in
@@ -99,5 +97,5 @@ module _ (spec : CharucoBoardSpec) (codes : List ℕ) (scores : List Float) (gri
         g ∙ ap (λ (c : Board). list_on (input c a scores grid) lent) is ∙ p.1,
       )
 
-  pub no_board : (r : Refusal) → new_board spec codes ≡ new.Refused r → Promised (found.Refused r) lent
+  pub no_board : (r : Refusal) → new_board spec codes ≡ Err r → Promised (Err r) lent
   no_board r e = by (some r) (sym (after_refused spec codes (asked_from18 from (length lent)) r e))

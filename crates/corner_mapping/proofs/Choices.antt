@@ -2,7 +2,7 @@
 use mathlib.Core.Path.{◌≡◌, refl, sym, ap, ◌∙◌}
 use mathlib.Core.Bool.{Bool, true, false, ◌&&◌}
 use mathlib.Core.List.{List}
-use mathlib.Core.Option.{Option, some}
+use mathlib.Core.Option.{Option as Maybe, some}
 use Prim.Native.Nat.{ℕ, zero, suc, ◌+◌, ◌-◌, ◌≤◌, ◌<◌}
 use native.Mathlib.Numerals.{add-one}
 use native.Mathlib.Omega.{arith}
@@ -11,14 +11,13 @@ use lib.Ieee.{Float, lt}
 use lib.ListN.{set, replicate, length-set, length-replicate, get_or-replicate}
 use lib.Seq.{get_or-set_same, get_or-set_other}
 use borrow.Author.Tests.{eqb-true, eqb-false, eq-eqb}
-use Rattle.board.specs.declared.Numbered.{Numbered}
-use Rattle.board.specs.declared.Numbered.TheVariants as numbered
 use Rattle.corner_mapping.specs.Corners.{Input, id_of, is_id, bears, score_of, greater, replaced, chosen_to}
 use Rattle.corner_mapping.specs.Inner.{choice_of, stored, ChoicesHeld}
+use Rattle.std.specs.Prelude.{Option, Some, None}
 
 -- ---- corner k against an earlier choice
 module _ (scores : List Float) (k : ℕ) where
-  abbrev next : ℕ → Option ℕ
+  abbrev next : ℕ → Maybe ℕ
   next c = replaced (greater scores (choice_of c) k) k (choice_of c)
 
   before : (c : ℕ) (b : Bool) → lt (score_of scores (suc c - 1)) (score_of scores k) ≡ b → lt (score_of scores c) (score_of scores k) ≡ b
@@ -38,7 +37,7 @@ module _ (scores : List Float) (k : ℕ) where
 
 -- ---- the choices stored
 module _ (x : Input) where
-  abbrev id_at : ℕ → Numbered
+  abbrev id_at : ℕ → Option ℕ
   id_at k = id_of x.board x.alignment x.grid k
 
   -- a choice is among the first n corners
@@ -71,12 +70,12 @@ module _ (x : Input) where
   chosen-first = record { at = λ id h. ap choice_of (get_or-replicate {A = ℕ} 1024 id 0 0 h); long = length-replicate {A = ℕ} 1024 0 }
 
   module _ (k : ℕ) (choices : List ℕ) (h : ChoicesHeld x k choices) where
-    pub chosen-same : id_at k ≡ numbered.Absent → ChoicesHeld x (k + 1) choices
+    pub chosen-same : id_at k ≡ None → ChoicesHeld x (k + 1) choices
     chosen-same e =
         rw (add-one k)
-        (record { at = λ id l. h.at id l ∙ sym (passed k id (ap (λ (n : Numbered). is_id n id) e)); long = h.long })
+        (record { at = λ id l. h.at id l ∙ sym (passed k id (ap (λ (n : Option ℕ). is_id n id) e)); long = h.long })
 
-    pub chosen_more : (m c : ℕ) → id_at k ≡ numbered.Id m → m < 1024
+    pub chosen_more : (m c : ℕ) → id_at k ≡ Some m → m < 1024
         → choice_of c ≡ replaced (greater x.scores (stored choices m) k) k (stored choices m) → ChoicesHeld x (k + 1) (set choices m c)
     chosen_more m c e l q =
         rw (add-one k)
@@ -85,10 +84,10 @@ module _ (x : Input) where
         go : (id : ℕ) → id < 1024 → (b : Bool) → eqb m id ≡ b → stored (set choices m c) id ≡ chosen_to x id (suc k)
         go id f true t =
             let same : m ≡ id = eqb-true m id t in
-            let here : bears x k m ≡ true = ap (λ (n : Numbered). is_id n m) e ∙ eq-eqb m m refl in
+            let here : bears x k m ≡ true = ap (λ (n : Option ℕ). is_id n m) e ∙ eq-eqb m m refl in
             ap (stored (set choices m c)) (sym same) ∙ ap choice_of (get_or-set_same choices m c 0 (omega (arith, h.long, l))) ∙ q
-            ∙ ap (λ (o : Option ℕ). replaced (greater x.scores o k) k o) (h.at m l) ∙ sym (met k m here)
+            ∙ ap (λ (o : Maybe ℕ). replaced (greater x.scores o k) k o) (h.at m l) ∙ sym (met k m here)
             ∙ ap (λ (i : ℕ). chosen_to x i (suc k)) same
         go id f false t =
             ap choice_of (get_or-set_other choices m id c 0 (λ r. eqb-false m id t (sym r))) ∙ h.at id f
-            ∙ sym (passed k id (ap (λ (n : Numbered). is_id n id) e ∙ t))
+            ∙ sym (passed k id (ap (λ (n : Option ℕ). is_id n id) e ∙ t))

@@ -11,14 +11,13 @@ use mir.Syntax.{w16}
 use mir.Val.{SFits}
 use Rattle.grid_alignment.specs.declared.GridAlignment.{GridAlignment}
 use Rattle.board.specs.declared.Board.{Board}
-use Rattle.board.specs.declared.Numbered.{Numbered}
-use Rattle.board.specs.declared.Numbered.TheVariants as numbered
 use Rattle.board.specs.Numbering.{number_at, number_atℤ}
 use Rattle.board.specs.Layout.{inner, corner_count}
 use Rattle.board.proofs.Corners.{corner-total}
 use Rattle.board.proofs.Laws.{corners}
 use Rattle.marker_sampling.specs.Cells.{labelled, corners_of}
 use Rattle.corner_mapping.specs.Corners.{board_corner, id_at, id_of}
+use Rattle.std.specs.Prelude.{Option, Some, None}
 
 -- a small number fits 16 bits
 pub half-fits : (z : ℤ) → nat_abs z < 2 ^ 15 → SFits w16 z
@@ -31,12 +30,12 @@ pub record Placed (t : ℕ → ℕ → Bool) (w h : ℕ) (u v : ℤ) (id : ℕ) 
   pub j : ℕ
   pub u-is : u ≡ pos i
   pub v-is : v ≡ pos j
-  pub number : number_at t w h i j ≡ numbered.Id id
+  pub number : number_at t w h i j ≡ Some id
 
-absent_not : {id : ℕ} {P : Type 0} → numbered.Absent ≡ numbered.Id id → P
+absent_not : {id : ℕ} {P : Type 0} → None ≡ Some id → P
 absent_not e = let z : ◌≡◌ {A = ℕ} 0 1 = cc in absurd (omega arith)
 
-pub placed_at : (t : ℕ → ℕ → Bool) (w h : ℕ) (u v : ℤ) (id : ℕ) → number_atℤ t w h u v ≡ numbered.Id id → Placed t w h u v id
+pub placed_at : (t : ℕ → ℕ → Bool) (w h : ℕ) (u v : ℤ) (id : ℕ) → number_atℤ t w h u v ≡ Some id → Placed t w h u v id
 unfolding number_atℤ
 placed_at t w h (pos i) (pos j) id e = record { i = i; j = j; u-is = refl; v-is = refl; number = e }
 placed_at t w h (pos i) (negsuc j) id e = absent_not e
@@ -52,31 +51,31 @@ module _ (b : Board) (a : GridAlignment) (grid : List ℤ) (k : ℕ) where
   abbrev label : Bool
   label = labelled (corners_of 0 grid) k
 
-  abbrev there : Numbered
+  abbrev there : Option ℕ
   there = id_at b (board_corner a grid k)
 
-  pub no_point : label ≡ false → numbered.Absent ≡ id_of b a grid k
+  pub no_point : label ≡ false → None ≡ id_of b a grid k
   unfolding id_of
-  no_point e = sym (ap (λ (l : Bool). cond l there numbered.Absent) e)
+  no_point e = sym (ap (λ (l : Bool). cond l there None) e)
 
   pub at-point : label ≡ true → there ≡ id_of b a grid k
   unfolding id_of
-  at-point e = sym (ap (λ (l : Bool). cond l there numbered.Absent) e)
+  at-point e = sym (ap (λ (l : Bool). cond l there None) e)
 
   pub record Has (id : ℕ) : Type 0 where
     pub has-point : label ≡ true
-    pub corner : there ≡ numbered.Id id
+    pub corner : there ≡ Some id
 
-  pub has : (id : ℕ) → id_of b a grid k ≡ numbered.Id id → Has id
+  pub has : (id : ℕ) → id_of b a grid k ≡ Some id → Has id
   unfolding id_of
   has id e = go label refl e
     where
-      go : (l : Bool) → label ≡ l → cond l there numbered.Absent ≡ numbered.Id id → Has id
+      go : (l : Bool) → label ≡ l → cond l there None ≡ Some id → Has id
       go true q f = record { has-point = q; corner = f }
       go false q f = absent_not f
 
-  pub on-corner : (id : ℕ) → id_of b a grid k ≡ numbered.Id id → Placed inner b.cols b.rows (board_corner a grid k).u (board_corner a grid k).v id
+  pub on-corner : (id : ℕ) → id_of b a grid k ≡ Some id → Placed inner b.cols b.rows (board_corner a grid k).u (board_corner a grid k).v id
   on-corner id e = placed_at inner b.cols b.rows (board_corner a grid k).u (board_corner a grid k).v id (has id e).corner
 
-  pub id_below : (id : ℕ) → id_of b a grid k ≡ numbered.Id id → id < corner_count b.rows b.cols
+  pub id_below : (id : ℕ) → id_of b a grid k ≡ Some id → id < corner_count b.rows b.cols
   id_below id e = let n = on-corner id e in (corners b.rows b.cols).below n.i n.j id n.number

@@ -3,7 +3,7 @@
 use mathlib.Core.Path.{◌≡◌, refl, sym, ap, ap₂, subst, ◌∙◌}
 use mathlib.Core.Bool.{true, false≢true, ◌&&◌, cond}
 use mathlib.Core.List.{[], ◌∷◌}
-use mathlib.Core.Option.{Option, none, some}
+use mathlib.Core.Option.{Option as Maybe, none, some}
 use Prim.Native.Nat.{ℕ, ◌+◌, ◌*◌}
 use native.Mathlib.Nat.{add-zero, mod-mod}
 use native.Mathlib.Numerals.{add-one}
@@ -17,9 +17,6 @@ use Rattle.matcher.proofs.Turns.{each_turn}
 use Rattle.grid_alignment.specs.Alignment.{point, applied, corner, corner_alignment}
 use Rattle.grid_alignment.proofs.Entries.{small-corners}
 use Rattle.grid_alignment.proofs.Laws.{corners-land}
-use Rattle.board.specs.declared.Numbered.{Numbered}
-use Rattle.board.specs.declared.Numbered.TheVariants as numbered
-use Rattle.board.specs.declared.Located.TheVariants as located
 use Rattle.board.specs.Numbering.{number_at, number_atℤ}
 use Rattle.board.specs.Layout.{holds_marker, parity_of, inner, corner_at, corner_count, scaled_point}
 use Rattle.board.proofs.Laws.{markers, corners, Four, four_are}
@@ -33,6 +30,7 @@ use Rattle.corner_mapping.specs.Rules.{CornersOfCell, of_four, CornersOfMarker, 
 use Rattle.corner_mapping.proofs.Ids.{placed_at, at-point, on-corner}
 use Rattle.corner_mapping.proofs.Writing.{words_are}
 use Rattle.corner_mapping.proofs.Greatest.{none_before, greatest_to_lem}
+use Rattle.std.specs.Prelude.{Option, Some, None}
 
 -- ---- the choice
 pub chosen_greatest : ChosenGreatest
@@ -51,14 +49,14 @@ results_in_order x =
     count : ℕ
     count = corner_count x.board.rows x.board.cols
 
-    one : (id : ℕ) (o : Option ℕ) → cond (held o) (record { id = id; index = index o } ∷ []) [] ≡ mapped_if id o
+    one : (id : ℕ) (o : Maybe ℕ) → cond (held o) (record { id = id; index = index o } ∷ []) [] ≡ mapped_if id o
     one id none = refl
     one id (some k) = refl
 
 -- ---- the board corner of a result
-is_id_lem : (n : Numbered) (id : ℕ) → is_id n id ≡ true → n ≡ numbered.Id id
-is_id_lem (numbered.Id m) id e = ap numbered.Id (eqb-true m id e)
-is_id_lem numbered.Absent id e = absurd (false≢true e)
+is_id_lem : (n : Option ℕ) (id : ℕ) → is_id n id ≡ true → n ≡ Some id
+is_id_lem (Some m) id e = ap Some (eqb-true m id e)
+is_id_lem None id e = absurd (false≢true e)
 
 pub board_corners_named : BoardCornersNamed
 unfolding number_atℤ
@@ -72,7 +70,7 @@ board_corners_named x id k e =
       there = ap₂ point n.u-is n.v-is;
       has_id = n.number;
       of_id = place;
-      told = sym (words_are b id k (located.At n.i n.j) (scaled_point b.cell_size (located.At n.i n.j)) (sym place)
+      told = sym (words_are b id k (Some n.i n.j) (scaled_point b.cell_size (Some n.i n.j)) (sym place)
           (ap (scaled_point b.cell_size) (sym place)));
     }
 
@@ -84,11 +82,11 @@ corners_of-cell board cells grid n p k l g =
 
 -- corner t of square (i, j), if its four are inner
 at-four : (rows cols i j a b c d t : ℕ) → Four rows cols i j a b c d
-    → corner_at rows cols (corner t (point (pos i) (pos j))).u (corner t (point (pos i) (pos j))).v ≡ numbered.Id (of_four a b c d t)
+    → corner_at rows cols (corner t (point (pos i) (pos j))).u (corner t (point (pos i) (pos j))).v ≡ Some (of_four a b c d t)
 unfolding corner number_atℤ
 at-four rows cols i j a b c d t f =
     let at = point (pos i) (pos j) in
-    let corner_has : ℕ → Type 0 = λ m. corner_at rows cols (corner m at).u (corner m at).v ≡ numbered.Id (of_four a b c d m) in
+    let corner_has : ℕ → Type 0 = λ m. corner_at rows cols (corner m at).u (corner m at).v ≡ Some (of_four a b c d m) in
     rw (mod-mod t 4) at
     (each_turn corner_has f.top_left (ap₂ (number_at inner cols rows) (add-one i) (add-zero j) ∙ f.top_right)
     (ap₂ (number_at inner cols rows) (add-one i) (add-one j) ∙ f.bottom_right)

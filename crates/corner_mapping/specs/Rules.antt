@@ -1,5 +1,5 @@
 -- The laws that `proofs/Laws.antt` proves of the definitions, for every input.
-use Rattle.std.specs.Prelude.{ℕ, ◌+◌, ◌*◌, ◌<◌, ◌≡◌, true, false, List, [], ◌∷◌, ℤ, pos, length, Float}
+use Rattle.std.specs.Prelude.{ℕ, ◌+◌, ◌*◌, ◌<◌, ◌≡◌, true, false, List, [], ◌∷◌, ℤ, pos, length, Float, Some}
 use Rattle.std.proofs.Math.Option.{none, some}
 use Rattle.std.specs.Float.{binary32}
 use Rattle.std.specs.Float.Ieee.{to_bits, mul, of_int, lt}
@@ -8,15 +8,13 @@ use Rattle.grid_alignment.specs.declared.GridAlignment.{GridAlignment}
 use Rattle.matcher.specs.Codes.{by_turn}
 use Rattle.grid_alignment.specs.Alignment.{point, applied, corner, corner_alignment, SmallAlignment}
 use Rattle.board.specs.declared.Board.{Board}
-use Rattle.board.specs.declared.Numbered.TheVariants as numbered
-use Rattle.board.specs.declared.Located.TheVariants as located
-use Rattle.board.specs.declared.Surrounding.TheVariants as surrounding
-use Rattle.board.specs.Layout.{marker_on, corner_at, corner_place, corner_count, surrounding_corners}
+use Rattle.board.specs.Layout.{marker_on, corner_at, corner_place, corner_count, surrounding_corners, surrounding}
 use Rattle.marker_sampling.specs.Cells.{held, index, labelled, corners_of}
 use Rattle.marker_sampling.specs.Entry.{finite_scores}
 use Rattle.marker_sampling.specs.Rules.{PassingInOrder}
 use Rattle.corner_mapping.specs.Corners.{Input, MappedCorner, grid_point, board_corner, id_at, id_of, bears, score_of, chosen, mapped, corner_words}
 use Rattle.corner_mapping.specs.Entry.{alignment_answer}
+use Rattle.board.specs.Numbering.{position}
 
 -- Of the first n corners, k has the id, none that has it has a greater score, and each earlier one that has it has a lesser one.
 pub record GreatestScore (x : Input) (id n k : ℕ) : Type 0 where
@@ -48,8 +46,8 @@ pub record Named (x : Input) (id k : ℕ) : Type 0 where
   pub i : ℕ
   pub j : ℕ
   pub there : board_corner x.alignment x.grid k ≡ point (pos i) (pos j)
-  pub has_id : corner_at x.board.rows x.board.cols (pos i) (pos j) ≡ numbered.Id id
-  pub of_id : corner_place x.board.rows x.board.cols id ≡ located.At i j
+  pub has_id : corner_at x.board.rows x.board.cols (pos i) (pos j) ≡ Some id
+  pub of_id : corner_place x.board.rows x.board.cols id ≡ Some (position i j)
   pub told : corner_words x.board (record { id = id; index = k }) ≡ id ∷ k ∷ i ∷ j ∷ along x.board.cell_size i ∷ along x.board.cell_size j ∷ []
 
 abbrev pub BoardCornersNamed : Type 0
@@ -74,9 +72,9 @@ CornersOfMarker =
     (board : Board) (cells : GridAlignment) (grid : List ℤ) (n : ℕ) (p : Coord) (k m a b c d : ℕ) →
     labelled (corners_of 0 grid) n ≡ true →
     grid_point grid n ≡ corner k p →
-    marker_on board (applied cells p).u (applied cells p).v ≡ numbered.Id m →
-    surrounding_corners board m ≡ surrounding.Corners a b c d →
-    id_of board (corner_alignment cells) grid n ≡ numbered.Id (of_four a b c d (k + 3 * cells.turn))
+    marker_on board (applied cells p).u (applied cells p).v ≡ Some m →
+    surrounding_corners board m ≡ Some (surrounding a b c d) →
+    id_of board (corner_alignment cells) grid n ≡ Some (of_four a b c d (k + 3 * cells.turn))
 
 -- the corner alignment of every cell alignment with a turn from 0 to 3 and a translation from −8,191 to 8,191 passes question 18
 abbrev pub CornerAlignmentPasses : Type 0

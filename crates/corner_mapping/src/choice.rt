@@ -4,18 +4,18 @@ ghost use Rattle.corner_mapping.specs.Corners.{id_of, greater, replaced};
 ghost use Rattle.corner_mapping.specs.Entry.{input};
 ghost use Rattle.corner_mapping.specs.Inner.{InputInRange, NearCorner, choice_of, ChoicesHeld};
 
-use board::{Board, Numbered};
+use board::Board;
 use grid_alignment::{GridAlignment, alignments};
 use marker_sampling::questions;
 
 // The id of the inner corner to which the alignment maps input corner k.
-fn id_of(board: Board, alignment: GridAlignment, grid: &[i32], k: usize) -> Numbered
+fn id_of(board: Board, alignment: GridAlignment, grid: &[i32], k: usize) -> Option<u32>
     requires tx_bound { (nat_abs alignment.tx ≤ 8192) × (nat_abs alignment.ty ≤ 8192) }
     requires k_bound { (k < 1024) × NearCorner grid.now k }
     ensures { result ≡ id_of board alignment grid.now k }
 {
     if !questions::labelled(grid, k) {
-        return Numbered::Absent;
+        return None;
     }
     let u = questions::word(grid, 3 * k + 1) as i16;
     let v = questions::word(grid, 3 * k + 2) as i16;
@@ -51,13 +51,9 @@ fn choose_next(
         × ChoicesHeld (input board alignment scores.now grid.now) k choices.old }
     ensures { ChoicesHeld (input board alignment scores.now grid.now) (k + 1) choices.new }
 {
-    let found = id_of(board, alignment, grid, k);
-    match found {
-        Numbered::Id(id) => {
-            let at = id as usize;
-            choices[at] = better(scores, choices[at], k);
-        }
-        Numbered::Absent => {}
+    if let Some(id) = id_of(board, alignment, grid, k) {
+        let at = id as usize;
+        choices[at] = better(scores, choices[at], k);
     }
 }
 

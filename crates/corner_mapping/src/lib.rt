@@ -8,17 +8,10 @@ ghost use Rattle.corner_mapping.specs.Entry.{alignment_answer, corner_range_answ
 mod choice;
 mod words;
 
-use board::{Board, CharucoBoardSpec, NewBoard};
+use board::{Board, CharucoBoardSpec};
 use grid_alignment::GridAlignment;
 use marker_sampling::questions;
 use refusal::Refusal;
-
-// The number of corners mapped.
-#[derive(Clone, Copy)]
-pub enum MappedCorners {
-    Mapped(usize),
-    Refused(Refusal),
-}
 
 // Question 18 of the alignment: turn 0 to 3, translation from −8,192 to 8,192?
 fn alignment_in_range(alignment: GridAlignment) -> bool
@@ -50,24 +43,25 @@ fn map_onto(
     grid: &[i32],
     alignment: GridAlignment,
     corners: &mut [u32],
-) -> MappedCorners
+) -> Result<usize, Refusal>
     requires { (board.rows ≤ 32) × (board.cols ≤ 32) }
     ensures answer { result ≡ mapped_on (input board alignment scores.now grid.now) corners.old }
     ensures list { corners.new ≡ list_on (input board alignment scores.now grid.now) corners.old }
 {
     if !in_range(scores, grid, alignment) {
-        return MappedCorners::Refused(Refusal::CornersOutOfRange);
+        return Err(Refusal::CornersOutOfRange);
     }
     let count = board.corner_count() as usize;
     if corners.len() < 6 * count {
-        return MappedCorners::Refused(Refusal::ListTooShort);
+        return Err(Refusal::ListTooShort);
     }
     let choices = choice::choose(board, alignment, scores, grid);
     let end = words::put_all(board, &choices, corners);
-    MappedCorners::Mapped(end / 6)
+    Ok(end / 6)
 }
 
-// Writes the mapped inner corners by increasing id, six words each, to the start of the output array; on a refusal it is unchanged.
+// Writes the mapped inner corners by increasing id, six words each, to the start of the output array, and returns their number; on a refusal the
+// array is unchanged.
 // `alignment` is that of the corners.
 pub fn map_charuco_corners(
     spec: CharucoBoardSpec,
@@ -76,14 +70,11 @@ pub fn map_charuco_corners(
     grid: &[i32],
     alignment: GridAlignment,
     corners: &mut [u32],
-) -> MappedCorners
+) -> Result<usize, Refusal>
     ensures answer { result ≡ map_corners spec codes.now scores.now grid.now alignment corners.old }
     ensures list { corners.new
         ≡ map_corners_list spec codes.now scores.now grid.now alignment corners.old }
 {
-    let made = Board::new(spec, codes);
-    match made {
-        NewBoard::Made(board) => map_onto(board, scores, grid, alignment, corners),
-        NewBoard::Refused(refusal) => MappedCorners::Refused(refusal),
-    }
+    let board = Board::new(spec, codes)?;
+    map_onto(board, scores, grid, alignment, corners)
 }

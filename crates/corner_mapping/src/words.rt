@@ -5,7 +5,7 @@ ghost use Rattle.board.specs.Layout.{corner_count};
 ghost use Rattle.corner_mapping.specs.Corners.{mapped_if, mapped_by, corner_words, words_of_corners};
 ghost use Rattle.corner_mapping.specs.Inner.{choice_of, stored};
 
-use board::{Board, Located, ObjectPoint};
+use board::Board;
 
 // The words of an id and the index of its chosen corner.
 fn corner_words(board: Board, id: u32, index: u32) -> [u32; 6]
@@ -13,13 +13,11 @@ fn corner_words(board: Board, id: u32, index: u32) -> [u32; 6]
 {
     let place = board.board_corner(id);
     let target = board.charuco_object_xy(id);
-    match place {
-        Located::At { i, j } => match target {
-            ObjectPoint::At { x, y } => [id, index, i, j, floats::to_bits(x), floats::to_bits(y)],
-            ObjectPoint::Absent => [id, index, i, j, 0, 0],
-        },
+    match (place, target) {
+        (Some(p), Some(q)) => [id, index, p.i, p.j, floats::to_bits(q.x), floats::to_bits(q.y)],
+        (Some(p), None) => [id, index, p.i, p.j, 0, 0],
         // No result has such an id: law `board-corners-named`.
-        Located::Absent => [id, index, 0, 0, 0, 0],
+        (None, _) => [id, index, 0, 0, 0, 0],
     }
 }
 

@@ -3,7 +3,7 @@ use mathlib.Core.Path.{◌≡◌, refl, sym, ap, ap₂, subst, ◌∙◌}
 use mathlib.Core.Bool.{Bool, true, false, ◌&&◌, cond}
 use mathlib.Core.List.{List, [], ◌∷◌, ◌++◌, append-nil, append_assoc, flat_map}
 use mathlib.Core.Logic.{◌⊎◌, inl, inr}
-use mathlib.Core.Option.{Option, none, some}
+use mathlib.Core.Option.{Option as Maybe, none, some}
 use Prim.Native.Nat.{ℕ, zero, suc, ◌+◌, ◌*◌, ◌≤◌, ◌<◌}
 use native.Mathlib.Omega.{arith}
 use lib.IntN.{pos}
@@ -17,8 +17,6 @@ use Rattle.lent_list.specs.Front.{up_to}
 use Rattle.grid_alignment.specs.declared.GridAlignment.{GridAlignment}
 use Rattle.grid_alignment.specs.Alignment.{point, applied}
 use Rattle.grid_alignment.proofs.Laws.{applied-once}
-use Rattle.board.specs.declared.Numbered.{Numbered}
-use Rattle.board.specs.declared.Numbered.TheVariants as numbered
 use Rattle.board.specs.Layout.{parity_of}
 use Rattle.board.proofs.Laws.{id-once}
 use Rattle.score_matrix.specs.Scores.{evidence as evidence_of}
@@ -27,6 +25,7 @@ use Rattle.hypothesis.specs.Placements.{cell_total, cell, cell_point}
 use Rattle.hypothesis.specs.Evidence.{table_of, code_of, weight_with, samples_with, board_in, expected}
 use Rattle.emit.specs.Markers.{Marker, marker_of, emitted_with, emitted, markers, marker_words, id_in}
 use Rattle.emit.proofs.Laws.{words-length}
+use Rattle.std.specs.Prelude.{Option, Some, None}
 
 -- after the last marker
 no_marker : Marker
@@ -50,16 +49,16 @@ id_word_lem (m ∷ ms) rest (suc i) h =
 module _ (s : Shot) (p : GridAlignment) where
   -- ---- an emitted marker is expected in its cell, and cells are in ascending order
   record OfCells (ms : List Marker) (n : ℕ) : Type 0 where
-    is-expected : (i : ℕ) → i < length ms → ((at ms i).cell < n) × (expected s p (at ms i).cell ≡ numbered.Id (at ms i).id)
+    is-expected : (i : ℕ) → i < length ms → ((at ms i).cell < n) × (expected s p (at ms i).cell ≡ Some (at ms i).id)
     rise : (i j : ℕ) → i < j → j < length ms → (at ms i).cell < (at ms j).cell
 
   -- one marker of cell n after those of the cells before
-  module _ (ms : List Marker) (n : ℕ) (o : OfCells ms n) (m : Marker) (c : m.cell ≡ n) (e : expected s p n ≡ numbered.Id m.id) where
+  module _ (ms : List Marker) (n : ℕ) (o : OfCells ms n) (m : Marker) (c : m.cell ≡ n) (e : expected s p n ≡ Some m.id) where
     abbrev more : List Marker
     more = ms ++ m ∷ []
 
     abbrev Expected : Marker → Type 0
-    Expected x = (x.cell < suc n) × (expected s p x.cell ≡ numbered.Id x.id)
+    Expected x = (x.cell < suc n) × (expected s p x.cell ≡ Some x.id)
 
     long : length more ≡ length ms + 1
     long = length-append ms (m ∷ [])
@@ -89,7 +88,7 @@ module _ (s : Shot) (p : GridAlignment) where
       subst (λ (xs : List Marker). OfCells xs (suc n)) (sym (append-nil ms))
       (record { is-expected = λ i h. let q = o.is-expected i h in (omega (arith, q.0), q.1); rise = o.rise })
 
-  if_passed : (ms : List Marker) (n : ℕ) → OfCells ms n → (b : Bool) (m : Marker) → m.cell ≡ n → expected s p n ≡ numbered.Id m.id
+  if_passed : (ms : List Marker) (n : ℕ) → OfCells ms n → (b : Bool) (m : Marker) → m.cell ≡ n → expected s p n ≡ Some m.id
       → OfCells (ms ++ cond b (m ∷ []) []) (suc n)
   if_passed ms n o true m c e = one_behind ms n o m c e
   if_passed ms n o false m c e = none_behind ms n o
@@ -98,10 +97,10 @@ module _ (s : Shot) (p : GridAlignment) where
   unfolding emitted
   one_cell ms n o = go (cell s n).sample (expected s p n) refl
     where
-      go : (x : Option Sample) (q : Numbered) → expected s p n ≡ q → OfCells (ms ++ emitted_with s p n x q) (suc n)
+      go : (x : Maybe Sample) (q : Option ℕ) → expected s p n ≡ q → OfCells (ms ++ emitted_with s p n x q) (suc n)
       go none q e = none_behind ms n o
-      go (some x) numbered.Absent e = none_behind ms n o
-      go (some x) (numbered.Id m) e =
+      go (some x) None e = none_behind ms n o
+      go (some x) (Some m) e =
           if_passed ms n o
           (lt nought (weight_with s (some x)) && lt nought (evidence_of (table_of s) (samples_with s (some x)) (code_of s p.turn m)))
           (marker_of s p n x m) refl e
@@ -124,5 +123,5 @@ module _ (s : Shot) (p : GridAlignment) where
       let d = (at (markers s p) j).cell in
       let x = applied p (cell_point s c) in
       let y = applied p (cell_point s d) in
-      let same = id-once (parity_of (board_in s)) s.rows s.cols x.u x.v y.u y.v (at (markers s p) j).id (a.1 ∙ ap numbered.Id e) b.1 in
+      let same = id-once (parity_of (board_in s)) s.rows s.cols x.u x.v y.u y.v (at (markers s p) j).id (a.1 ∙ ap Some e) b.1 in
       apart c d (o.rise i j l h) b.0 (applied-once p (cell_point s c) (cell_point s d) (ap₂ point same.0 same.1))

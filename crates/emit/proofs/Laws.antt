@@ -3,7 +3,7 @@
 use mathlib.Core.Path.{◌≡◌, refl}
 use mathlib.Core.Bool.{Bool, true, false, ◌&&◌, cond}
 use mathlib.Core.List.{List, [], ◌∷◌, flat_map}
-use mathlib.Core.Option.{Option, none, some}
+use mathlib.Core.Option.{Option as Maybe, none, some}
 use Prim.Native.Nat.{ℕ, zero, suc, ◌*◌, ◌≤◌, ◌<◌}
 use native.Mathlib.Omega.{arith}
 use lib.ListN.{length, length-append}
@@ -12,17 +12,14 @@ use Rattle.floats.specs.Units.{nought}
 use Rattle.lent_list.specs.Front.{up_to}
 use Rattle.lent_list.proofs.Front.{up_to-most, flat_map_length}
 use Rattle.grid_alignment.specs.declared.GridAlignment.{GridAlignment}
-use Rattle.board.specs.declared.Numbered.{Numbered}
-use Rattle.board.specs.declared.Numbered.TheVariants as numbered
 use Rattle.score_matrix.specs.Scores.{evidence as evidence_of}
 use Rattle.shot_record.specs.Shots.{Sample, Shot}
-use Rattle.ranking.specs.declared.Evidence.{Evidence}
-use Rattle.ranking.specs.declared.Evidence.TheVariants as evidence
 use Rattle.hypothesis.specs.Placements.{cell_total, cell}
 use Rattle.hypothesis.specs.Evidence.{table_of, code_of, weight_with, samples_with, expected, reported}
 use Rattle.hypothesis.specs.Rules.{Contributes}
 use Rattle.hypothesis.proofs.Contributing.{none_rule}
 use Rattle.emit.specs.Markers.{Marker, marker_of, emitted_with, emitted, markers, marker_words}
+use Rattle.std.specs.Prelude.{Option, Some, None}
 
 -- ---- the number of words
 pub words-length : (m : Marker) → length (marker_words m) ≡ 18
@@ -42,10 +39,10 @@ module _ (s : Shot) (p : GridAlignment) where
   unfolding emitted
   one_in_cell k = go (cell s k).sample (expected s p k)
     where
-      go : (o : Option Sample) (q : Numbered) → length (emitted_with s p k o q) ≤ 1
+      go : (o : Maybe Sample) (q : Option ℕ) → length (emitted_with s p k o q) ≤ 1
       go none q = omega arith
-      go (some x) numbered.Absent = omega arith
-      go (some x) (numbered.Id m) =
+      go (some x) None = omega arith
+      go (some x) (Some m) =
           let w = weight_with s (some x) in
           let y = samples_with s (some x) in
           at_most_one (lt nought w && lt nought (evidence_of (table_of s) y (code_of s p.turn m))) (marker_of s p k x m)
@@ -63,10 +60,10 @@ module _ (s : Shot) (p : GridAlignment) where
   unfolding emitted
   contributes k inside h = go (cell s k).sample refl (expected s p k) refl h
     where
-      go : (o : Option Sample) → (cell s k).sample ≡ o → (q : Numbered) → expected s p k ≡ q → 0 < length (emitted_with s p k o q) → Contributes s p k
+      go : (o : Maybe Sample) → (cell s k).sample ≡ o → (q : Option ℕ) → expected s p k ≡ q → 0 < length (emitted_with s p k o q) → Contributes s p k
       go none is q at h = absurd (omega arith)
-      go (some x) is numbered.Absent at h = absurd (omega arith)
-      go (some x) is (numbered.Id i) at h =
+      go (some x) is None at h = absurd (omega arith)
+      go (some x) is (Some i) at h =
           let w = weight_with s (some x) in
           let heavy = first_holds (lt nought w) (lt nought (evidence_of (table_of s) (samples_with s (some x)) (code_of s p.turn i))) _ h in
           record { inside = inside; id = i; marker = at; weight = rw is heavy }
@@ -80,9 +77,9 @@ module _ (s : Shot) (p : GridAlignment) where
       go earlier zero e = earlier (omega (arith, length-append (up_to (emitted s p) n) (emitted s p n)))
       go earlier (suc j) e = (n, contributes n (omega (arith, l)) (omega (arith, e)))
 
-  pub emitted-number : 0 < length (markers s p) → (y : Float) × (reported s p ≡ evidence.Number y)
+  pub emitted-number : 0 < length (markers s p) → (y : Float) × (reported s p ≡ Some y)
   emitted-number h = go (reported s p) refl
     where
-      go : (x : Evidence) → reported s p ≡ x → (y : Float) × (reported s p ≡ evidence.Number y)
-      go evidence.Absent e = let k = some_cell (cell_total s) (omega arith) h in absurd ((none_rule s p).reported_only_if e k.0 k.1)
-      go (evidence.Number y) e = (y, e)
+      go : (x : Option Float) → reported s p ≡ x → (y : Float) × (reported s p ≡ Some y)
+      go None e = let k = some_cell (cell_total s) (omega arith) h in absurd ((none_rule s p).reported_only_if e k.0 k.1)
+      go (Some y) e = (y, e)

@@ -1,15 +1,12 @@
 -- Contracts of the inner functions of emission: the marker expected in a cell, and what is emitted for it.
-use Rattle.std.specs.Prelude.{ℕ, ◌%◌, ◌<◌, ◌≡◌, ◌&&◌, cond, List, [], ◌∷◌, Float}
-use Rattle.std.proofs.Math.Option.{Option, none, some}
+use Rattle.std.specs.Prelude.{ℕ, ◌%◌, ◌<◌, ◌≡◌, ◌&&◌, cond, List, [], ◌∷◌, Float, Option, Some, None}
+use Rattle.std.proofs.Math.Option.{Option as Maybe, none, some}
 use Rattle.std.specs.Float.Ieee.{lt}
 use Rattle.floats.specs.Units.{nought}
 use Rattle.matcher.specs.Codes.{differing}
 use Rattle.grid_alignment.specs.declared.GridAlignment.{GridAlignment}
 use Rattle.grid_alignment.specs.Alignment.{point, corner, rect_corners}
-use Rattle.board.specs.declared.Numbered.{Numbered}
-use Rattle.board.specs.declared.Numbered.TheVariants as numbered
 use Rattle.score_matrix.specs.declared.BoardMatchConfig.{BoardMatchConfig}
-use Rattle.score_matrix.specs.declared.BorderSample.TheVariants as border
 use Rattle.score_matrix.specs.Scores.{Samples, samples, evidence, read_code}
 use Rattle.score_matrix.specs.Weights.{weight}
 use Rattle.shot_record.specs.Shots.{Sample, Shot}
@@ -18,8 +15,6 @@ use Rattle.hypothesis.specs.declared.Inputs.{Inputs}
 use Rattle.hypothesis.specs.Placements.{cell_total, cell}
 use Rattle.hypothesis.specs.Evidence.{table_of, expected, code_of}
 use Rattle.emit.specs.declared.candidates.Candidate.{Candidate}
-use Rattle.emit.specs.declared.candidates.Expected.{Expected}
-use Rattle.emit.specs.declared.candidates.Expected.TheVariants as expectation
 use Rattle.emit.specs.Markers.{Marker, quotient}
 
 -- The candidate of cell k: `Absent` for an unsampled cell, and where no marker is expected.
@@ -36,18 +31,18 @@ candidate s p k x m =
       threshold = x.threshold;
     }
 
-abbrev pub candidate_with : Shot → GridAlignment → ℕ → Option Sample → Numbered → Expected
-candidate_with s p k none m = expectation.Absent
-candidate_with s p k (some x) numbered.Absent = expectation.Absent
-candidate_with s p k (some x) (numbered.Id m) = expectation.Marker (candidate s p k x m)
+abbrev pub candidate_with : Shot → GridAlignment → ℕ → Maybe Sample → Option ℕ → Option Candidate
+candidate_with s p k none m = None
+candidate_with s p k (some x) None = None
+candidate_with s p k (some x) (Some m) = Some (candidate s p k x m)
 
-unfoldable pub candidate_at : Shot → GridAlignment → ℕ → Expected
+unfoldable pub candidate_at : Shot → GridAlignment → ℕ → Option Candidate
 candidate_at s p k = candidate_with s p k (cell s k).sample (expected s p k)
 
 -- the cell of a candidate is one of the shot's, and sampled
-abbrev pub OfCell : Shot → Expected → Type 0
-OfCell s expectation.Absent = Unit {0}
-OfCell s (expectation.Marker c) = (c.cell < cell_total s) × ((x : Sample) × ((cell s c.cell).sample ≡ some x))
+abbrev pub OfCell : Shot → Option Candidate → Type 0
+OfCell s None = Unit {0}
+OfCell s (Some c) = (c.cell < cell_total s) × ((x : Sample) × ((cell s c.cell).sample ≡ some x))
 
 -- a candidate's marker, from the code read, the quotient and px_per_square
 abbrev pub marker_from : Candidate → ℕ → Float → Float → Marker
@@ -71,10 +66,10 @@ samples_in i threshold grid = samples i.board.bits i.board.border_bits threshold
 -- emitted if the cell has weight above 0 and evidence above 0
 abbrev pub emitted_from : BoardMatchConfig → List Float → Samples → Candidate → List Marker
 emitted_from config table x c =
-    cond (lt nought (weight config (border.BlackFraction c.fraction)) && lt nought (evidence table x c.code))
+    cond (lt nought (weight config (Some c.fraction)) && lt nought (evidence table x c.code))
     (marker_from c (read_code x) (quotient table x c.code) config.px_per_square ∷ []) []
 
-abbrev pub emitted_for : Shot → Expected → List Marker
-emitted_for s expectation.Absent = []
-emitted_for s (expectation.Marker c) =
+abbrev pub emitted_for : Shot → Option Candidate → List Marker
+emitted_for s None = []
+emitted_for s (Some c) =
     emitted_from (config_of s) (table_of s) (samples s.bits s.border c.threshold (grid_with (cell s c.cell).sample)) c

@@ -1,6 +1,6 @@
 -- Document 01, Emission: the markers emitted for a placement, and the 18 words of each.
-use Rattle.std.specs.Prelude.{ℕ, ◌+◌, ◌*◌, ◌/◌, ◌%◌, ◌^◌, ◌&&◌, cond, List, [], ◌∷◌, get_or, pos, Float}
-use Rattle.std.proofs.Math.Option.{Option, none, some}
+use Rattle.std.specs.Prelude.{ℕ, ◌+◌, ◌*◌, ◌/◌, ◌%◌, ◌^◌, ◌&&◌, cond, List, [], ◌∷◌, get_or, pos, Float, Option, Some, None}
+use Rattle.std.proofs.Math.Option.{Option as Maybe, none, some}
 use Rattle.std.specs.Float.{nan, binary32}
 use Rattle.std.specs.Float.Ieee.{to_bits, of_int, div, lt}
 use Rattle.std.specs.Int.{w32}
@@ -11,8 +11,6 @@ use Rattle.matcher.specs.Codes.{differing}
 use Rattle.grid_alignment.specs.declared.Coord.{Coord}
 use Rattle.grid_alignment.specs.declared.GridAlignment.{GridAlignment}
 use Rattle.grid_alignment.specs.Alignment.{corner, rect_corners}
-use Rattle.board.specs.declared.Numbered.{Numbered}
-use Rattle.board.specs.declared.Numbered.TheVariants as numbered
 use Rattle.score_matrix.specs.Scores.{Samples, bit_count, score, evidence, read_code}
 use Rattle.shot_record.specs.Shots.{Sample, Shot}
 use Rattle.shot_record.specs.Answers.{of_pattern, config_of}
@@ -52,10 +50,10 @@ marker_of s p k x m =
     }
 
 -- "each sampled cell with a marker expected, weight above 0, evidence above 0": what cell k emits, a marker or none
-abbrev pub emitted_with : Shot → GridAlignment → ℕ → Option Sample → Numbered → List Marker
+abbrev pub emitted_with : Shot → GridAlignment → ℕ → Maybe Sample → Option ℕ → List Marker
 emitted_with s p k none m = []
-emitted_with s p k (some x) numbered.Absent = []
-emitted_with s p k (some x) (numbered.Id m) =
+emitted_with s p k (some x) None = []
+emitted_with s p k (some x) (Some m) =
     cond (lt nought (weight_with s (some x)) && lt nought (evidence (table_of s) (samples_with s (some x)) (code_of s p.turn m)))
     (marker_of s p k x m ∷ []) []
 

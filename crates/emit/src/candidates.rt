@@ -1,16 +1,13 @@
 // The marker that a placement expects in a sampled cell.
 ghost use Rattle.std.specs.Prelude.{◌≡◌, ◌<◌, get_or};
 ghost use Rattle.matcher.specs.Codes.{turned_word};
-ghost use Rattle.shot_record.specs.Shots.{first_codes, shot};
+ghost use Rattle.shot_record.specs.Shots.{shot};
 ghost use Rattle.hypothesis.specs.Placements.{cell_total};
-ghost use Rattle.hypothesis.specs.Inputs.{Ready};
 ghost use Rattle.emit.specs.Candidates.{candidate_at};
 ghost use Rattle.grid_alignment.specs.Alignment.{NearAlignment};
 
-use board::Numbered;
 use grid_alignment::{GridAlignment, alignments};
-use hypothesis::Inputs;
-use score_matrix::BorderSample;
+use hypothesis::LoadedShot;
 use shot_record::index;
 
 // A sampled cell and the marker expected in it, with the marker's rotated code.
@@ -26,13 +23,6 @@ pub struct Candidate {
     pub threshold: u8,
 }
 
-// `Absent` for an unsampled cell, and where no marker is expected.
-#[derive(Clone, Copy)]
-pub enum Expected {
-    Marker(Candidate),
-    Absent,
-}
-
 // The code of a marker after a turn.
 fn turned_code(codes: &[u64; 512], id: u32, bits: u8, turn: u8) -> u64
     requires { id < 512 }
@@ -42,39 +32,26 @@ fn turned_code(codes: &[u64; 512], id: u32, bits: u8, turn: u8) -> u64
     matcher::rotate_code_u64(codes[at], bits, turn)
 }
 
-// The candidate of cell k. `bytes` is used only in the contract.
-pub fn expected_in(
-    bytes: &[u8],
-    inputs: Inputs,
-    index: &[u32; 768],
-    codes: &[u64; 512],
-    alignment: GridAlignment,
-    k: usize,
-) -> Expected
-    requires { Ready bytes.now inputs index.now × (codes.now ≡ first_codes (shot bytes.now)) × NearAlignment alignment
-        × (k < cell_total (shot bytes.now)) }
-    ensures { result ≡ candidate_at (shot bytes.now) alignment k }
+// The candidate of cell k: none for an unsampled cell, and where no marker is expected.
+pub fn expected_in(loaded: &LoadedShot<'_>, alignment: GridAlignment, k: usize) -> Option<Candidate>
+    requires { NearAlignment alignment × (k < cell_total (shot loaded.now.bytes.now)) }
+    ensures { result ≡ candidate_at (shot loaded.now.bytes.now) alignment k }
 {
-    let board = inputs.board;
-    let border = index::border(index, k);
-    let BorderSample::BlackFraction(fraction) = border else {
-        return Expected::Absent;
-    };
+    let board = loaded.inputs.board;
+    let index = loaded.index;
+    let fraction = index::border(index, k)?;
     let u = index::u(index, k);
     let v = index::v(index, k);
     let square = alignments::apply(alignment, u, v);
-    let found = board.marker_id_at(square.u, square.v);
-    let Numbered::Id(id) = found else {
-        return Expected::Absent;
-    };
+    let id = board.marker_id_at(square.u, square.v)?;
     let turn = alignment.turn;
-    Expected::Marker(Candidate {
+    Some(Candidate {
         cell: k as u32,
         id,
         u,
         v,
         turn,
-        code: turned_code(codes, id, board.bits, turn),
+        code: turned_code(loaded.codes, id, board.bits, turn),
         fraction,
         threshold: index::threshold(index, k),
     })

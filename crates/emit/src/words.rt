@@ -10,7 +10,7 @@ ghost use Rattle.emit.specs.Candidates.{marker_from, samples_in, emitted_from};
 
 use super::candidates::Candidate;
 use hypothesis::Inputs;
-use score_matrix::{BorderSample, cell};
+use score_matrix::cell;
 
 // `read` is the code read from the cell.
 fn marker_words(c: Candidate, read: u64, quotient: f32, px_per_square: f32) -> [u32; 18]
@@ -21,8 +21,8 @@ fn marker_words(c: Candidate, read: u64, quotient: f32, px_per_square: f32) -> [
     [
         c.cell,
         c.id,
-        integers::word(top_left.u),
-        integers::word(top_left.v),
+        top_left.u.cast_unsigned(),
+        top_left.v.cast_unsigned(),
         (c.turn % 4) as u32,
         matcher::differing_bits(read, c.code),
         (read % 0x1_0000_0000) as u32,
@@ -66,7 +66,7 @@ pub fn emit_marker(
     let config = inputs.config;
     let bits = inputs.board.bits;
     let border = inputs.board.border_bits;
-    let weight = score_matrix::cell_weight(config, BorderSample::BlackFraction(c.fraction));
+    let weight = score_matrix::cell_weight(config, Some(c.fraction));
     if !(0.0 < weight) {
         return at;
     }

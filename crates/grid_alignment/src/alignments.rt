@@ -21,8 +21,8 @@ pub fn cell_to_corner_alignment(alignment: GridAlignment) -> GridAlignment
     ensures { result ≡ corner_alignment alignment }
 {
     let m = super::turn_matrix(alignment.turn);
-    let ou = integers::min(m.a, 0) + integers::min(m.b, 0);
-    let ov = integers::min(m.c, 0) + integers::min(m.d, 0);
+    let ou = m.a.min(0) + m.b.min(0);
+    let ov = m.c.min(0) + m.d.min(0);
     GridAlignment {
         turn: alignment.turn,
         tx: alignment.tx - ou,

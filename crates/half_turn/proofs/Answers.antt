@@ -1,7 +1,7 @@
 -- Without ties the results of Match pair, for an old record and the new one, with the output array. Assumes nothing.
 use mathlib.Core.Path.{◌≡◌, refl, sym, ap, ap₂, ◌∙◌, subst}
 use mathlib.Core.List.{List, map, flat_map}
-use mathlib.Core.Option.{Option, none, some}
+use mathlib.Core.Option.{Option as Maybe, none, some}
 use Prim.Native.Nat.{ℕ, ◌<◌}
 use native.Mathlib.Omega.{arith}
 use lib.Dec.{ltb}
@@ -18,12 +18,9 @@ use Rattle.shot_record.specs.Answers.{config_of, spec_of}
 use Rattle.shot_record.proofs.Whole.{parsed, parses-whole}
 use Rattle.shot_record.proofs.LittleEndian.{byte-below}
 use Rattle.ranking.specs.declared.Hypothesis.{Hypothesis}
-use Rattle.ranking.specs.declared.Choice.{Choice}
-use Rattle.ranking.specs.declared.Choice.TheVariants as choice
 use Rattle.hypothesis.specs.Search.{best, runner_up}
 use Rattle.hypothesis.specs.Inputs.{PassedShot}
 use Rattle.emit.specs.Markers.{Marker, markers, marker_words}
-use Rattle.board_match.specs.declared.Matched.TheVariants as matched
 use Rattle.board_match.specs.Questions.{asked_from9, asked_of_shot, asked_before15}
 use Rattle.board_match.specs.Match.{margin_with, margin_of, markers_with, markers_of, margin_passes, asked_from15}
 use Rattle.board_match.specs.Match.{refused_by, match_of, answer_with, matched_shot, left_list}
@@ -40,6 +37,7 @@ use Rattle.half_turn.proofs.Pairs.{same-placements}
 use Rattle.half_turn.proofs.Emitted.{markers_rule}
 use Rattle.half_turn.proofs.Mapped.{alignment_pairs}
 use Rattle.half_turn.proofs.Ties.{best_rule, runner_up_rule, margin_rule}
+use Rattle.std.specs.Prelude.{Option, Some, None, Ok}
 
 pub questions_alike : QuestionsRule
 unfolding asked_from9
@@ -59,9 +57,9 @@ restated_rule bytes s o m =
 
 -- ---- questions 15 to 17 and the match
 module _ (s : Shot) (m : TurnedByHalf s) (best_pairs : best (restated s) ≡ paired_choice s (best s)) (same-margin : margin_of (restated s) ≡ margin_of s) where
-  markers_with_lem : (o : Choice) → markers_with (restated s) (paired_choice s o) ≡ map (paired_marker s) (markers_with s o)
-  markers_with_lem choice.Absent = refl
-  markers_with_lem (choice.Placement b) = markers_rule s m b.alignment
+  markers_with_lem : (o : Option Hypothesis) → markers_with (restated s) (paired_choice s o) ≡ map (paired_marker s) (markers_with s o)
+  markers_with_lem None = refl
+  markers_with_lem (Some b) = markers_rule s m b.alignment
 
   markers-pair : markers_of (restated s) ≡ map (paired_marker s) (markers_of s)
   markers-pair = ap (markers_with (restated s)) best_pairs ∙ markers_with_lem (best s)
@@ -77,7 +75,7 @@ module _ (s : Shot) (m : TurnedByHalf s) (best_pairs : best (restated s) ≡ pai
       (ask (margin_passes (config_of s) (same-margin i)) (refusal.Margin (same-margin i)) (ask (ltb 0 (same_number i)) refusal.NoMarkers none))
 
   module _ (rows : 0 < s.rows) (runner_up_pairs : runner_up (restated s) ≡ paired_choice s (runner_up s)) where
-    match_pairs : (b : Hypothesis) → best s ≡ choice.Placement b → match_of (restated s) (paired_hypothesis s b) ≡ paired_match s (match_of s b)
+    match_pairs : (b : Hypothesis) → best s ≡ Some b → match_of (restated s) (paired_hypothesis s b) ≡ paired_match s (match_of s b)
     match_pairs b is =
         let cols : 0 < s.cols = omega (arith, m.odd_cols) in
         let margin = ap (margin_with (restated s)) (sym (best_pairs ∙ ap (paired_choice s) is)) ∙ same-margin ∙ ap (margin_with s) is in
@@ -92,12 +90,12 @@ module _ (s : Shot) (m : TurnedByHalf s) (best_pairs : best (restated s) ≡ pai
           markers = number i;
         }
 
-    by_choice : (o : Option Refusal) (c : Choice) → best s ≡ c → answer_with o (restated s) (paired_choice s c) ≡ paired_answer s (answer_with o s c)
+    by_choice : (o : Maybe Refusal) (c : Option Hypothesis) → best s ≡ c → answer_with o (restated s) (paired_choice s c) ≡ paired_answer s (answer_with o s c)
     by_choice (some refused) c is = refl
-    by_choice none choice.Absent is = refl
-    by_choice none (choice.Placement b) is = ap matched.Placed (match_pairs b is)
+    by_choice none None is = refl
+    by_choice none (Some b) is = ap Ok (match_pairs b is)
 
-    answer_pairs : (o : Option Refusal) → answer_with o (restated s) (best (restated s)) ≡ paired_answer s (answer_with o s (best s))
+    answer_pairs : (o : Maybe Refusal) → answer_with o (restated s) (best (restated s)) ≡ paired_answer s (answer_with o s (best s))
     answer_pairs o = ap (answer_with o (restated s)) best_pairs ∙ by_choice o (best s) refl
 
 -- ---- records
@@ -105,7 +103,7 @@ module _ (old new lent : List ℕ) (s : Shot) (x : OldAndNew old new s) (untied 
   abbrev words : ℕ
   words = length lent
 
-  before_15 : (rest : Option Refusal) → asked_of_shot (restated s) words rest ≡ asked_of_shot s words rest
+  before_15 : (rest : Maybe Refusal) → asked_of_shot (restated s) words rest ≡ asked_of_shot s words rest
   before_15 rest =
       rest_asked (asked_of_board (spec_of (restated s)) (restated s).codes) (board_goes_on (spec_of (restated s)) (restated s).codes)
       (asked_from9 (restated s) words rest) x.new_board_is
@@ -128,44 +126,44 @@ module _ (old new lent : List ℕ) (s : Shot) (x : OldAndNew old new s) (untied 
   margins e = let p = passed-shot e in margin_rule s x.turned_by_half p.checked p.some_cell
 
   -- the error of an earlier question
-  stands : (refused : Refusal) → asked_before15 s words ≡ some refused → (rest : Option Refusal) → asked_of_shot s words rest ≡ some refused
+  stands : (refused : Refusal) → asked_before15 s words ≡ some refused → (rest : Maybe Refusal) → asked_of_shot s words rest ≡ some refused
   stands refused e rest = refusal_stands (asked_of_shot s words) (shot_goes_on s words) rest refused e
 
-  same_refusal : (o : Option Refusal) → asked_before15 s words ≡ o → refused_by (restated s) words ≡ refused_by s words
+  same_refusal : (o : Maybe Refusal) → asked_before15 s words ≡ o → refused_by (restated s) words ≡ refused_by s words
   same_refusal none e = before_15 (asked_from15 (restated s)) ∙ ap (asked_of_shot s words) (from_15 s x.turned_by_half (bests e) (margins e))
   same_refusal (some refused) e =
       before_15 (asked_from15 (restated s)) ∙ stands refused e (asked_from15 (restated s)) ∙ sym (stands refused e (asked_from15 s))
 
   leaves : left_list (parse new) lent ≡ at_exit (refused_by s words) (flat_map marker_words (map (paired_marker s) (markers_of s))) lent
-  leaves = ap (λ (o : Option Shot). left_list o lent) x.parses_new ∙ by_question (asked_before15 s words) refl
+  leaves = ap (λ (o : Maybe Shot). left_list o lent) x.parses_new ∙ by_question (asked_before15 s words) refl
     where
-      by_question : (o : Option Refusal) → asked_before15 s words ≡ o
+      by_question : (o : Maybe Refusal) → asked_before15 s words ≡ o
           → left_list (some (restated s)) lent ≡ at_exit (refused_by s words) (flat_map marker_words (map (paired_marker s) (markers_of s))) lent
       by_question none e =
-          ap₂ (λ (q : Option Refusal) (ms : List Marker). at_exit q (flat_map marker_words ms) lent) (same_refusal none e)
+          ap₂ (λ (q : Maybe Refusal) (ms : List Marker). at_exit q (flat_map marker_words ms) lent) (same_refusal none e)
           (markers-pair s x.turned_by_half (bests e) (margins e))
       by_question (some refused) e =
           let old_is = stands refused e (asked_from15 s) in
-          ap (λ (q : Option Refusal). at_exit q (flat_map marker_words (markers_of (restated s))) lent) (same_refusal (some refused) e ∙ old_is)
-          ∙ sym (ap (λ (q : Option Refusal). at_exit q (flat_map marker_words (map (paired_marker s) (markers_of s))) lent) old_is)
+          ap (λ (q : Maybe Refusal). at_exit q (flat_map marker_words (markers_of (restated s))) lent) (same_refusal (some refused) e ∙ old_is)
+          ∙ sym (ap (λ (q : Maybe Refusal). at_exit q (flat_map marker_words (map (paired_marker s) (markers_of s))) lent) old_is)
 
   answers : NoTies s → matched_shot (parse new) words ≡ paired_answer s (matched_shot (parse old) words)
   answers no_ties =
-      ap (λ (o : Option Shot). matched_shot o words) x.parses_new
+      ap (λ (o : Maybe Shot). matched_shot o words) x.parses_new
       ∙ by_question (asked_before15 s words) refl
-      ∙ ap (λ (o : Option Shot). paired_answer s (matched_shot o words)) (sym x.parses_old)
+      ∙ ap (λ (o : Maybe Shot). paired_answer s (matched_shot o words)) (sym x.parses_old)
     where
       runner_ups : asked_before15 s words ≡ none → runner_up (restated s) ≡ paired_choice s (runner_up s)
       runner_ups e = let p = passed-shot e in runner_up_rule s x.turned_by_half p.checked p.some_cell no_ties
 
-      by_question : (o : Option Refusal) → asked_before15 s words ≡ o → matched_shot (some (restated s)) words ≡ paired_answer s (matched_shot (some s) words)
+      by_question : (o : Maybe Refusal) → asked_before15 s words ≡ o → matched_shot (some (restated s)) words ≡ paired_answer s (matched_shot (some s) words)
       by_question none e =
-          ap (λ (q : Option Refusal). answer_with q (restated s) (best (restated s))) (same_refusal none e)
+          ap (λ (q : Maybe Refusal). answer_with q (restated s) (best (restated s))) (same_refusal none e)
           ∙ answer_pairs s x.turned_by_half (bests e) (margins e) rows (runner_ups e) (refused_by s words)
       by_question (some refused) e =
           let old_is = stands refused e (asked_from15 s) in
-          ap (λ (q : Option Refusal). answer_with q (restated s) (best (restated s))) (same_refusal (some refused) e ∙ old_is)
-          ∙ sym (ap (λ (q : Option Refusal). paired_answer s (answer_with q s (best s))) old_is)
+          ap (λ (q : Maybe Refusal). answer_with q (restated s) (best (restated s))) (same_refusal (some refused) e ∙ old_is)
+          ∙ sym (ap (λ (q : Maybe Refusal). paired_answer s (answer_with q s (best s))) old_is)
 
 pub list_rule : ListRule
 list_rule old new lent s x untied = leaves old new lent s x untied

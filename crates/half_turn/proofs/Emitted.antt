@@ -2,7 +2,7 @@
 use mathlib.Core.Path.{◌≡◌, refl, sym, ◌∙◌}
 use mathlib.Core.Bool.{Bool, true, false, cond, ◌&&◌}
 use mathlib.Core.List.{[], ◌∷◌, map}
-use mathlib.Core.Option.{Option, none, some}
+use mathlib.Core.Option.{Option as Maybe, none, some}
 use Prim.Native.Nat.{ℕ, ◌+◌, ◌-◌, ◌*◌, ◌/◌, ◌%◌, ◌<◌}
 use native.Mathlib.Omega.{arith}
 use lib.Ieee.{lt}
@@ -10,8 +10,6 @@ use Rattle.floats.specs.Units.{nought}
 use Rattle.matcher.specs.Codes.{differing}
 use Rattle.grid_alignment.specs.declared.GridAlignment.{GridAlignment}
 use Rattle.grid_alignment.specs.Alignment.{corner}
-use Rattle.board.specs.declared.Numbered.{Numbered}
-use Rattle.board.specs.declared.Numbered.TheVariants as numbered
 use Rattle.lent_list.proofs.Front.{up_to_as}
 use Rattle.score_matrix.specs.Scores.{evidence, read_code}
 use Rattle.shot_record.specs.Shots.{Sample, Shot}
@@ -23,6 +21,7 @@ use Rattle.half_turn.specs.Pairs.{from_last, TurnedByHalf, paired}
 use Rattle.half_turn.specs.Markers.{paired_marker, MarkersRule}
 use Rattle.half_turn.proofs.CodedCells.{map-up_to}
 use Rattle.half_turn.proofs.Pairs.{expects, codes-turned, known}
+use Rattle.std.specs.Prelude.{Option, Some, None}
 
 module _ (s : Shot) (m : TurnedByHalf s) (p : GridAlignment) where
   abbrev M : ℕ
@@ -54,11 +53,11 @@ module _ (s : Shot) (m : TurnedByHalf s) (p : GridAlignment) where
         corners = (marker_of s p k x i).corners;
       }
 
-  by_marker : (k : ℕ) (o : Option Sample) (e e' : Numbered) → e' ≡ from_last M e → ((i : ℕ) → e ≡ numbered.Id i → i < M)
+  by_marker : (k : ℕ) (o : Maybe Sample) (e e' : Option ℕ) → e' ≡ from_last M e → ((i : ℕ) → e ≡ Some i → i < M)
       → emitted_with (restated s) (paired s p) k o e' ≡ map (paired_marker s) (emitted_with s p k o e)
   by_marker k none e e' is small = refl
-  by_marker k (some x) numbered.Absent e' is small = rw is refl
-  by_marker k (some x) (numbered.Id i) e' is small =
+  by_marker k (some x) None e' is small = rw is refl
+  by_marker k (some x) (Some i) e' is small =
       let c = codes-turned s m p.turn i (small i refl) in
       let y = samples_with s (some x) in
       rw is

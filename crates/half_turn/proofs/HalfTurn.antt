@@ -9,8 +9,6 @@ use lib.Dec.{T, ltb, ltb→lt, eqb→eq}
 use lib.Ieee.Fits.{and_l, and_r}
 use borrow.Author.Tests.{eq-eqb}
 use Rattle.integers.proofs.Parts.{plus, minus, ext, sub_is_parts}
-use Rattle.board.specs.declared.Numbered.{Numbered}
-use Rattle.board.specs.declared.Numbered.TheVariants as numbered
 use Rattle.board.specs.Numbering.{number_at, number_atℤ, number_if}
 use Rattle.board.specs.Layout.{holds_marker, inner}
 use Rattle.board.proofs.Places.{number-has}
@@ -18,21 +16,22 @@ use Rattle.board.proofs.Markers.{number-on}
 use Rattle.board.proofs.Corners.{corner-number}
 use Rattle.board.proofs.Surroundings.{inner-corner}
 use Rattle.half_turn.specs.Pairs.{from_last}
+use Rattle.std.specs.Prelude.{Option, Some, None}
 
 -- ---- the place opposite to one with number m of n has number n − 1 − m, among the places that pass a test
 pub record OppositePlace (t : ℕ → ℕ → Bool) (w h a b n i j m : ℕ) : Type 0 where
   pub column : i ≤ a
   pub row : j ≤ b
-  pub number : number_at t w h (a - i) (b - j) ≡ numbered.Id (n - 1 - m)
+  pub number : number_at t w h (a - i) (b - j) ≡ Some (n - 1 - m)
 
 record NaturalPlace (t : ℕ → ℕ → Bool) (w h : ℕ) (x y : ℤ) (m : ℕ) : Type 0 where
   i : ℕ
   j : ℕ
   column : x ≡ pos i
   row : y ≡ pos j
-  number : number_at t w h i j ≡ numbered.Id m
+  number : number_at t w h i j ≡ Some m
 
-natural_place : (t : ℕ → ℕ → Bool) (w h : ℕ) (x y : ℤ) (m : ℕ) → number_atℤ t w h x y ≡ numbered.Id m → NaturalPlace t w h x y m
+natural_place : (t : ℕ → ℕ → Bool) (w h : ℕ) (x y : ℤ) (m : ℕ) → number_atℤ t w h x y ≡ Some m → NaturalPlace t w h x y m
 unfolding number_atℤ
 natural_place t w h (pos i) (pos j) m e = record { i = i; j = j; column = refl; row = refl; number = e }
 natural_place t w h (pos i) (negsuc j) m e = let z : ◌≡◌ {A = ℕ} 0 1 = cc in absurd (omega arith)
@@ -52,28 +51,28 @@ unfolding number_atℤ
 natural t w h i j = refl
 
 module _ (w h a b n : ℕ) where
-  pub half-turn : (t t' : ℕ → ℕ → Bool) → ((i j m : ℕ) → number_at t w h i j ≡ numbered.Id m → OppositePlace t' w h a b n i j m)
-      → ((i j m : ℕ) → number_at t' w h i j ≡ numbered.Id m → OppositePlace t w h a b n i j m)
+  pub half-turn : (t t' : ℕ → ℕ → Bool) → ((i j m : ℕ) → number_at t w h i j ≡ Some m → OppositePlace t' w h a b n i j m)
+      → ((i j m : ℕ) → number_at t' w h i j ≡ Some m → OppositePlace t w h a b n i j m)
       → (x y : ℤ) → number_atℤ t' w h (pos a -ℤ x) (pos b -ℤ y) ≡ from_last n (number_atℤ t w h x y)
   half-turn t t' there here x y = go (number_atℤ t w h x y) (number_atℤ t' w h (pos a -ℤ x) (pos b -ℤ y)) refl refl
     where
-      go : (o o' : Numbered) → number_atℤ t w h x y ≡ o → number_atℤ t' w h (pos a -ℤ x) (pos b -ℤ y) ≡ o' → o' ≡ from_last n o
-      go (numbered.Id m) o' e e' =
+      go : (o o' : Option ℕ) → number_atℤ t w h x y ≡ o → number_atℤ t' w h (pos a -ℤ x) (pos b -ℤ y) ≡ o' → o' ≡ from_last n o
+      go (Some m) o' e e' =
           let s = natural_place t w h x y m e in
           let g = there s.i s.j m s.number in
           sym e' ∙ ap₂ (number_atℤ t' w h) (opposite_at a s.i x s.column g.column) (opposite_at b s.j y s.row g.row)
           ∙ natural t' w h (a - s.i) (b - s.j) ∙ g.number
-      go numbered.Absent numbered.Absent e e' = refl
-      go numbered.Absent (numbered.Id m) e e' =
+      go None None e e' = refl
+      go None (Some m) e e' =
           let s = natural_place t' w h (pos a -ℤ x) (pos b -ℤ y) m e' in
           let g = here s.i s.j m s.number in
-          let c : numbered.Absent ≡ numbered.Id (n - 1 - m) =
+          let c : None ≡ Some (n - 1 - m) =
           sym e ∙ ap₂ (number_atℤ t w h) (opposite_from a s.i x s.column g.column) (opposite_from b s.j y s.row g.row)
           ∙ natural t w h (a - s.i) (b - s.j) ∙ g.number in
           let z : ◌≡◌ {A = ℕ} 0 1 = cc in absurd (omega arith)
 
 -- ---- markers
-if_id : (t : Bool) (k m : ℕ) → number_if t k ≡ numbered.Id m → T t × (k ≡ m)
+if_id : (t : Bool) (k m : ℕ) → number_if t k ≡ Some m → T t × (k ≡ m)
 if_id true k m e = (tt, cc)
 if_id false k m e = let z : ◌≡◌ {A = ℕ} 0 1 = cc in absurd (omega arith)
 
@@ -102,7 +101,7 @@ odd_sum : (rows w : ℕ) → rows % 2 ≡ 0 → w % 2 ≡ 1 → (rows + w) % 2 �
 odd_sum rows w even odd = omega arith
 
 module _ (rows w : ℕ) (even : rows % 2 ≡ 0) (odd : w % 2 ≡ 1) where
-  marker_goes : (p q : ℕ) → p + q ≡ 1 → (i j m : ℕ) → number_at (holds_marker p) w rows i j ≡ numbered.Id m
+  marker_goes : (p q : ℕ) → p + q ≡ 1 → (i j m : ℕ) → number_at (holds_marker p) w rows i j ≡ Some m
       → OppositePlace (holds_marker q) w rows (w - 1) (rows - 1) (rows * w / 2) i j m
   marker_goes p q other i j m e =
       let s = number-has (holds_marker p) w rows i j m e in
@@ -119,7 +118,7 @@ module _ (rows w : ℕ) (even : rows % 2 ≡ 0) (odd : w % 2 ≡ 1) where
         row = omega (arith, k);
         number = number-on q rows w i' j' (omega (arith, other)) (omega (arith, l)) (omega (arith, k))
             ∙ ap (λ (b : Bool). number_if b ((j' * w + i') / 2)) holds
-            ∙ ap numbered.Id (halves (rows * w) (j * w + i) (j' * w + i') m (even_area rows w even) (ranks rows w i j l k) id);
+            ∙ ap Some (halves (rows * w) (j * w + i) (j' * w + i') m (even_area rows w even) (ranks rows w i j l k) id);
       }
 
   pub markers-turned : (x y : ℤ) → number_atℤ (holds_marker 1) w rows (pos (w - 1) -ℤ x) (pos (rows - 1) -ℤ y)
@@ -127,7 +126,7 @@ module _ (rows w : ℕ) (even : rows % 2 ≡ 0) (odd : w % 2 ≡ 1) where
   markers-turned = half-turn w rows (w - 1) (rows - 1) (rows * w / 2) (holds_marker 0) (holds_marker 1) (marker_goes 0 1 refl) (marker_goes 1 0 refl)
 
 -- ---- corners, of every size
-pub corner_goes : (rows w i j m : ℕ) → number_at inner w rows i j ≡ numbered.Id m → OppositePlace inner w rows w rows ((rows - 1) * (w - 1)) i j m
+pub corner_goes : (rows w i j m : ℕ) → number_at inner w rows i j ≡ Some m → OppositePlace inner w rows w rows ((rows - 1) * (w - 1)) i j m
 corner_goes rows w i j m e =
     let s = number-has inner w rows i j m e in
     let l = s.column in
@@ -142,7 +141,7 @@ corner_goes rows w i j m e =
       column = omega (arith, l);
       row = omega (arith, k);
       number = inner-corner rows w (w - i) (rows - j) (omega (arith, l)) (omega (arith, k)) (omega (arith, l, left)) (omega (arith, k, top))
-          ∙ ap numbered.Id (omega (arith, id, area, l, left));
+          ∙ ap Some (omega (arith, id, area, l, left));
     }
 
 pub corners-turned : (rows w : ℕ) (x y : ℤ) → number_atℤ inner w rows (pos w -ℤ x) (pos rows -ℤ y)

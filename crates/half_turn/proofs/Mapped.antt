@@ -16,8 +16,6 @@ use Rattle.grid_alignment.specs.declared.Coord.{Coord}
 use Rattle.grid_alignment.specs.declared.GridAlignment.{GridAlignment}
 use Rattle.grid_alignment.specs.Alignment.{point, sends, moved, applied, lowest_point}
 use Rattle.board.specs.declared.Board.{Board}
-use Rattle.board.specs.declared.Numbered.{Numbered}
-use Rattle.board.specs.declared.Numbered.TheVariants as numbered
 use Rattle.board.specs.Numbering.{number_atℤ}
 use Rattle.board.specs.Layout.{corner_at, corner_count}
 use Rattle.board.proofs.Laws.{corners}
@@ -32,6 +30,7 @@ use Rattle.half_turn.specs.Pairs.{from_last}
 use Rattle.half_turn.specs.Corners.{paired_corners, ChosenRule, AlignmentRule}
 use Rattle.half_turn.proofs.HalfTurn.{corners-turned}
 use Rattle.half_turn.proofs.Pairs.{turned_point_lem, opposite_sum}
+use Rattle.std.specs.Prelude.{Option, Some, None}
 
 -- ---- the alignment of the corners
 -- the least points of the unit square after a turn and after two more add up to (−1, −1)
@@ -74,7 +73,7 @@ lands b a q =
     ap (λ (c : Coord). moved c (pos b.cols -ℤ a.tx) (pos b.rows -ℤ a.ty)) (turned_point_lem a.turn q)
     ∙ ap₂ point (opposite_sum b.cols (sends a.turn q).u a.tx) (opposite_sum b.rows (sends a.turn q).v a.ty)
 
-corner-below : (rows cols : ℕ) (x y : ℤ) (m : ℕ) → corner_at rows cols x y ≡ numbered.Id m → m < corner_count rows cols
+corner-below : (rows cols : ℕ) (x y : ℤ) (m : ℕ) → corner_at rows cols x y ≡ Some m → m < corner_count rows cols
 unfolding number_atℤ
 corner-below rows cols (pos i) (pos j) m e = (corners rows cols).below i j m e
 corner-below rows cols (pos i) (negsuc j) m e = let z : ◌≡◌ {A = ℕ} 0 1 = cc in absurd (omega arith)
@@ -87,9 +86,9 @@ same_id n m c h l = go (eqb m c) refl
     go true e = eq-eqb (n - 1 - m) (n - 1 - c) (ap (λ (k : ℕ). n - 1 - k) (eqb-true m c e))
     go false e = ne_eqb (n - 1 - m) (n - 1 - c) (λ z. eqb-false m c e (omega (arith, z, h, l)))
 
-is_id_lem : (n : ℕ) (o : Numbered) (c : ℕ) → c < n → ((m : ℕ) → o ≡ numbered.Id m → m < n) → is_id (from_last n o) (n - 1 - c) ≡ is_id o c
-is_id_lem n (numbered.Id m) c l small = same_id n m c (small m refl) l
-is_id_lem n numbered.Absent c l small = refl
+is_id_lem : (n : ℕ) (o : Option ℕ) (c : ℕ) → c < n → ((m : ℕ) → o ≡ Some m → m < n) → is_id (from_last n o) (n - 1 - c) ≡ is_id o c
+is_id_lem n (Some m) c l small = same_id n m c (small m refl) l
+is_id_lem n None c l small = refl
 
 module _ (b : Board) (a : GridAlignment) (grid : List ℤ) (k : ℕ) where
   abbrev C : ℕ
@@ -107,18 +106,18 @@ module _ (b : Board) (a : GridAlignment) (grid : List ℤ) (k : ℕ) where
           ap (id_at b) (lands b a (grid_point grid k)) ∙ corners-turned b.rows b.cols q.u q.v
           ∙ ap (λ (n : ℕ). from_last n (id_at b q)) (sym (corner-total b.rows b.cols))
 
-      go : (t : Bool) → cond t (id_at b (applied (paired_corners b a) (grid_point grid k))) numbered.Absent ≡ from_last C (cond t (id_at b q) numbered.Absent)
+      go : (t : Bool) → cond t (id_at b (applied (paired_corners b a) (grid_point grid k))) None ≡ from_last C (cond t (id_at b q) None)
       go true = there
       go false = refl
 
-  id-small : (m : ℕ) → id_of b a grid k ≡ numbered.Id m → m < C
+  id-small : (m : ℕ) → id_of b a grid k ≡ Some m → m < C
   unfolding id_of
   id-small m = go (labelled (corners_of 0 grid) k)
     where
       q : Coord
       q = applied a (grid_point grid k)
 
-      go : (t : Bool) → cond t (id_at b q) numbered.Absent ≡ numbered.Id m → m < C
+      go : (t : Bool) → cond t (id_at b q) None ≡ Some m → m < C
       go true e = corner-below b.rows b.cols q.u q.v m e
       go false e = let z : ◌≡◌ {A = ℕ} 0 1 = cc in absurd (omega arith)
 
@@ -134,7 +133,7 @@ module _ (s : Shot) (a : GridAlignment) (scores : List Float) (grid : List ℤ) 
   unfolding id_of
   same-bears k =
       let C = corner_count s.rows s.cols in
-      ap (λ (o : Numbered). is_id o (C - 1 - c)) (id_pairs (board_in s) a grid k) ∙ is_id_lem C (id_of (board_in s) a grid k) c known (id-small (board_in s) a grid k)
+      ap (λ (o : Option ℕ). is_id o (C - 1 - c)) (id_pairs (board_in s) a grid k) ∙ is_id_lem C (id_of (board_in s) a grid k) c known (id-small (board_in s) a grid k)
 
   chosen_pairs : (n : ℕ) → chosen_to new (corner_count s.rows s.cols - 1 - c) n ≡ chosen_to old c n
   unfolding chosen_to

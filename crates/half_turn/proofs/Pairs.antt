@@ -18,8 +18,6 @@ use Rattle.grid_alignment.specs.declared.Coord.{Coord}
 use Rattle.grid_alignment.specs.declared.GridAlignment.{GridAlignment}
 use Rattle.grid_alignment.specs.Alignment.{point, sends, moved, applied}
 use Rattle.grid_alignment.proofs.Laws.{sends_mod, sends-sends}
-use Rattle.board.specs.declared.Numbered.{Numbered}
-use Rattle.board.specs.declared.Numbered.TheVariants as numbered
 use Rattle.board.specs.Layout.{even_parity, odd_parity, parity_of, marker_at, marker_on, marker_total}
 use Rattle.board.proofs.Laws.{same_count, id_below}
 use Rattle.score_matrix.specs.Scores.{Samples, null_score}
@@ -34,6 +32,7 @@ use Rattle.legacy_record.specs.Restated.{reversed_codes, reversed_count, restate
 use Rattle.half_turn.specs.Pairs.{TurnedByHalf, from_last, paired, PairRule, PairedTwice, SamePlacements}
 use Rattle.half_turn.proofs.HalfTurn.{opposite_at, opposite_from, markers-turned}
 use Rattle.half_turn.proofs.CodedCells.{coded_cell, map-up_to, evidence_of, exact_of, capacity_of, by_cells, exact_by_cells, capacity_by_cells}
+use Rattle.std.specs.Prelude.{Option, Some, None}
 
 -- the code of a marker in its new place
 over : (bits n m : ℕ) (codes : List ℕ) → m < n → get_or (reversed_codes bits n codes) (n - 1 - m) 0 ≡ turned bits 2 (get_or codes m 0)
@@ -111,17 +110,17 @@ module _ (s : Shot) (m : TurnedByHalf s) where
     abbrev r' : ℕ
     r' = (p.turn + 2) % 4
 
-    by_marker : (w : Float) (x : Samples) (e e' : Numbered) → e' ≡ from_last M e → ((k : ℕ) → e ≡ numbered.Id k → k < M)
+    by_marker : (w : Float) (x : Samples) (e e' : Option ℕ) → e' ≡ from_last M e → ((k : ℕ) → e ≡ Some k → k < M)
         → map (coded_cell (restated s) r') (contributed_with w x e') ≡ map (coded_cell s r) (contributed_with w x e)
-    by_marker w x numbered.Absent e' is small = rw is refl
-    by_marker w x (numbered.Id k) e' is small = rw is (go (lt nought w))
+    by_marker w x None e' is small = rw is refl
+    by_marker w x (Some k) e' is small = rw is (go (lt nought w))
       where
         go : (t : Bool) → map (coded_cell (restated s) r') (cond t (record { weight = w; samples = x; id = M - 1 - k } ∷ []) [])
             ≡ map (coded_cell s r) (cond t (record { weight = w; samples = x; id = k } ∷ []) [])
         go true = λ i. record { weight = w; samples = x; code = codes-turned r k (small k refl) i } ∷ []
         go false = refl
 
-    pub known : (k i : ℕ) → expected s p k ≡ numbered.Id i → i < M
+    pub known : (k i : ℕ) → expected s p k ≡ Some i → i < M
     unfolding expected
     known k i e =
         let q = applied p (cell_point s k) in

@@ -12,7 +12,6 @@ use Rattle.integers.proofs.Distances.{lt_or_le}
 use Rattle.grid_alignment.specs.declared.GridAlignment.{GridAlignment}
 use Rattle.shot_record.specs.Shots.{Shot}
 use Rattle.ranking.specs.declared.Hypothesis.{Hypothesis}
-use Rattle.ranking.specs.declared.Choice.TheVariants as choice
 use Rattle.ranking.specs.Greatest.{lies_below, first_greatest, rest}
 use Rattle.ranking.specs.Rules.{FiniteEvidence, AllFinite, IsFirstGreatest}
 use Rattle.ranking.proofs.Greatest.{empty, greatest_rule}
@@ -23,6 +22,7 @@ use Rattle.hypothesis.specs.Search.{hypothesis, hypotheses, best, runner_up}
 use Rattle.hypothesis.specs.Accuracy.{Placement, Checked}
 use Rattle.hypothesis.proofs.Best.{runner_up-placed}
 use Rattle.hypothesis.proofs.Turned.{all_finite}
+use Rattle.std.specs.Prelude.{Some, None}
 
 -- ---- lists
 in_map : {A B : Type 0} (g : A → B) (xs : List A) (k : ℕ) (x : A) → get_elem? xs k ≡ some x → get_elem? (map g xs) k ≡ some (g x)
@@ -62,17 +62,17 @@ pub record IsNext (s : Shot) (b g : Hypothesis) : Type 0 where
   pub most : (q : GridAlignment) → Placement s q → (q ≡ b.alignment → ⊥) → lies_below g.evidence (reported s q) ≡ false
 
 -- without a best there is no placement, so no runner_up_is
-pub none_next : (s : Shot) → best s ≡ choice.Absent → runner_up s ≡ choice.Absent
+pub none_next : (s : Shot) → best s ≡ None → runner_up s ≡ None
 unfolding first_greatest rest
 none_next s e = ap (λ (l : List Hypothesis). first_greatest (rest l)) (empty (hypotheses s) e)
 
 module _ (s : Shot) (c : Checked s) where
-  pub no_best : best s ≡ choice.Absent → (q : GridAlignment) → Placement s q → ⊥
+  pub no_best : best s ≡ None → (q : GridAlignment) → Placement s q → ⊥
   no_best e q (k, at) =
       none-ne-some (hypothesis s q)
       (sym (ap (λ (l : List Hypothesis). get_elem? l k) (empty (hypotheses s) e)) ∙ in_map (hypothesis s) (placements s) k q at)
 
-  module _ (b : Hypothesis) (is : best s ≡ choice.Placement b) where
+  module _ (b : Hypothesis) (is : best s ≡ Some b) where
     f : IsFirstGreatest (hypotheses s) b
     f = greatest_rule (hypotheses s) b (all_finite s c (placements s)) is
 
@@ -105,7 +105,7 @@ module _ (s : Shot) (c : Checked s) where
             let r = kept (hypotheses s) f.place j (hypothesis s q) here n in
             (r.0, ap (λ (l : List Hypothesis). get_elem? l r.0) f.others ∙ r.1)
 
-    pub no_next : runner_up s ≡ choice.Absent → (q : GridAlignment) → Placement s q → q ≡ b.alignment
+    pub no_next : runner_up s ≡ None → (q : GridAlignment) → Placement s q → q ≡ b.alignment
     no_next e q at = elim (best_or_rest q at) [
       | inl same ↦ same
       | inr (k, there) ↦
@@ -118,11 +118,11 @@ module _ (s : Shot) (c : Checked s) where
         at_every P (rest (hypotheses s)) (rest_has P (hypotheses s) (every-at P (hypotheses s) (all_finite s c (placements s))))
 
     -- none of the rest is above the runner_up_is
-    pub rest-most : (g : Hypothesis) → runner_up s ≡ choice.Placement g → (k : ℕ) (q : GridAlignment) → get_elem? (rest (hypotheses s)) k ≡ some (hypothesis s q)
+    pub rest-most : (g : Hypothesis) → runner_up s ≡ Some g → (k : ℕ) (q : GridAlignment) → get_elem? (rest (hypotheses s)) k ≡ some (hypothesis s q)
         → lies_below g.evidence (reported s q) ≡ false
     rest-most g next k q at = (greatest_rule (rest (hypotheses s)) g rest_finite next).greatest k (hypothesis s q) at
 
-    pub next_is : (g : Hypothesis) → runner_up s ≡ choice.Placement g → IsNext s b g
+    pub next_is : (g : Hypothesis) → runner_up s ≡ Some g → IsNext s b g
     next_is g next =
         let r = runner_up-placed s c b g is next in
         record {

@@ -1,14 +1,12 @@
 -- The mapped corners: the results in reverse order, and the words of each. Assumes nothing.
 use mathlib.Core.Path.{◌≡◌, refl, sym, ap, ◌∙◌}
 use mathlib.Core.List.{List, [], ◌∷◌, ◌++◌, map, reverse, append-nil, append_assoc, reverse-append}
-use mathlib.Core.Option.{Option, none, some}
+use mathlib.Core.Option.{Option as Maybe, none, some}
 use Prim.Native.Nat.{ℕ, zero, suc, ◌-◌, ◌*◌, ◌<◌}
 use native.Mathlib.Omega.{arith}
 use lib.IntN.{ℤ}
 use lib.Ieee.{Float}
 use Rattle.grid_alignment.specs.declared.GridAlignment.{GridAlignment}
-use Rattle.board.specs.declared.Located.{Located}
-use Rattle.board.specs.declared.Located.TheVariants as located
 use Rattle.board.specs.Layout.{corner_count, corner_place, scaled_point}
 use Rattle.board.proofs.Laws.{corners}
 use Rattle.board.proofs.Corners.{corner-total}
@@ -23,6 +21,8 @@ use Rattle.half_turn.specs.Corners.{paired_corners, paired_mapped, MappedRule, C
 use Rattle.half_turn.proofs.HalfTurn.{corner_goes}
 use Rattle.half_turn.proofs.CodedCells.{map-up_to}
 use Rattle.half_turn.proofs.Mapped.{chosen_rule}
+use Rattle.std.specs.Prelude.{Option, Some}
+use Rattle.board.specs.declared.Position.{Position}
 
 -- ---- a list built from f 0 to f (n − 1), in reverse
 module _ {A : Type 0} where
@@ -58,7 +58,7 @@ module _ (s : Shot) (a : GridAlignment) (scores : List Float) (grid : List ℤ) 
   pair = paired_mapped (board_in s)
 
   -- at most one result for an id
-  one : (o : Option ℕ) (id k : ℕ) → C - 1 - id ≡ k → mapped_if k o ≡ reverse (map pair (mapped_if id o))
+  one : (o : Maybe ℕ) (id k : ℕ) → C - 1 - id ≡ k → mapped_if k o ≡ reverse (map pair (mapped_if id o))
   one none id k e = refl
   one (some j) id k e = ap (λ (n : ℕ). record { id = n; index = j } ∷ []) (sym e)
 
@@ -78,8 +78,8 @@ pub mapped_rule : MappedRule
 mapped_rule s a scores grid = results s a scores grid
 
 -- ---- the words
-opposite_place : (rows cols c i j : ℕ) → corner_place rows cols c ≡ located.At i j
-    → corner_place rows cols (corner_count rows cols - 1 - c) ≡ located.At (cols - i) (rows - j)
+opposite_place : (rows cols c i j : ℕ) → corner_place rows cols c ≡ Some i j
+    → corner_place rows cols (corner_count rows cols - 1 - c) ≡ Some (cols - i) (rows - j)
 opposite_place rows cols c i j e =
     let g = corner_goes rows cols i j c ((corners rows cols).id_of_lem i j c e) in
     ap (λ (n : ℕ). corner_place rows cols (n - 1 - c)) (corner-total rows cols)
@@ -89,4 +89,4 @@ pub corner_words_lem : CornerWordsRule
 corner_words_lem s m i j e =
     let size = (board_in s).cell_size in
     let id = corner_count s.rows s.cols - 1 - m.id in
-    ap (λ (l : Located). id ∷ m.index ∷ place_words l ++ target_words (scaled_point size l)) (opposite_place s.rows s.cols m.id i j e)
+    ap (λ (l : Option Position). id ∷ m.index ∷ place_words l ++ target_words (scaled_point size l)) (opposite_place s.rows s.cols m.id i j e)

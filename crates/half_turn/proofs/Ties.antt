@@ -9,10 +9,7 @@ use lib.Dec.{lit<}
 use lib.ListN.{get_elem?}
 use Rattle.grid_alignment.specs.declared.GridAlignment.{GridAlignment}
 use Rattle.shot_record.specs.Shots.{Shot}
-use Rattle.ranking.specs.declared.Evidence.{Evidence}
 use Rattle.ranking.specs.declared.Hypothesis.{Hypothesis}
-use Rattle.ranking.specs.declared.Choice.{Choice}
-use Rattle.ranking.specs.declared.Choice.TheVariants as choice
 use Rattle.ranking.specs.Greatest.{lies_below, rest}
 use Rattle.ranking.specs.Margin.{margin}
 use Rattle.ranking.specs.Rules.{FiniteEvidence}
@@ -33,6 +30,7 @@ use Rattle.half_turn.specs.Ties.{paired_hypothesis, paired_choice, Untied, BestU
 use Rattle.half_turn.proofs.Pairs.{pair_rule, paired_twice}
 use Rattle.half_turn.proofs.Margins.{TiedNext, TiedWith, tied_margins}
 use Rattle.half_turn.proofs.Ranks.{IsBest, IsNext, no_best, best_is, best_or_rest, no_next, none_next, rest-most, next_is}
+use Rattle.std.specs.Prelude.{Option, Some, None, Float}
 
 -- ---- two shots whose placements pair
 pub record Pairing (s t : Shot) (f : GridAlignment → GridAlignment) : Type 0 where
@@ -54,10 +52,10 @@ one_to_one : (s t : Shot) (f : GridAlignment → GridAlignment) → Pairing s t 
 one_to_one s t f x p q at to e = sym (x.back p at) ∙ ap f e ∙ x.back q to
 
 module _ (s t : Shot) (f : GridAlignment → GridAlignment) (x : Pairing s t f) (c : Checked s) (d : Checked t) where
-  pub some-best : (b : Hypothesis) → best s ≡ choice.Placement b → best t ≡ choice.Absent → ⊥
+  pub some-best : (b : Hypothesis) → best s ≡ Some b → best t ≡ None → ⊥
   some-best b is e = let a = best_is s c b is in no_best t d e (f b.alignment) (x.there b.alignment a.placed)
 
-  module _ (b b' : Hypothesis) (is : best s ≡ choice.Placement b) (is' : best t ≡ choice.Placement b') where
+  module _ (b b' : Hypothesis) (is : best s ≡ Some b) (is' : best t ≡ Some b') where
     a : IsBest s b
     a = best_is s c b is
 
@@ -72,7 +70,7 @@ module _ (s t : Shot) (f : GridAlignment → GridAlignment) (x : Pairing s t f) 
     best_as_high =
         ap (lies_below b'.evidence) (sym (pair-evidence b a.placed a.is)) ∙ a'.most (f b.alignment) (x.there b.alignment a.placed)
 
-    pub some_next : (g : Hypothesis) → runner_up s ≡ choice.Placement g → runner_up t ≡ choice.Absent → ⊥
+    pub some_next : (g : Hypothesis) → runner_up s ≡ Some g → runner_up t ≡ None → ⊥
     some_next g next e =
         let n = next_is s c b is g next in
         let only = no_next t d b' is' e in
@@ -80,7 +78,7 @@ module _ (s t : Shot) (f : GridAlignment → GridAlignment) (x : Pairing s t f) 
         (only (f g.alignment) (x.there g.alignment n.placed) ∙ sym (only (f b.alignment) (x.there b.alignment a.placed))))
 
     -- g's pair is one of the rest, or the best; then b's is one of the rest, and b is not below g
-    pub next_as_high : (g g' : Hypothesis) → runner_up s ≡ choice.Placement g → runner_up t ≡ choice.Placement g' → lies_below g'.evidence g.evidence ≡ false
+    pub next_as_high : (g g' : Hypothesis) → runner_up s ≡ Some g → runner_up t ≡ Some g' → lies_below g'.evidence g.evidence ≡ false
     next_as_high g g' next next' = elim (best_or_rest t d b' is' (f g.alignment) (x.there g.alignment n.placed)) [
       | inl same ↦
           not_below_trans g'.evidence b.evidence g.evidence (finite_evidence t d g' n'.is) (finite_evidence s c b a.is)
@@ -141,51 +139,51 @@ module _ (s : Shot) (m : TurnedByHalf s) (c : Checked s) (first : 0 < cell_total
       let q = paired s h'.alignment in
       let evidence : reported s q ≡ h'.evidence = back.same h'.alignment at ∙ evidence_is (restated s) h' e' in
       let one : q ≡ h.alignment =
-      alone q (back.there h'.alignment at) (ap (λ (y : Evidence). lies_below y h.evidence) evidence ∙ low)
+      alone q (back.there h'.alignment at) (ap (λ (y : Option Float). lies_below y h.evidence) evidence ∙ low)
       (ap (lies_below h.evidence) evidence ∙ high) in
       sym e' ∙ ap (hypothesis (restated s)) (sym (new_back h'.alignment at) ∙ ap (paired s) one) ∙ pair_is h.alignment ∙ ap (paired_hypothesis s) e
 
   best_pairs : BestUntied s → best (restated s) ≡ paired_choice s (best s)
   best_pairs untied = go (best s) (best (restated s)) refl refl
     where
-      go : (o o' : Choice) → best s ≡ o → best (restated s) ≡ o' → o' ≡ paired_choice s o
-      go choice.Absent choice.Absent e e' = refl
-      go choice.Absent (choice.Placement b') e e' = absurd (some-best (restated s) s (paired s) back d c b' e' e)
-      go (choice.Placement b) choice.Absent e e' = absurd (some-best s (restated s) (paired s) forth c d b e e')
-      go (choice.Placement b) (choice.Placement b') e e' =
+      go : (o o' : Option Hypothesis) → best s ≡ o → best (restated s) ≡ o' → o' ≡ paired_choice s o
+      go None None e e' = refl
+      go None (Some b') e e' = absurd (some-best (restated s) s (paired s) back d c b' e' e)
+      go (Some b) None e e' = absurd (some-best s (restated s) (paired s) forth c d b e e')
+      go (Some b) (Some b') e e' =
           let a' = best_is (restated s) d b' e' in
-          ap choice.Placement (is-pair b b' (untied b e) (best_is s c b e).is a'.placed a'.is
+          ap Some (is-pair b b' (untied b e) (best_is s c b e).is a'.placed a'.is
           (best_as_high s (restated s) (paired s) forth c d b b' e e') (best_as_high (restated s) s (paired s) back d c b' b e' e))
 
   runner_up_pairs : NoTies s → runner_up (restated s) ≡ paired_choice s (runner_up s)
   runner_up_pairs no_ties = by_best (best s) (best (restated s)) refl refl
     where
-      by_next : (b b' : Hypothesis) → best s ≡ choice.Placement b → best (restated s) ≡ choice.Placement b' → (o o' : Choice) → runner_up s ≡ o
+      by_next : (b b' : Hypothesis) → best s ≡ Some b → best (restated s) ≡ Some b' → (o o' : Option Hypothesis) → runner_up s ≡ o
           → runner_up (restated s) ≡ o' → o' ≡ paired_choice s o
-      by_next b b' is is' choice.Absent choice.Absent e e' = refl
-      by_next b b' is is' choice.Absent (choice.Placement g') e e' = absurd (some_next (restated s) s (paired s) back d c b' b is' is g' e' e)
-      by_next b b' is is' (choice.Placement g) choice.Absent e e' = absurd (some_next s (restated s) (paired s) forth c d b b' is is' g e e')
-      by_next b b' is is' (choice.Placement g) (choice.Placement g') e e' =
+      by_next b b' is is' None None e e' = refl
+      by_next b b' is is' None (Some g') e e' = absurd (some_next (restated s) s (paired s) back d c b' b is' is g' e' e)
+      by_next b b' is is' (Some g) None e e' = absurd (some_next s (restated s) (paired s) forth c d b b' is is' g e e')
+      by_next b b' is is' (Some g) (Some g') e e' =
           let n' = next_is (restated s) d b' is' g' e' in
-          ap choice.Placement (is-pair g g' (no_ties.of_runner_up g e) (next_is s c b is g e).is n'.placed n'.is
+          ap Some (is-pair g g' (no_ties.of_runner_up g e) (next_is s c b is g e).is n'.placed n'.is
           (next_as_high s (restated s) (paired s) forth c d b b' is is' g g' e e')
           (next_as_high (restated s) s (paired s) back d c b' b is' is g' g e' e))
 
       -- without a best there is no placement, and no runner_up_is
-      by_best : (o o' : Choice) → best s ≡ o → best (restated s) ≡ o' → runner_up (restated s) ≡ paired_choice s (runner_up s)
-      by_best choice.Absent choice.Absent e e' =
+      by_best : (o o' : Option Hypothesis) → best s ≡ o → best (restated s) ≡ o' → runner_up (restated s) ≡ paired_choice s (runner_up s)
+      by_best None None e e' =
           none_next (restated s) e' ∙ ap (paired_choice s) (sym (none_next s e))
-      by_best choice.Absent (choice.Placement b') e e' = absurd (some-best (restated s) s (paired s) back d c b' e' e)
-      by_best (choice.Placement b) choice.Absent e e' = absurd (some-best s (restated s) (paired s) forth c d b e e')
-      by_best (choice.Placement b) (choice.Placement b') e e' = by_next b b' e e' (runner_up s) (runner_up (restated s)) refl refl
+      by_best None (Some b') e e' = absurd (some-best (restated s) s (paired s) back d c b' e' e)
+      by_best (Some b) None e e' = absurd (some-best s (restated s) (paired s) forth c d b e e')
+      by_best (Some b) (Some b') e e' = by_next b b' e e' (runner_up s) (runner_up (restated s)) refl refl
 
   -- ---- the margin
-  module _ (b b' : Hypothesis) (is : best s ≡ choice.Placement b) (is' : best (restated s) ≡ choice.Placement b') where
-    next_ties : (o o' : Choice) → runner_up s ≡ o → runner_up (restated s) ≡ o' → TiedNext o o'
-    next_ties choice.Absent choice.Absent e e' = tt
-    next_ties choice.Absent (choice.Placement g') e e' = some_next (restated s) s (paired s) back d c b' b is' is g' e' e
-    next_ties (choice.Placement g) choice.Absent e e' = some_next s (restated s) (paired s) forth c d b b' is is' g e e'
-    next_ties (choice.Placement g) (choice.Placement g') e e' = (
+  module _ (b b' : Hypothesis) (is : best s ≡ Some b) (is' : best (restated s) ≡ Some b') where
+    next_ties : (o o' : Option Hypothesis) → runner_up s ≡ o → runner_up (restated s) ≡ o' → TiedNext o o'
+    next_ties None None e e' = tt
+    next_ties None (Some g') e e' = some_next (restated s) s (paired s) back d c b' b is' is g' e' e
+    next_ties (Some g) None e e' = some_next s (restated s) (paired s) forth c d b b' is is' g e e'
+    next_ties (Some g) (Some g') e e' = (
       (
         next_as_high (restated s) s (paired s) back d c b' b is' is g' g e' e,
         next_as_high s (restated s) (paired s) forth c d b b' is is' g g' e e',
@@ -195,7 +193,7 @@ module _ (s : Shot) (m : TurnedByHalf s) (c : Checked s) (first : 0 < cell_total
     )
 
     -- the bests pair, or the best ties with the runner_up_is
-    pair_or_tie : (o : Choice) → runner_up s ≡ o → (capacity s b.alignment ≡ capacity (restated s) b'.alignment) ⊎ TiedWith b.evidence o
+    pair_or_tie : (o : Option Hypothesis) → runner_up s ≡ o → (capacity s b.alignment ≡ capacity (restated s) b'.alignment) ⊎ TiedWith b.evidence o
     pair_or_tie o e = by_next o e (best_or_rest s c b is q placed)
       where
         a : IsBest s b
@@ -214,11 +212,11 @@ module _ (s : Shot) (m : TurnedByHalf s) (c : Checked s) (first : 0 < cell_total
         pairs same =
             ap (capacity s) (sym same) ∙ sym (pair_rule s m q).capacity ∙ ap (capacity (restated s)) (new_back b'.alignment a'.placed)
 
-        by_next : (o : Choice) → runner_up s ≡ o → (q ≡ b.alignment) ⊎ ((k : ℕ) × (get_elem? (rest (hypotheses s)) k ≡ some (hypothesis s q)))
+        by_next : (o : Option Hypothesis) → runner_up s ≡ o → (q ≡ b.alignment) ⊎ ((k : ℕ) × (get_elem? (rest (hypotheses s)) k ≡ some (hypothesis s q)))
             → (capacity s b.alignment ≡ capacity (restated s) b'.alignment) ⊎ TiedWith b.evidence o
         by_next o e (inl same) = inl (pairs same)
-        by_next choice.Absent e (inr (k, at)) = inl (pairs (no_next s c b is e q placed))
-        by_next (choice.Placement g) e (inr (k, at)) =
+        by_next None e (inr (k, at)) = inl (pairs (no_next s c b is e q placed))
+        by_next (Some g) e (inr (k, at)) =
             let n = next_is s c b is g e in
             let evidence : reported s q ≡ b'.evidence = back.same b'.alignment a'.placed ∙ evidence_is (restated s) b' a'.is in
             inr (
@@ -243,11 +241,11 @@ module _ (s : Shot) (m : TurnedByHalf s) (c : Checked s) (first : 0 < cell_total
   same-margin : margin_of (restated s) ≡ margin_of s
   same-margin = go (best s) (best (restated s)) refl refl
     where
-      go : (o o' : Choice) → best s ≡ o → best (restated s) ≡ o' → margin_with (restated s) o' ≡ margin_with s o
-      go choice.Absent choice.Absent e e' = refl
-      go choice.Absent (choice.Placement b') e e' = absurd (some-best (restated s) s (paired s) back d c b' e' e)
-      go (choice.Placement b) choice.Absent e e' = absurd (some-best s (restated s) (paired s) forth c d b e e')
-      go (choice.Placement b) (choice.Placement b') e e' = same_margins b b' e e'
+      go : (o o' : Option Hypothesis) → best s ≡ o → best (restated s) ≡ o' → margin_with (restated s) o' ≡ margin_with s o
+      go None None e e' = refl
+      go None (Some b') e e' = absurd (some-best (restated s) s (paired s) back d c b' e' e)
+      go (Some b) None e e' = absurd (some-best s (restated s) (paired s) forth c d b e e')
+      go (Some b) (Some b') e e' = same_margins b b' e e'
 
 pub margin_rule : MarginRule
 margin_rule s m c first = same-margin s m c first

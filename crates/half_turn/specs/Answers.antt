@@ -1,6 +1,6 @@
 -- Document 02, 2.7: the result of Match for a legacy record and for the record restated: "turn r and translation t on the old sheet pair with turn
 -- (r + 2) mod 4 and (cols − 1, rows − 1) − t on the new, with equal evidence bits."
-use Rattle.std.specs.Prelude.{◌≡◌, ℕ, ◌<◌, length, get_or}
+use Rattle.std.specs.Prelude.{◌≡◌, ℕ, ◌<◌, length, get_or, Result, Ok, Err}
 use mathlib.Core.List.{List, map, flat_map}
 use Rattle.std.proofs.Math.Option.{Option, none, some}
 use Rattle.refusal.specs.declared.Refusal.{Refusal}
@@ -11,8 +11,6 @@ use Rattle.shot_record.specs.Answers.{spec_of}
 use Rattle.hypothesis.specs.Evidence.{board_in}
 use Rattle.emit.specs.Markers.{marker_words}
 use Rattle.board_match.specs.declared.Match.{Match}
-use Rattle.board_match.specs.declared.Matched.{Matched}
-use Rattle.board_match.specs.declared.Matched.TheVariants as matched
 use Rattle.board_match.specs.Questions.{asked_from9}
 use Rattle.board_match.specs.Match.{markers_of, refused_by, match_answer, match_list}
 use Rattle.legacy_record.specs.Restated.{restated}
@@ -36,9 +34,9 @@ paired_match s m =
     }
 
 -- an error is the same error
-abbrev pub paired_answer : Shot → Matched → Matched
-paired_answer s (matched.Placed m) = matched.Placed (paired_match s m)
-paired_answer s (matched.Refused refused) = matched.Refused refused
+abbrev pub paired_answer : Shot → Result Match Refusal → Result Match Refusal
+paired_answer s (Ok m) = Ok (paired_match s m)
+paired_answer s (Err refused) = Err refused
 
 -- questions 9 to 14 and 23, for every shot: nothing that they check changes
 abbrev pub QuestionsRule : Type 0

@@ -1,9 +1,8 @@
 -- Document 02, 2.7: "corner id c of C becomes C − 1 − c". Neither the legacy flag nor the codes decide on corners, so this holds of boards of every size.
-use Rattle.std.specs.Prelude.{◌≡◌, List, [], ◌∷◌, map, reverse, ℕ, ◌+◌, ◌-◌, ◌%◌, ◌<◌, ℤ, pos, ◌-ℤ◌, Float}
+use Rattle.std.specs.Prelude.{◌≡◌, List, [], ◌∷◌, map, reverse, ℕ, ◌+◌, ◌-◌, ◌%◌, ◌<◌, ℤ, pos, ◌-ℤ◌, Float, Some}
 use Rattle.grid_alignment.specs.declared.GridAlignment.{GridAlignment}
 use Rattle.grid_alignment.specs.Alignment.{corner_alignment}
 use Rattle.board.specs.declared.Board.{Board}
-use Rattle.board.specs.declared.Located.TheVariants as located
 use Rattle.board.specs.Layout.{corner_count, corner_place}
 use Rattle.shot_record.specs.Shots.{Shot}
 use Rattle.corner_mapping.specs.Corners.{MappedCorner, chosen, mapped, corner_words}
@@ -12,6 +11,7 @@ use Rattle.corner_mapping.specs.Rules.{along}
 use Rattle.hypothesis.specs.Evidence.{board_in}
 use Rattle.legacy_record.specs.Restated.{restated}
 use Rattle.half_turn.specs.Pairs.{paired}
+use Rattle.board.specs.Numbering.{position}
 
 -- turn r and corner translation t pair with turn (r + 2) mod 4 and (cols, rows) − t
 abbrev pub paired_corners : Board → GridAlignment → GridAlignment
@@ -38,7 +38,7 @@ MappedRule = (s : Shot) (a : GridAlignment) (scores : List Float) (grid : List �
 
 -- its six words: board corner (i, j) becomes (cols − i, rows − j)
 abbrev pub CornerWordsRule : Type 0
-CornerWordsRule = (s : Shot) (m : MappedCorner) (i j : ℕ) → corner_place s.rows s.cols m.id ≡ located.At i j
+CornerWordsRule = (s : Shot) (m : MappedCorner) (i j : ℕ) → corner_place s.rows s.cols m.id ≡ Some (position i j)
     → corner_words (board_in (restated s)) (paired_mapped (board_in s) m)
     ≡ (corner_count s.rows s.cols - 1 - m.id) ∷ m.index ∷ (s.cols - i) ∷ (s.rows - j)
     ∷ along (board_in s).cell_size (s.cols - i) ∷ along (board_in s).cell_size (s.rows - j) ∷ []

@@ -1,9 +1,7 @@
 -- Document 02, 2.7: "turn r and translation t on the old sheet pair with turn (r + 2) mod 4 and (cols − 1, rows − 1) − t on the new, with equal
 -- evidence bits. Marker id m of M becomes M − 1 − m". For every legacy shot with even rows and odd cols, of every size, and the shot restated.
-use Rattle.std.specs.Prelude.{◌≡◌, true, ℕ, ◌+◌, ◌-◌, ◌%◌, ◌<◌, pos, ◌-ℤ◌}
+use Rattle.std.specs.Prelude.{◌≡◌, true, ℕ, ◌+◌, ◌-◌, ◌%◌, ◌<◌, pos, ◌-ℤ◌, Option, Some, None}
 use Rattle.grid_alignment.specs.declared.GridAlignment.{GridAlignment}
-use Rattle.board.specs.declared.Numbered.{Numbered}
-use Rattle.board.specs.declared.Numbered.TheVariants as numbered
 use Rattle.board.specs.Layout.{marker_total}
 use Rattle.shot_record.specs.Shots.{Shot}
 use Rattle.hypothesis.specs.Placements.{placements}
@@ -18,9 +16,9 @@ pub record TurnedByHalf (s : Shot) : Type 0 where
   pub odd_cols : s.cols % 2 ≡ 1
 
 -- id m of n, counted from the last
-abbrev pub from_last : ℕ → Numbered → Numbered
-from_last n (numbered.Id m) = numbered.Id (n - 1 - m)
-from_last n numbered.Absent = numbered.Absent
+abbrev pub from_last : ℕ → Option ℕ → Option ℕ
+from_last n (Some m) = Some (n - 1 - m)
+from_last n None = None
 
 -- the placement on the new sheet
 abbrev pub paired : Shot → GridAlignment → GridAlignment

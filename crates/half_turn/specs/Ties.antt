@@ -1,11 +1,9 @@
 -- Document 02, 2.7: best and runner_up_is of a legacy shot and of the shot restated. "Ties may choose another best": they pair where no other placement
 -- ties with one of the two.
-use Rattle.std.specs.Prelude.{◌≡◌, false, ◌<◌}
+use Rattle.std.specs.Prelude.{◌≡◌, false, ◌<◌, Option, Some, None}
 use Rattle.grid_alignment.specs.declared.GridAlignment.{GridAlignment}
 use Rattle.shot_record.specs.Shots.{Shot}
 use Rattle.ranking.specs.declared.Hypothesis.{Hypothesis}
-use Rattle.ranking.specs.declared.Choice.{Choice}
-use Rattle.ranking.specs.declared.Choice.TheVariants as choice
 use Rattle.ranking.specs.Greatest.{lies_below}
 use Rattle.hypothesis.specs.Placements.{cell_total}
 use Rattle.hypothesis.specs.Evidence.{reported}
@@ -20,9 +18,9 @@ abbrev pub paired_hypothesis : Shot → Hypothesis → Hypothesis
 paired_hypothesis s h =
     record { alignment = paired s h.alignment; evidence = h.evidence; contributing_cells = h.contributing_cells }
 
-abbrev pub paired_choice : Shot → Choice → Choice
-paired_choice s choice.Absent = choice.Absent
-paired_choice s (choice.Placement h) = choice.Placement (paired_hypothesis s h)
+abbrev pub paired_choice : Shot → Option Hypothesis → Option Hypothesis
+paired_choice s None = None
+paired_choice s (Some h) = Some (paired_hypothesis s h)
 
 -- no other placement has the evidence of h: where neither is below the other, it is h's
 abbrev pub Untied : Shot → Hypothesis → Type 0
@@ -31,12 +29,12 @@ Untied s h = (q : GridAlignment) → Placement s q → lies_below (reported s q)
 
 -- no other placement has the best's evidence
 abbrev pub BestUntied : Shot → Type 0
-BestUntied s = (b : Hypothesis) → best s ≡ choice.Placement b → Untied s b
+BestUntied s = (b : Hypothesis) → best s ≡ Some b → Untied s b
 
 -- and no third one the runner-up's; placements without evidence tie with each other
 pub record NoTies (s : Shot) : Type 0 where
   pub of_best : BestUntied s
-  pub of_runner_up : (g : Hypothesis) → runner_up s ≡ choice.Placement g → Untied s g
+  pub of_runner_up : (g : Hypothesis) → runner_up s ≡ Some g → Untied s g
 
 -- `Absent` pairs with `Absent`: there is no placement, or no second one
 abbrev pub BestRule : Type 0

@@ -13,13 +13,10 @@ use Rattle.grid_alignment.specs.declared.GridAlignment.{GridAlignment}
 use Rattle.grid_alignment.specs.Alignment.{SmallAlignment}
 use Rattle.shot_record.specs.Shots.{Shot}
 use Rattle.ranking.specs.declared.Hypothesis.{Hypothesis}
-use Rattle.ranking.specs.declared.Choice.{Choice}
-use Rattle.ranking.specs.declared.Choice.TheVariants as choice
 use Rattle.ranking.specs.Greatest.{first_greatest, rest}
 use Rattle.ranking.specs.Rules.{AllFinite, IsFirstGreatest}
 use Rattle.ranking.proofs.Greatest.{empty, greatest_rule}
 use Rattle.hypothesis.specs.declared.Selection.{Selection}
-use Rattle.hypothesis.specs.declared.Enumerated.TheVariants as enumerated
 use Rattle.hypothesis.specs.Placements.{frame, moves_across, moves_down, placements}
 use Rattle.hypothesis.specs.Evidence.{contributing_cells, reported}
 use Rattle.hypothesis.specs.Search.{hypothesis, hypotheses, best, runner_up, selection, selected, enumerate}
@@ -29,6 +26,7 @@ use Rattle.hypothesis.proofs.Sides.{near-frame}
 use Rattle.hypothesis.proofs.Places.{Stands, stands}
 use Rattle.hypothesis.proofs.Placements.{positive, distinct}
 use Rattle.hypothesis.proofs.Turned.{across_small, down-small, all_finite}
+use Rattle.std.specs.Prelude.{Option, Some, None}
 
 -- ---- the best placement
 pub record BestPlaced (s : Shot) (b : Hypothesis) : Type 0 where
@@ -69,7 +67,7 @@ module _ (s : Shot) (p : PassedShot s) where
       let t = small_translation k q o in
       record { turn = omega (arith, ap (λ (a : GridAlignment). a.turn) o.is, o.turn); tx = t.0; ty = t.1 }
 
-  pub best_placed : (b : Hypothesis) → best s ≡ choice.Placement b → BestPlaced s b
+  pub best_placed : (b : Hypothesis) → best s ≡ Some b → BestPlaced s b
   best_placed b e =
       let g = greatest_rule (hypotheses s) b (all_finite s p.checked (placements s)) e in
       let m = mapped s (placements s) g.place b g.there in
@@ -90,7 +88,7 @@ module _ (s : Shot) (c : Checked s) where
       let r = without (hypotheses s) g.place k h (ap (λ (l : List Hypothesis). get_elem? l k) (sym g.others) ∙ e) in
       all_finite s c (placements s) r.0 h r.2
 
-  pub runner_up-placed : (b g : Hypothesis) → best s ≡ choice.Placement b → runner_up s ≡ choice.Placement g → RunsUp s b g
+  pub runner_up-placed : (b g : Hypothesis) → best s ≡ Some b → runner_up s ≡ Some g → RunsUp s b g
   runner_up-placed b g is next =
       let f = greatest_rule (hypotheses s) b (all_finite s c (placements s)) is in
       let h = greatest_rule (rest (hypotheses s)) g (rest_finite b f) next in
@@ -107,31 +105,31 @@ module _ (s : Shot) (c : Checked s) where
 
 -- ---- the result
 pub record Chosen (s : Shot) (x : Selection) : Type 0 where
-  pub best_is : best s ≡ choice.Placement x.best
+  pub best_is : best s ≡ Some x.best
   pub is : x ≡ selection s x.best
 
-pub chosen : (s : Shot) (x : Selection) → enumerate s ≡ enumerated.Selected x → Chosen s x
+pub chosen : (s : Shot) (x : Selection) → enumerate s ≡ Some x → Chosen s x
 unfolding enumerate
 chosen s x e = go (best s) refl e
   where
-    go : (c : Choice) → best s ≡ c → selected s c ≡ enumerated.Selected x → Chosen s x
-    go choice.Absent h q = absurd (let z : ◌≡◌ {A = ℕ} 0 1 = cc in omega arith)
-    go (choice.Placement b) h q =
+    go : (c : Option Hypothesis) → best s ≡ c → selected s c ≡ Some x → Chosen s x
+    go None h q = absurd (let z : ◌≡◌ {A = ℕ} 0 1 = cc in omega arith)
+    go (Some b) h q =
         let i : selection s b ≡ x = cc in
-        record { best_is = h ∙ ap (λ (y : Selection). choice.Placement y.best) i; is = sym i ∙ ap (λ (y : Selection). selection s y.best) i }
+        record { best_is = h ∙ ap (λ (y : Selection). Some y.best) i; is = sym i ∙ ap (λ (y : Selection). selection s y.best) i }
 
-not_empty : (s : Shot) (ps : List GridAlignment) (b : Hypothesis) → first_greatest (map (hypothesis s) ps) ≡ choice.Placement b → 0 < length ps
+not_empty : (s : Shot) (ps : List GridAlignment) (b : Hypothesis) → first_greatest (map (hypothesis s) ps) ≡ Some b → 0 < length ps
 unfolding first_greatest
 not_empty s [] b e = absurd (let z : ◌≡◌ {A = ℕ} 0 1 = cc in omega arith)
 not_empty s (p ∷ ps) b e = omega arith
 
-pub some_placement : (s : Shot) (x : Selection) → enumerate s ≡ enumerated.Selected x → 0 < length (placements s)
+pub some_placement : (s : Shot) (x : Selection) → enumerate s ≡ Some x → 0 < length (placements s)
 some_placement s x e = not_empty s (placements s) x.best (chosen s x e).best_is
 
-pub no_placement : (s : Shot) → enumerate s ≡ enumerated.Absent → length (placements s) ≡ 0
+pub no_placement : (s : Shot) → enumerate s ≡ None → length (placements s) ≡ 0
 unfolding enumerate
 no_placement s e = sym (length-map (placements s) (hypothesis s)) ∙ ap length (empty (hypotheses s) (go (best s) refl e))
   where
-    go : (c : Choice) → best s ≡ c → selected s c ≡ enumerated.Absent → best s ≡ choice.Absent
-    go choice.Absent h q = h
-    go (choice.Placement b) h q = absurd (let z : ◌≡◌ {A = ℕ} 0 1 = cc in omega arith)
+    go : (c : Option Hypothesis) → best s ≡ c → selected s c ≡ None → best s ≡ None
+    go None h q = h
+    go (Some b) h q = absurd (let z : ◌≡◌ {A = ℕ} 0 1 = cc in omega arith)

@@ -11,8 +11,6 @@ use Rattle.grid_alignment.specs.declared.Coord.{Coord}
 use Rattle.grid_alignment.specs.declared.GridAlignment.{GridAlignment}
 use Rattle.grid_alignment.specs.Alignment.{applied}
 use Rattle.board.specs.declared.Board.{Board}
-use Rattle.board.specs.declared.Numbered.{Numbered}
-use Rattle.board.specs.declared.Numbered.TheVariants as numbered
 use Rattle.score_matrix.specs.Scores.{Samples, null_score}
 use Rattle.lent_list.specs.Front.{up_to}
 use Rattle.shot_record.specs.Shots.{Shot}
@@ -23,6 +21,7 @@ use Rattle.hypothesis.specs.Evidence.{capacity_sum, capacity}
 use Rattle.hypothesis.specs.Inputs.{SearchInput}
 use Rattle.hypothesis.specs.Capacity.{with_marker, marker_under, with_cell, capacity_to}
 use Rattle.hypothesis.proofs.IndexedCells.{cells_are, board-is, point-is, weight_is}
+use Rattle.std.specs.Prelude.{Option, Some, None}
 
 -- ---- one more cell
 module _ (s : Shot) (total most : Float) (most_is : most ≡ neg (null_score s.bits)) where
@@ -33,9 +32,9 @@ module _ (s : Shot) (total most : Float) (most_is : most ≡ neg (null_score s.b
   if_counted true c = ap (λ (x : Float). add binary32 total (mul binary32 c.weight x)) most_is
   if_counted false c = refl
 
-  marker_step : (w : Float) (x : Samples) (m : Numbered) → with_marker total most w m ≡ with_cells (contributed_with w x m)
-  marker_step w x numbered.Absent = refl
-  marker_step w x (numbered.Id m) = if_counted (lt nought w) (record { weight = w; samples = x; id = m })
+  marker_step : (w : Float) (x : Samples) (m : Option ℕ) → with_marker total most w m ≡ with_cells (contributed_with w x m)
+  marker_step w x None = refl
+  marker_step w x (Some m) = if_counted (lt nought w) (record { weight = w; samples = x; id = m })
 
 module _ (s : Shot) (i : Inputs) (index : List ℕ) (input : SearchInput s i index) (p : GridAlignment) where
   -- the sum with cell k

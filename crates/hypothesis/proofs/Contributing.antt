@@ -15,8 +15,6 @@ use lib.Ieee.{Float, lt}
 use Rattle.floats.specs.Units.{nought}
 use Rattle.grid_alignment.specs.declared.GridAlignment.{GridAlignment}
 use Rattle.grid_alignment.specs.Alignment.{applied}
-use Rattle.board.specs.declared.Numbered.{Numbered}
-use Rattle.board.specs.declared.Numbered.TheVariants as numbered
 use Rattle.board.specs.declared.Board.{Board}
 use Rattle.board.specs.Numbering.{as_one, count_passing, number_if, number_at, number_atℤ}
 use Rattle.board.specs.Layout.{marker_on}
@@ -24,11 +22,11 @@ use Rattle.board.proofs.Counting.{count_at-most}
 use Rattle.score_matrix.specs.Scores.{Samples}
 use Rattle.lent_list.specs.Front.{up_to}
 use Rattle.shot_record.specs.Shots.{Shot}
-use Rattle.ranking.specs.declared.Evidence.TheVariants as evidence
 use Rattle.hypothesis.specs.Placements.{cell_total, cell_point}
 use Rattle.hypothesis.specs.Evidence.{board_in, weight_of, samples_of, expected, Contribution, contributed_with, contributed, contributions_to, contributions}
 use Rattle.hypothesis.specs.Evidence.{reported_over, reported, exact_over, exact}
 use Rattle.hypothesis.specs.Rules.{Contributes, NoneRule, is_marker_square, is_contributing, CountRule}
+use Rattle.std.specs.Prelude.{Option, Some, None}
 
 -- ---- the lists f 0, …, f (n − 1)
 module _ {A : Type 0} (f : ℕ → List A) (x : A) where
@@ -87,11 +85,11 @@ module _ (s : Shot) (p : GridAlignment) where
   unfolding contributed
   contributes c k inside i = go (expected s p k) refl (lt nought (weight_of s k)) refl i
     where
-      go : (m : Numbered) → expected s p k ≡ m → (t : Bool) → lt nought (weight_of s k) ≡ t → Memᴰ c (contributed_with (weight_of s k) (samples_of s k) m)
+      go : (m : Option ℕ) → expected s p k ≡ m → (t : Bool) → lt nought (weight_of s k) ≡ t → Memᴰ c (contributed_with (weight_of s k) (samples_of s k) m)
           → Contributes s p k
-      go numbered.Absent e t h i = absurd (Memᴰ.not-nil i)
-      go (numbered.Id m) e true h i = record { inside = inside; id = m; marker = e; weight = h }
-      go (numbered.Id m) e false h i = absurd (Memᴰ.not-nil (rw h at i))
+      go None e t h i = absurd (Memᴰ.not-nil i)
+      go (Some m) e true h i = record { inside = inside; id = m; marker = e; weight = h }
+      go (Some m) e false h i = absurd (Memᴰ.not-nil (rw h at i))
 
   stands : (k : ℕ) → Contributes s p k → (c : Contribution) × Memᴰ c (contributions s p)
   unfolding contributed
@@ -119,7 +117,7 @@ none_rule s p =
         go [] f = refl
         go (c ∷ cs) f = absurd (f c (Memᴰ.head refl))
 
-    reported_none : (cs : List Contribution) → reported_over s p.turn cs ≡ evidence.Absent → (c : Contribution) × Memᴰ c cs → ⊥
+    reported_none : (cs : List Contribution) → reported_over s p.turn cs ≡ None → (c : Contribution) × Memᴰ c cs → ⊥
     reported_none [] e c = Memᴰ.not-nil c.1
     reported_none (d ∷ cs) e c = let z : ◌≡◌ {A = ℕ} 0 1 = cc in omega arith
 
@@ -138,10 +136,10 @@ count_rule s p =
       none_only_if = none_only_if (contributions s p);
     }
   where
-    none_if : (cs : List Contribution) → length cs ≡ 0 → reported_over s p.turn cs ≡ evidence.Absent
+    none_if : (cs : List Contribution) → length cs ≡ 0 → reported_over s p.turn cs ≡ None
     none_if [] e = refl
     none_if (c ∷ cs) e = absurd (omega (arith, e))
 
-    none_only_if : (cs : List Contribution) → reported_over s p.turn cs ≡ evidence.Absent → length cs ≡ 0
+    none_only_if : (cs : List Contribution) → reported_over s p.turn cs ≡ None → length cs ≡ 0
     none_only_if [] e = refl
     none_only_if (c ∷ cs) e = absurd (let z : ◌≡◌ {A = ℕ} 0 1 = cc in omega arith)

@@ -8,8 +8,6 @@ use lib.Ieee.{lt}
 use Rattle.floats.specs.Units.{nought}
 use Rattle.grid_alignment.specs.declared.Coord.{Coord}
 use Rattle.grid_alignment.specs.declared.GridAlignment.{GridAlignment}
-use Rattle.board.specs.declared.Numbered.{Numbered}
-use Rattle.board.specs.declared.Numbered.TheVariants as numbered
 use Rattle.board.specs.Numbering.{number_if}
 use Rattle.board.specs.Layout.{parity_of, holds_marker, marker_total, marker_on}
 use Rattle.board.proofs.Laws.{id_below}
@@ -21,6 +19,7 @@ use Rattle.hypothesis.specs.Evidence.{board_in, weight_of, samples_of, expected,
 use Rattle.hypothesis.specs.Sums.{marker_after, Stays}
 use Rattle.hypothesis.proofs.Moves.{on_square_lem}
 use Rattle.hypothesis.proofs.Frames.{offset_u, offset_v, framed, lands}
+use Rattle.std.specs.Prelude.{Option, Some, None}
 
 -- cell k as one that may contribute
 abbrev pub counted_cell : Shot → ℕ → ℕ → Counted
@@ -61,7 +60,7 @@ module _ (s : Shot) (r k : ℕ) (inside : k < cell_total s) where
     abbrev pub share : Contribution
     share = record { weight = weight_of s k; samples = samples_of s k; id = id }
 
-    by_marker : (e : Numbered) (t : Bool) → e ≡ number_if t id → lt nought (weight_of s k) ≡ true
+    by_marker : (e : Option ℕ) (t : Bool) → e ≡ number_if t id → lt nought (weight_of s k) ≡ true
         → contributed_with (weight_of s k) (samples_of s k) e ≡ cond t (share ∷ []) []
     by_marker e true is heavy = rw (is, heavy) refl
     by_marker e false is heavy = rw is refl
@@ -75,6 +74,6 @@ pub light : (s : Shot) (p : GridAlignment) (k : ℕ) → lt nought (weight_of s 
 unfolding contributed
 light s p k w = go (expected s p k)
   where
-    go : (m : Numbered) → contributed_with (weight_of s k) (samples_of s k) m ≡ []
-    go numbered.Absent = refl
-    go (numbered.Id m) = rw w refl
+    go : (m : Option ℕ) → contributed_with (weight_of s k) (samples_of s k) m ≡ []
+    go None = refl
+    go (Some m) = rw w refl

@@ -12,7 +12,6 @@ use lib.Ieee.{Float, nan, binary32, add, lt}
 use borrow.Author.Tests.{eq-eqb, ne_eqb}
 use Rattle.floats.specs.Units.{nought}
 use Rattle.grid_alignment.specs.declared.GridAlignment.{GridAlignment}
-use Rattle.board.specs.declared.Numbered.{Numbered}
 use Rattle.board.specs.Numbering.{as_one, number_if}
 use Rattle.board.specs.Layout.{parity_of, holds_marker}
 use Rattle.board.proofs.Counting.{one-small}
@@ -29,6 +28,7 @@ use Rattle.hypothesis.specs.Filling.{SumsTo, with_counted, CellScores}
 use Rattle.hypothesis.specs.Sums.{plus_score, plus_marker, plus_cell, Added}
 use Rattle.hypothesis.proofs.Contributing.{one_if}
 use Rattle.hypothesis.proofs.Contributions.{counted_cell, on, share, marker-is, id_known, counts}
+use Rattle.std.specs.Prelude.{Option}
 
 -- ---- one more cell in a sum
 abbrev with_cells : Shot → ℕ → Float → List Contribution → Float
@@ -98,7 +98,7 @@ module _ (s : Shot) (r n : ℕ) (sums : List Float) (contributing : Contributing
       value-is : (x : Float) → x ≡ reported_sum s r (contributions_to s (shifted s r a b) n)
           → plus_cell counted score a b x ≡ reported_sum s r (contributions_to s (shifted s r a b) (n + 1))
       value-is x e =
-          ap (λ (q : Numbered). plus_marker counted score q x) (marker-is s r n inside a b l m)
+          ap (λ (q : Option ℕ). plus_marker counted score q x) (marker-is s r n inside a b l m)
           ∙ by_square t refl x
           ∙ ap₂ (with_cells s r) e (sym is)
           ∙ sym (next s r (shifted s r a b) n)

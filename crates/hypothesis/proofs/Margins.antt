@@ -8,10 +8,7 @@ use Rattle.floats.specs.Units.{nought}
 use Rattle.floats.proofs.Signs.{nonnegative_not_nan}
 use Rattle.grid_alignment.specs.declared.GridAlignment.{GridAlignment}
 use Rattle.shot_record.specs.Shots.{Shot}
-use Rattle.ranking.specs.declared.Evidence.{Evidence}
 use Rattle.ranking.specs.declared.Hypothesis.{Hypothesis}
-use Rattle.ranking.specs.declared.Choice.{Choice}
-use Rattle.ranking.specs.declared.Choice.TheVariants as choice
 use Rattle.ranking.specs.Greatest.{lies_below, rest}
 use Rattle.ranking.specs.Margin.{margin}
 use Rattle.ranking.proofs.Margins.{Small, SmallNext, margin_nonnegative}
@@ -23,6 +20,7 @@ use Rattle.hypothesis.specs.Accuracy.{Checked}
 use Rattle.hypothesis.proofs.Partial.{capacity_item}
 use Rattle.hypothesis.proofs.Accuracy.{reported-small}
 use Rattle.hypothesis.proofs.Turned.{all_finite}
+use Rattle.std.specs.Prelude.{Option, Some, None, Float}
 
 -- ---- a placement with its reported evidence
 abbrev Reported : Shot → Hypothesis → Type 0
@@ -37,12 +35,12 @@ module _ (s : Shot) (c : Checked s) where
   small : (h : Hypothesis) → Reported s h → Small h.evidence
   small h e = subst Small (sym e) (reported-small s c h.alignment)
 
-  small_next : (b : Evidence) (next : Choice) → Of (Reported s) next → Of (λ h. lies_below b h.evidence ≡ false) next → SmallNext b next
-  small_next b choice.Absent h k = tt
-  small_next b (choice.Placement g) h k = (small g h, k)
+  small_next : (b : Option Float) (next : Option Hypothesis) → Of (Reported s) next → Of (λ h. lies_below b h.evidence ≡ false) next → SmallNext b next
+  small_next b None h k = tt
+  small_next b (Some g) h k = (small g h, k)
 
   -- best and runner_up_is are among the placements, and the runner_up_is does not rank above the best: so the margin is at least 0, and a number
-  module _ (b : Hypothesis) (is : best s ≡ choice.Placement b) where
+  module _ (b : Hypothesis) (is : best s ≡ Some b) where
     pub margin_at-least_0 : T (le nought (margin b.evidence (capacity s b.alignment) (runner_up s)))
     margin_at-least_0 =
         let a = all_reported s (placements s) in

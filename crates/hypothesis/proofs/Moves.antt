@@ -18,7 +18,6 @@ use borrow.Author.Count.{below_more}
 use borrow.Author.Tests.{ltb-true, ltb-false}
 use Rattle.integers.proofs.Distances.{lt_or_le}
 use Rattle.board.specs.declared.Board.{Board}
-use Rattle.board.specs.declared.Numbered.{Numbered}
 use Rattle.board.specs.Numbering.{number_if, number_atℤ}
 use Rattle.board.specs.Layout.{parity_of}
 use Rattle.board.proofs.Markers.{parity_bit, number-on}
@@ -28,6 +27,7 @@ use Rattle.hypothesis.specs.declared.sums.Counted.{Counted}
 use Rattle.hypothesis.specs.declared.sums.Move.{Move}
 use Rattle.hypothesis.specs.Sums.{plus_score, with_score, plus_marker, plus_cell, Stays, NumberOn, OfMarker, OfEight, with_code}
 use Rattle.hypothesis.specs.Sums.{order, marked, OnMarker, move_from, FirstMove, next_move, move_after, Inside, AddedBefore}
+use Rattle.std.specs.Prelude.{Option}
 
 -- small numbers fit in a word
 pub fits-small : (n : ℕ) → n ≤ 2048 → Fits w64 n
@@ -129,7 +129,7 @@ module _ (c : Counted) (across down : ℕ) (stays : Stays c across down) where
             → get_or now (a * down + b) nan ≡ plus_cell c score a b (get_or entry (a * down + b) nan)
         done a b l k e = elim (lt_or_le (63 * a + b) n) [
           | inl g ↦ u.done a b l k g
-          | inr g ↦ u.left a b l k g ∙ sym (ap (λ (q : Numbered). plus_marker c score q (get_or entry (a * down + b) nan))
+          | inr g ↦ u.left a b l k g ∙ sym (ap (λ (q : Option ℕ). plus_marker c score q (get_or entry (a * down + b) nan))
               (on_square_lem c.board (c.i + a) (c.j + b) (omega arith) (omega arith)
               ∙ ap (λ (t : Bool). number_if t (((c.j + b) * c.board.cols + (c.i + a)) / 2)) (off a b (f.none a b k g e))))
         ]
@@ -168,7 +168,7 @@ module _ (c : Counted) (across down : ℕ) (stays : Stays c across down) where
         here =
             get_or-set_same now at y nan (rw u.size (omega (arith, room, digits_lt inside h.row)))
             ∙ ap₂ (plus_score c.weight c.null) is.2 (u.left m.a m.b inside h.row (omega arith))
-            ∙ sym (ap (λ (q : Numbered). plus_marker c score q (get_or entry at nan)) (is.1 ∙ ap (λ (t : Bool). number_if t is.0) h.on))
+            ∙ sym (ap (λ (q : Option ℕ). plus_marker c score q (get_or entry at nan)) (is.1 ∙ ap (λ (t : Bool). number_if t is.0) h.on))
 
         done : (a b : ℕ) → a < across → b < down → 63 * a + b < order m + 1
             → get_or (set now at y) (a * down + b) nan ≡ plus_cell c score a b (get_or entry (a * down + b) nan)

@@ -10,7 +10,6 @@ use Rattle.grid_alignment.specs.Alignment.{NearAlignment}
 use Rattle.board.specs.declared.Board.{Board}
 use Rattle.shot_record.specs.Shots.{Shot}
 use Rattle.ranking.specs.declared.Hypothesis.{Hypothesis}
-use Rattle.ranking.specs.declared.Choice.TheVariants as choice
 use Rattle.ranking.specs.declared.Ranking.{Ranking}
 use Rattle.ranking.specs.Ranking.{ranking_of}
 use Rattle.hypothesis.specs.declared.Inputs.{Inputs}
@@ -30,6 +29,7 @@ use Rattle.hypothesis.proofs.Sides.{frame-turned, near-frame, sides_are}
 use Rattle.hypothesis.proofs.Capacities.{capacity-is}
 use Rattle.hypothesis.proofs.Turned.{across_small, down-small, total-small, turn-ranked, best-ranked, enumerate-is}
 use Rattle.hypothesis.proofs.Best.{best_placed}
+use Rattle.std.specs.Prelude.{Some}
 
 -- the ranking of the placements of the turns below r
 abbrev pub ranked_below : Shot → ℕ → Ranking
@@ -84,7 +84,7 @@ module _ (s : Shot) (i : Inputs) (index : List ℕ) (input : SearchInput s i ind
 
 -- ---- after all turns
 module _ (s : Shot) (i : Inputs) (index : List ℕ) (input : SearchInput s i index) (k : Ranking) (all : k ≡ ranked_below s 4) where
-  pub best-near : (b : Hypothesis) → k.best ≡ choice.Placement b → NearAlignment b.alignment
+  pub best-near : (b : Hypothesis) → k.best ≡ Some b → NearAlignment b.alignment
   best-near b e =
       let p = (best_placed s input.passed b (best-ranked s k all ∙ e)).small in
       (omega (arith, p.tx), omega (arith, p.ty))

@@ -5,7 +5,7 @@ use mathlib.Core.Path.{◌≡◌, refl, sym, subst, ◌∙◌}
 use mathlib.Core.Bool.{Bool, true, false, cond, not}
 use mathlib.Core.List.Memᴰ
 use mathlib.Core.List.{[], ◌∷◌, Memᴰ}
-use mathlib.Core.Option.{Option, none, some}
+use mathlib.Core.Option.{Option as Maybe, none, some}
 use lib.Dec.{lit<, lit≤}
 use lib.ListN.{get_or, get_or-map}
 use lib.IntN.{pos, nat_abs, ◌*ℤ◌}
@@ -21,9 +21,6 @@ use Rattle.floats.proofs.Sums.{finite_neg}
 use Rattle.floats.proofs.Products.{mul_close}
 use Rattle.floats.proofs.Folds.{Item}
 use Rattle.grid_alignment.specs.declared.GridAlignment.{GridAlignment}
-use Rattle.board.specs.declared.Numbered.{Numbered}
-use Rattle.board.specs.declared.Numbered.TheVariants as numbered
-use Rattle.score_matrix.specs.declared.BorderSample.TheVariants as border
 use Rattle.score_matrix.specs.Scores.{null_score, evidence}
 use Rattle.score_matrix.specs.Accuracy.{PassedTable, ByteSamples, WeightInRange}
 use Rattle.score_matrix.proofs.Ranges.{is-weight, null_range}
@@ -35,6 +32,7 @@ use Rattle.hypothesis.specs.Evidence.{table_of, code_of, weight_with, samples_wi
 use Rattle.hypothesis.specs.Evidence.{reported_term, exact_term, capacity_term}
 use Rattle.hypothesis.specs.Accuracy.{Sound, Checked}
 use Rattle.hypothesis.proofs.Contributing.{of_some_cell}
+use Rattle.std.specs.Prelude.{Option, Some, None}
 
 -- ---- what the checks ensure, as the rule for one cell requires it
 passed : (s : Shot) → Checked s → PassedTable (table_of s)
@@ -49,7 +47,7 @@ sampled : (s : Shot) (x : Sample) → Checked s → Sound x → ByteSamples (sam
 sampled s x c h = record { small = c.small; threshold = h.threshold; greys = h.greys }
 
 weighs : (s : Shot) (x : Sample) → Checked s → Sound x → WeightInRange (weight_with s (some x))
-weighs s x c h = is-weight (config_of s) (border.BlackFraction (of_pattern x.fraction)) c.threshold h.fraction
+weighs s x c h = is-weight (config_of s) (Some (of_pattern x.fraction)) c.threshold h.fraction
 
 -- ---- negation
 neg_size : (f : Format) (x : Float) → nat_abs (value f (neg x)) ≡ nat_abs (value f x)
@@ -104,13 +102,13 @@ module _ (s : Shot) (c : Checked s) where
           share = share w (weighs s x c h);
         }
 
-    known : (o : Option Sample) (m : Numbered) → ((x : Sample) → o ≡ some x → Sound x) → (d : Contribution)
+    known : (o : Maybe Sample) (m : Option ℕ) → ((x : Sample) → o ≡ some x → Sound x) → (d : Contribution)
         → Memᴰ d (contributed_with (weight_with s o) (samples_with s o) m) → Term s r d
     unfolding lt
-    known none numbered.Absent h d i = absurd (Memᴰ.not-nil i)
-    known none (numbered.Id m) h d i = absurd (Memᴰ.not-nil i)
-    known (some x) numbered.Absent h d i = absurd (Memᴰ.not-nil i)
-    known (some x) (numbered.Id m) h d i = go (lt nought (weight_with s (some x))) _ i (term x m (h x refl))
+    known none None h d i = absurd (Memᴰ.not-nil i)
+    known none (Some m) h d i = absurd (Memᴰ.not-nil i)
+    known (some x) None h d i = absurd (Memᴰ.not-nil i)
+    known (some x) (Some m) h d i = go (lt nought (weight_with s (some x))) _ i (term x m (h x refl))
       where
         go : (b : Bool) (e : Contribution) → Memᴰ d (cond b (e ∷ []) []) → Term s r e → Term s r d
         go true e i t = subst (Term s r) (sym (Memᴰ.eq_of_singleton i)) t

@@ -10,17 +10,12 @@ use lib.Ieee.{Float}
 use Rattle.grid_alignment.specs.declared.GridAlignment.{GridAlignment}
 use Rattle.shot_record.specs.Shots.{Shot, list}
 use Rattle.shot_record.proofs.Lists.{last_listed}
-use Rattle.ranking.specs.declared.Evidence.{Evidence}
-use Rattle.ranking.specs.declared.Choice.{Choice}
-use Rattle.ranking.specs.declared.Choice.TheVariants as choice
 use Rattle.ranking.specs.declared.Ranking.{Ranking}
 use Rattle.ranking.specs.Margin.{margin}
 use Rattle.ranking.specs.Ranking.{ranking_of, ranked, ranked_to}
 use Rattle.ranking.specs.Rules.{AllFinite}
 use Rattle.ranking.proofs.OnePass.{pass}
 use Rattle.ranking.proofs.RankedTo.{ranked-same}
-use Rattle.hypothesis.specs.declared.Enumerated.{Enumerated}
-use Rattle.hypothesis.specs.declared.Enumerated.TheVariants as enumerated
 use Rattle.hypothesis.specs.declared.turns.Contributing.{Contributing}
 use Rattle.hypothesis.specs.Placements.{frame, moves_across, moves_down, placement_at, with_turns_below, placements}
 use Rattle.hypothesis.specs.Evidence.{capacity}
@@ -30,6 +25,9 @@ use Rattle.hypothesis.specs.Turns.{turn_of, Summed, moved_to, ranked_turn, enume
 use Rattle.hypothesis.proofs.Accuracy.{reported_finite}
 use Rattle.hypothesis.proofs.Places.{start, many, start_next}
 use Rattle.hypothesis.proofs.Placements.{positive}
+use Rattle.std.specs.Prelude.{Option, Some, None}
+use Rattle.hypothesis.specs.declared.Selection.{Selection}
+use Rattle.ranking.specs.declared.Hypothesis.{Hypothesis}
 
 -- ---- lists
 module _ {A B : Type 0} where
@@ -65,7 +63,7 @@ module _ (s : Shot) (c : Checked s) where
         let b = j % moves_down s r in
         let l₁ : a < moves_across s r = (div-lt_iff_lt-mul d₀).1 l in
         let l₂ : b < moves_down s r = mod-lt j d₀ in
-        ap₂ (λ (e : Evidence) (n : ℕ). record { alignment = placement_at s r j; evidence = e; contributing_cells = n })
+        ap₂ (λ (e : Option Float) (n : ℕ). record { alignment = placement_at s r j; evidence = e; contributing_cells = n })
         (h.evidence_is a b l₁ l₂) (h.count_is a b l₁ l₂)
 
     pub turn-ranked : (k : Ranking) → k ≡ ranking_of (map (hypothesis s) (with_turns_below s r))
@@ -115,7 +113,7 @@ module _ (s : Shot) (k : Ranking) (e : k ≡ ranking_of (map (hypothesis s) (wit
   unfolding placements
   best-ranked = ap (λ (x : Ranking). x.best) (sym e)
 
-  chosen : (c : Choice) → k.best ≡ c → enumerate s ≡ selected s c
+  chosen : (c : Option Hypothesis) → k.best ≡ c → enumerate s ≡ selected s c
   unfolding enumerate
   chosen c h = ap (selected s) (best-ranked ∙ h)
 
@@ -125,10 +123,10 @@ module _ (s : Shot) (k : Ranking) (e : k ≡ ranking_of (map (hypothesis s) (wit
   unfolding placements
   enumerate-is capacities same = go k.best refl
     where
-      go : (c : Choice) → k.best ≡ c → enumerated_with k c capacities ≡ enumerate s
-      go choice.Absent h = sym (chosen choice.Absent h)
-      go (choice.Placement b) h =
-          let answer : Choice → ℕ → Float → Enumerated = λ next n x. enumerated.Selected (record {
+      go : (c : Option Hypothesis) → k.best ≡ c → enumerated_with k c capacities ≡ enumerate s
+      go None h = sym (chosen None h)
+      go (Some b) h =
+          let answer : Option Hypothesis → ℕ → Float → (Option Selection) = λ next n x. Some (record {
             best = b;
             runner_up = next;
             total = n;
@@ -137,4 +135,4 @@ module _ (s : Shot) (k : Ranking) (e : k ≡ ranking_of (map (hypothesis s) (wit
           ap (answer k.runner_up k.total) (same b.alignment)
           ∙ ap (λ (x : Ranking). answer x.runner_up x.total (capacity s b.alignment)) e
           ∙ ap (λ (n : ℕ). answer (runner_up s) n (capacity s b.alignment)) (length-map (placements s) (hypothesis s))
-          ∙ sym (chosen (choice.Placement b) h)
+          ∙ sym (chosen (Some b) h)

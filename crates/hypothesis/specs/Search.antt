@@ -1,15 +1,11 @@
 -- Document 01, Search: the best placement, the runner_up_is and the margin.
-use Rattle.std.specs.Prelude.{List, map, length}
+use Rattle.std.specs.Prelude.{List, map, length, Option, Some, None}
 use Rattle.grid_alignment.specs.declared.GridAlignment.{GridAlignment}
 use Rattle.shot_record.specs.Shots.{Shot}
 use Rattle.ranking.specs.declared.Hypothesis.{Hypothesis}
-use Rattle.ranking.specs.declared.Choice.{Choice}
-use Rattle.ranking.specs.declared.Choice.TheVariants as choice
 use Rattle.ranking.specs.Greatest.{first_greatest, rest}
 use Rattle.ranking.specs.Margin.{margin}
 use Rattle.hypothesis.specs.declared.Selection.{Selection}
-use Rattle.hypothesis.specs.declared.Enumerated.{Enumerated}
-use Rattle.hypothesis.specs.declared.Enumerated.TheVariants as enumerated
 use Rattle.hypothesis.specs.Placements.{placements}
 use Rattle.hypothesis.specs.Evidence.{contributing_cells, reported, capacity}
 
@@ -21,10 +17,10 @@ abbrev pub hypotheses : Shot → List Hypothesis
 hypotheses s = map (hypothesis s) (placements s)
 
 -- Best is the first maximum of evidence, the runner_up_is the first maximum of the rest.
-abbrev pub best : Shot → Choice
+abbrev pub best : Shot → Option Hypothesis
 best s = first_greatest (hypotheses s)
 
-abbrev pub runner_up : Shot → Choice
+abbrev pub runner_up : Shot → Option Hypothesis
 runner_up s = first_greatest (rest (hypotheses s))
 
 -- The result of the search: none if there is no placement.
@@ -32,9 +28,9 @@ abbrev pub selection : Shot → Hypothesis → Selection
 selection s b =
     record { best = b; runner_up = runner_up s; total = length (placements s); margin = margin b.evidence (capacity s b.alignment) (runner_up s) }
 
-abbrev pub selected : Shot → Choice → Enumerated
-selected s choice.Absent = enumerated.Absent
-selected s (choice.Placement b) = enumerated.Selected (selection s b)
+abbrev pub selected : Shot → Option Hypothesis → Option Selection
+selected s None = None
+selected s (Some b) = Some (selection s b)
 
-unfoldable pub enumerate : Shot → Enumerated
+unfoldable pub enumerate : Shot → Option Selection
 enumerate s = selected s (best s)

@@ -1,12 +1,10 @@
 -- What one cell adds to the sums of all placements of a turn: with d moves down, the placement whose frame is moved by (a, b) has its sum at index a
 -- × d + b. A score is any function of the marker's id.
-use Rattle.std.specs.Prelude.{◌≡◌, Bool, true, cond, List, ℕ, zero, suc, ◌+◌, ◌*◌, ◌%◌, ◌/◌, ◌^◌, ◌≤◌, ◌<◌, ltb, length, get_or, set, pos, Float}
+use Rattle.std.specs.Prelude.{◌≡◌, Bool, true, cond, List, ℕ, zero, suc, ◌+◌, ◌*◌, ◌%◌, ◌/◌, ◌^◌, ◌≤◌, ◌<◌, ltb, length, get_or, set, pos, Float, Option, Some, None}
 use Rattle.std.specs.Float.{nan, binary32}
 use Rattle.std.specs.Float.Ieee.{add, sub, mul}
 use Rattle.floats.specs.Units.{sum_to}
 use Rattle.board.specs.declared.Board.{Board}
-use Rattle.board.specs.declared.Numbered.{Numbered}
-use Rattle.board.specs.declared.Numbered.TheVariants as numbered
 use Rattle.board.specs.Numbering.{number_if}
 use Rattle.board.specs.Layout.{parity_of, holds_marker, marker_on}
 use Rattle.score_matrix.specs.Likelihoods.{picked_from}
@@ -21,12 +19,12 @@ abbrev pub with_score : Counted → ℕ → Float → List Float → List Float
 with_score c at score sums = set sums at (plus_score c.weight c.null score (get_or sums at nan))
 
 -- the marker on the cell's square after a move by (a, b), if there is one
-abbrev pub marker_after : Counted → ℕ → ℕ → Numbered
+abbrev pub marker_after : Counted → ℕ → ℕ → Option ℕ
 marker_after c a b = marker_on c.board (pos (c.i + a)) (pos (c.j + b))
 
-abbrev pub plus_marker : Counted → (ℕ → Float) → Numbered → Float → Float
-plus_marker c score numbered.Absent sum = sum
-plus_marker c score (numbered.Id m) sum = plus_score c.weight c.null (score m) sum
+abbrev pub plus_marker : Counted → (ℕ → Float) → Option ℕ → Float → Float
+plus_marker c score None sum = sum
+plus_marker c score (Some m) sum = plus_score c.weight c.null (score m) sum
 
 -- a sum with the cell added, if its square then holds a marker
 abbrev pub plus_cell : Counted → (ℕ → Float) → ℕ → ℕ → Float → Float

@@ -1,21 +1,15 @@
 -- The placements of one turn as the search ranks them from their sums, and the result of the last ranking.
-use Rattle.std.specs.Prelude.{◌≡◌, cond, List, ℕ, ◌+◌, ◌-◌, ◌*◌, ◌/◌, ◌%◌, ◌≤◌, ◌<◌, eqb, ltb, get_or, pos, nat_abs, ◌-ℤ◌, Float}
+use Rattle.std.specs.Prelude.{◌≡◌, cond, List, ℕ, ◌+◌, ◌-◌, ◌*◌, ◌/◌, ◌%◌, ◌≤◌, ◌<◌, eqb, ltb, get_or, pos, nat_abs, ◌-ℤ◌, Float, Option, Some, None}
 use Rattle.std.specs.Float.{nan}
 use Rattle.grid_alignment.specs.declared.GridAlignment.{GridAlignment}
 use Rattle.board.specs.declared.Board.{Board}
 use Rattle.shot_record.specs.Shots.{Shot}
-use Rattle.ranking.specs.declared.Evidence.{Evidence}
-use Rattle.ranking.specs.declared.Evidence.TheVariants as evidence
 use Rattle.ranking.specs.declared.Hypothesis.{Hypothesis}
-use Rattle.ranking.specs.declared.Choice.{Choice}
-use Rattle.ranking.specs.declared.Choice.TheVariants as choice
 use Rattle.ranking.specs.declared.Ranking.{Ranking}
 use Rattle.ranking.specs.Margin.{margin}
 use Rattle.ranking.specs.Ranking.{ranked_to, Held}
 use Rattle.hypothesis.specs.declared.Frame.{Frame}
 use Rattle.hypothesis.specs.declared.Selection.{Selection}
-use Rattle.hypothesis.specs.declared.Enumerated.{Enumerated}
-use Rattle.hypothesis.specs.declared.Enumerated.TheVariants as enumerated
 use Rattle.hypothesis.specs.declared.framing.Turn.{Turn}
 use Rattle.hypothesis.specs.declared.turns.Contributing.{Contributing}
 use Rattle.hypothesis.specs.Placements.{frame, moves_across, moves_down, shifted}
@@ -43,8 +37,8 @@ abbrev pub count_at : Contributing → ℕ → ℕ
 count_at contributing n = cond (eqb (n % 2) 0) contributing.even contributing.odd
 
 -- The evidence of the placement whose frame is moved by (a, b): with d moves down, its sum is at index a × d + b.
-abbrev pub evidence_at : List Float → Contributing → ℕ → ℕ → ℕ → Evidence
-evidence_at sums contributing d a b = cond (ltb 0 (count_at contributing (a + b))) (evidence.Number (get_or sums (a * d + b) nan)) evidence.Absent
+abbrev pub evidence_at : List Float → Contributing → ℕ → ℕ → ℕ → Option Float
+evidence_at sums contributing d a b = cond (ltb 0 (count_at contributing (a + b))) (Some (get_or sums (a * d + b) nan)) None
 
 -- the sums and the counts are those of all placements of turn r
 pub record Summed (s : Shot) (r : ℕ) (sums : List Float) (contributing : Contributing) : Type 0 where
@@ -77,6 +71,6 @@ abbrev pub selection_of : Ranking → Hypothesis → Float → Selection
 selection_of k b capacity =
     record { best = b; runner_up = k.runner_up; total = k.total; margin = margin b.evidence capacity k.runner_up }
 
-abbrev pub enumerated_with : Ranking → Choice → (GridAlignment → Float) → Enumerated
-enumerated_with k choice.Absent capacity = enumerated.Absent
-enumerated_with k (choice.Placement b) capacity = enumerated.Selected (selection_of k b (capacity b.alignment))
+abbrev pub enumerated_with : Ranking → Option Hypothesis → (GridAlignment → Float) → Option Selection
+enumerated_with k None capacity = None
+enumerated_with k (Some b) capacity = Some (selection_of k b (capacity b.alignment))

@@ -4,23 +4,16 @@ ghost use Rattle.grid_alignment.specs.Alignment.{NearAlignment};
 ghost use Rattle.hypothesis.specs.Capacity.{with_marker, with_cell, capacity_to};
 
 use super::Inputs;
-use board::Numbered;
 use grid_alignment::{GridAlignment, alignments};
 use shot_record::index;
 
 // The sum with a cell of the given weight, in which `marker` is expected.
-fn with_marker(total: f32, most: f32, weight: f32, marker: Numbered) -> f32
+fn with_marker(total: f32, most: f32, weight: f32, marker: Option<u32>) -> f32
     ensures { result ≡ with_marker total most weight marker }
 {
     match marker {
-        Numbered::Absent => total,
-        Numbered::Id(_) => {
-            if 0.0 < weight {
-                total + weight * most
-            } else {
-                total
-            }
-        }
+        Some(_) if 0.0 < weight => total + weight * most,
+        _ => total,
     }
 }
 

@@ -8,7 +8,6 @@ ghost use Rattle.score_matrix.specs.Likelihoods.{HoldsLikelihoods};
 ghost use Rattle.shot_record.specs.Shots.{shot};
 ghost use Rattle.hypothesis.specs.Placements.{cell_total};
 ghost use Rattle.hypothesis.specs.Evidence.{table_of, weight_of, samples_of};
-ghost use Rattle.hypothesis.specs.Inputs.{Ready, Loaded};
 ghost use Rattle.hypothesis.specs.Sums.{code_score, Stays, Small};
 ghost use Rattle.hypothesis.specs.Turns.{Summed, turn_of};
 ghost use Rattle.hypothesis.specs.Filling.{Counts};
@@ -16,34 +15,27 @@ ghost use Rattle.hypothesis.specs.Filling.{Counts};
 use super::framing::Turn;
 use super::sums::Counted;
 use super::turns::Contributing;
-use super::{Inputs, counting, sums};
+use super::{LoadedShot, counting, sums};
 use score_matrix::{cell, turned};
 use shot_record::index;
 
 // What each bit of a code adds to the scores of a cell with weight above 0.
-fn likelihoods(
-    adds: &mut [f32; 128],
-    bytes: &[u8],
-    inputs: Inputs,
-    index: &[u32; 768],
-    table: &[f32; 511],
-    k: usize,
-    weight: f32,
-)
-    requires { Ready bytes.now inputs index.now × (table.now ≡ table_of (shot bytes.now)) × (k < cell_total (shot bytes.now))
-        × (weight ≡ weight_of (shot bytes.now) k) × (length adds.old ≡ 128) }
+fn likelihoods(adds: &mut [f32; 128], loaded: &LoadedShot<'_>, k: usize, weight: f32)
+    requires { (k < cell_total (shot loaded.now.bytes.now)) × (weight ≡ weight_of (shot loaded.now.bytes.now) k)
+        × (length adds.old ≡ 128) }
     ensures size { length adds.new ≡ 128 }
-    ensures holds { lt nought weight ≡ true → HoldsLikelihoods (table_of (shot bytes.now)) (samples_of (shot bytes.now) k)
-        (inputs.board.bits * inputs.board.bits) adds.new }
-    ensures rest { KeptFrom nan (2 * (inputs.board.bits * inputs.board.bits)) adds.old adds.new }
+    ensures holds { lt nought weight ≡ true → HoldsLikelihoods (table_of (shot loaded.now.bytes.now))
+        (samples_of (shot loaded.now.bytes.now) k) (loaded.now.inputs.board.bits * loaded.now.inputs.board.bits) adds.new }
+    ensures rest { KeptFrom nan (2 * (loaded.now.inputs.board.bits * loaded.now.inputs.board.bits)) adds.old adds.new }
 {
     if !(0.0 < weight) {
         return;
     }
+    let inputs = loaded.inputs;
     let board = inputs.board;
-    let grid = index::grid(bytes, inputs.grid_size, index, k);
-    let threshold = index::threshold(index, k);
-    cell::bit_likelihoods(adds, table, grid, threshold, board.bits, board.border_bits);
+    let grid = index::grid(loaded.bytes, inputs.grid_size, loaded.index, k);
+    let threshold = index::threshold(loaded.index, k);
+    cell::bit_likelihoods(adds, loaded.table, grid, threshold, board.bits, board.border_bits);
 }
 
 // Adds a cell if its weight is above 0.
@@ -69,18 +61,10 @@ fn add_counted(
 }
 
 // The sums of a turn over all cells in order, and the counts of contributing cells. A turn without moves has no placement.
-pub fn fill(
-    sums: &mut [f32; 1024],
-    bytes: &[u8],
-    inputs: Inputs,
-    index: &[u32; 768],
-    table: &[f32; 511],
-    codes: &[u64; 512],
-    t: Turn,
-) -> Contributing
-    requires { Loaded bytes.now inputs index.now table.now codes.now × (t ≡ turn_of (shot bytes.now) t.turn) × (length sums.old ≡ 1024) }
+pub fn fill(sums: &mut [f32; 1024], loaded: &LoadedShot<'_>, t: Turn) -> Contributing
+    requires { (t ≡ turn_of (shot loaded.now.bytes.now) t.turn) × (length sums.old ≡ 1024) }
     ensures size { length sums.new ≡ 1024 }
-    ensures summed { Summed (shot bytes.now) t.turn sums.new result }
+    ensures summed { Summed (shot loaded.now.bytes.now) t.turn sums.new result }
 {
     let mut contributing = Contributing { even: 0, odd: 0 };
     let moves = t.across * t.down;
@@ -88,15 +72,13 @@ pub fn fill(
         return contributing;
     }
     sums::clear(sums, moves);
+    let inputs = loaded.inputs;
     let sources = turned::source_bits(inputs.board.bits, t.turn);
     let mut adds: [f32; 128] = [0.0; 128];
-    let cells = inputs.cells;
-    let mut k = 0;
-    while k < cells {
-        let cell = counting::counted(inputs, t, index, k);
-        likelihoods(&mut adds, bytes, inputs, index, table, k, cell.weight);
-        contributing = add_counted(sums, contributing, cell, t, &adds, &sources, codes);
-        k += 1;
+    for k in 0..inputs.cells {
+        let cell = counting::counted(inputs, t, loaded.index, k);
+        likelihoods(&mut adds, loaded, k, cell.weight);
+        contributing = add_counted(sums, contributing, cell, t, &adds, &sources, loaded.codes);
     }
     contributing
 }

@@ -34,9 +34,10 @@ pub struct Turn {
 fn extremes_with(e: Extremes, x: i16) -> Extremes
     ensures { result ≡ extremes_with e x }
 {
-    let least = if e.least <= x { e.least } else { x };
-    let greatest = if e.greatest <= x { x } else { e.greatest };
-    Extremes { least, greatest }
+    Extremes {
+        least: e.least.min(x),
+        greatest: e.greatest.max(x),
+    }
 }
 
 // The bounding box of the first `cells` cells of the index.
@@ -72,10 +73,10 @@ fn frame(sides: Sides, turn: u8) -> Frame
     let p = grid_alignment::turned(turn, u.least, v.least);
     let q = grid_alignment::turned(turn, u.greatest, v.greatest);
     Frame {
-        u: integers::min(p.u, q.u),
-        v: integers::min(p.v, q.v),
-        width: integers::distance(q.u, p.u) + 1,
-        height: integers::distance(q.v, p.v) + 1,
+        u: p.u.min(q.u),
+        v: p.v.min(q.v),
+        width: q.u.abs_diff(p.u) as usize + 1,
+        height: q.v.abs_diff(p.v) as usize + 1,
     }
 }
 
@@ -83,11 +84,7 @@ fn frame(sides: Sides, turn: u8) -> Frame
 fn moves(side: u8, squares: usize) -> usize
     ensures { result ≡ side + 1 - squares }
 {
-    let places = side as usize + 1;
-    if places < squares {
-        return 0;
-    }
-    places - squares
+    (side as usize + 1).saturating_sub(squares)
 }
 
 // A turn, with the numbers of moves of its frame on the board.

@@ -6,13 +6,16 @@ mod capacity;
 mod counting;
 mod fill;
 mod framing;
+mod loaded;
 pub mod lookups;
 pub mod search;
 mod sums;
 mod turns;
 
+pub use loaded::LoadedShot;
+
 use board::Board;
-use ranking::{Choice, Hypothesis};
+use ranking::Hypothesis;
 use score_matrix::BoardMatchConfig;
 
 // The inputs of the search beside the index of the cells, computed from the record once. `grid_size` is the number of bytes in a cell's grid.
@@ -37,13 +40,7 @@ pub struct Frame {
 #[derive(Clone, Copy)]
 pub struct Selection {
     pub best: Hypothesis,
-    pub runner_up: Choice,
+    pub runner_up: Option<Hypothesis>,
     pub total: usize,
     pub margin: f32,
-}
-
-#[derive(Clone, Copy)]
-pub enum Enumerated {
-    Selected(Selection),
-    Absent,
 }

@@ -12,7 +12,7 @@ ghost use Rattle.hypothesis.specs.ScoreList.{InScores, Scored};
 use super::framing::Turn;
 use super::sums::{Counted, Move};
 use super::turns::Contributing;
-use super::{Enumerated, Inputs, counting, framing, sums, turns};
+use super::{Inputs, Selection, counting, framing, sums, turns};
 use board::squares;
 
 // The score of the cell for the marker on its square after a move. `first` is the index of its score for marker 0.
@@ -100,19 +100,17 @@ fn fill(
 }
 
 // The best placement, its runner-up and the margin between them; none if no turn and translation puts every cell on the board.
-pub fn enumerate_hypotheses(inputs: Inputs, index: &[u32; 768], scores: &[f32]) -> Enumerated
+pub fn enumerate_hypotheses(inputs: Inputs, index: &[u32; 768], scores: &[f32]) -> Option<Selection>
     requires { (s : Shot) × Scored s inputs index.now scores.now }
     ensures { (s : Shot) → Scored s inputs index.now scores.now → result ≡ enumerate s }
 {
     let sides = framing::cell_sides(index, inputs.cells);
     let mut sums: [f32; 1024] = [0.0; 1024];
     let mut ranking = ranking::no_ranking();
-    let mut turn: u8 = 0;
-    while turn < 4 {
+    for turn in 0..4 {
         let t = framing::turn_of(inputs.board, sides, turn);
         let contributing = fill(&mut sums, inputs, index, scores, t);
         ranking = turns::rank_turn(ranking, &sums, contributing, t);
-        turn += 1;
     }
     turns::enumerated(ranking, inputs, index)
 }

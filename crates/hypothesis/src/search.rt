@@ -2,30 +2,22 @@
 ghost use Rattle.std.specs.Prelude.{◌≡◌};
 ghost use Rattle.shot_record.specs.Shots.{shot};
 ghost use Rattle.hypothesis.specs.Search.{enumerate};
-ghost use Rattle.hypothesis.specs.Inputs.{Loaded};
 
-use super::{Enumerated, Inputs, fill, framing, turns};
+use super::{LoadedShot, Selection, fill, framing, turns};
 
 // The best placement, its runner-up and the margin between them; none if no turn and translation puts every cell on the board.
-pub fn enumerate_hypotheses(
-    bytes: &[u8],
-    inputs: Inputs,
-    index: &[u32; 768],
-    table: &[f32; 511],
-    codes: &[u64; 512],
-) -> Enumerated
-    requires { Loaded bytes.now inputs index.now table.now codes.now }
-    ensures { result ≡ enumerate (shot bytes.now) }
+pub fn enumerate_hypotheses(loaded: &LoadedShot<'_>) -> Option<Selection>
+    ensures { result ≡ enumerate (shot loaded.now.bytes.now) }
 {
+    let inputs = loaded.inputs;
+    let index = loaded.index;
     let sides = framing::cell_sides(index, inputs.cells);
     let mut sums: [f32; 1024] = [0.0; 1024];
     let mut ranking = ranking::no_ranking();
-    let mut turn: u8 = 0;
-    while turn < 4 {
+    for turn in 0..4 {
         let t = framing::turn_of(inputs.board, sides, turn);
-        let contributing = fill::fill(&mut sums, bytes, inputs, index, table, codes, t);
+        let contributing = fill::fill(&mut sums, loaded, t);
         ranking = turns::rank_turn(ranking, &sums, contributing, t);
-        turn += 1;
     }
     turns::enumerated(ranking, inputs, index)
 }

@@ -4,14 +4,13 @@ ghost use Rattle.std.specs.Prelude.{◌≡◌, ◌<◌, ◌≤◌, pos, nat_abs,
 ghost use Rattle.grid_alignment.specs.declared.GridAlignment.{GridAlignment};
 ghost use Rattle.grid_alignment.specs.Alignment.{NearAlignment};
 ghost use Rattle.ranking.specs.declared.Hypothesis.{Hypothesis};
-ghost use Rattle.ranking.specs.declared.Choice.TheVariants as choice;
 ghost use Rattle.hypothesis.specs.Capacity.{capacity_to};
 ghost use Rattle.hypothesis.specs.Turns.{count_at, evidence_at, moved_to, SmallTurn, PassesOver, ranked_column, ranked_turn, selection_of, enumerated_with};
 
 use super::framing::Turn;
-use super::{Enumerated, Inputs, Selection, capacity};
+use super::{Inputs, Selection, capacity};
 use grid_alignment::GridAlignment;
-use ranking::{Choice, Evidence, Hypothesis, Ranking};
+use ranking::{Hypothesis, Ranking};
 
 // Counts of contributing cells. Markers alternate by parity, so all placements with the same parity of a + b have the same count.
 #[derive(Clone, Copy)]
@@ -37,16 +36,14 @@ pub fn placement_sum(
     down: usize,
     a: usize,
     b: usize,
-) -> Evidence
+) -> Option<f32>
     requires { (a < 32) × (b < 32) × (down ≤ 32) }
     ensures { result ≡ evidence_at sums.now contributing down a b }
 {
     if 0 < count_at(contributing, a + b) {
-        let at = a * down + b;
-        let sum = sums[at];
-        Evidence::Number(sum)
+        Some(sums[a * down + b])
     } else {
-        Evidence::Absent
+        None
     }
 }
 
@@ -126,11 +123,9 @@ fn rank_column(
         held = ranking::ranked(held, moved_to(sums, contributing, t, a, b));
         b = next_change(held, sums, contributing, down, a, b + 1);
     }
-    let best = held.best;
-    let runner_up = held.runner_up;
     Ranking {
-        best,
-        runner_up,
+        best: held.best,
+        runner_up: held.runner_up,
         total: ranking.total + down,
     }
 }
@@ -159,27 +154,20 @@ pub fn rank_turn(
 fn selected(ranking: Ranking, best: Hypothesis, best_capacity: f32) -> Selection
     ensures { result ≡ selection_of ranking best best_capacity }
 {
-    let evidence = best.evidence;
-    let runner_up = ranking.runner_up;
     Selection {
         best,
-        runner_up,
+        runner_up: ranking.runner_up,
         total: ranking.total,
-        margin: ranking::margin(evidence, best_capacity, runner_up),
+        margin: ranking::margin(best.evidence, best_capacity, ranking.runner_up),
     }
 }
 
 // The result of the search from the ranking of all placements: none if there is no placement.
-pub fn enumerated(ranking: Ranking, inputs: Inputs, index: &[u32; 768]) -> Enumerated
-    requires { (inputs.cells ≤ 256) × ((b : Hypothesis) → ranking.best ≡ choice.Placement b → NearAlignment b.alignment) }
+pub fn enumerated(ranking: Ranking, inputs: Inputs, index: &[u32; 768]) -> Option<Selection>
+    requires { (inputs.cells ≤ 256) × ((b : Hypothesis) → ranking.best ≡ Some b → NearAlignment b.alignment) }
     ensures { result ≡ enumerated_with ranking ranking.best (λ (p : GridAlignment). capacity_to inputs p index.now inputs.cells) }
 {
-    let best = ranking.best;
-    match best {
-        Choice::Absent => Enumerated::Absent,
-        Choice::Placement(b) => {
-            let best_capacity = capacity::capacity(inputs, index, b.alignment);
-            Enumerated::Selected(selected(ranking, b, best_capacity))
-        }
-    }
+    let best = ranking.best?;
+    let best_capacity = capacity::capacity(inputs, index, best.alignment);
+    Some(selected(ranking, best, best_capacity))
 }

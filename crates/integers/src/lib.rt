@@ -15,33 +15,3 @@ pub fn combine(a: i32, b: i32, x: i16, y: i16) -> i32
 {
     a * (x as i32) + b * (y as i32)
 }
-
-pub fn min(x: i32, y: i32) -> i32
-    ensures { result ≡ lesser x y }
-{
-    if x <= y {
-        return x;
-    }
-    y
-}
-
-pub fn distance(x: i32, y: i32) -> usize
-    requires { (nat_abs x ≤ 2 ^ 29) × (nat_abs y ≤ 2 ^ 29) }
-    ensures { result ≡ nat_abs (x -ℤ y) }
-{
-    let d = x - y;
-    if d < 0 {
-        return (-d) as usize;
-    }
-    d as usize
-}
-
-// Two's complement of z; `!z` is −1 − z.
-pub fn word(z: i32) -> u32
-    ensures { result ≡ of_z w32 z }
-{
-    if z < 0 {
-        return 0xFFFF_FFFF - (!z) as u32;
-    }
-    z as u32
-}

@@ -15,18 +15,16 @@ use Rattle.refusal.proofs.Questions.{answered}
 use Rattle.lent_list.specs.Front.{at_exit}
 use Rattle.lent_list.proofs.Front.{front_length}
 use Rattle.board.specs.declared.Board.{Board}
-use Rattle.board.specs.declared.NewBoard.TheVariants as new
 use Rattle.board.specs.Questions.{board_of, new_board}
 use Rattle.board.proofs.Asked.{made, after_made, after_refused}
 use Rattle.board.proofs.Asked as board
-use Rattle.shot_record.specs.declared.Converted.{Converted}
-use Rattle.shot_record.specs.declared.Converted.TheVariants as converted
 use Rattle.shot_record.specs.Shots.{Shot, shot, parse}
 use Rattle.shot_record.specs.Answers.{spec_of}
 use Rattle.shot_record.proofs.Whole.{Whole, parse-whole}
 use Rattle.legacy_record.specs.Restating.{restated_bytes, sides_answer, asked_from25, restate_refused_by, converted_by, restated_shot, restate_answer}
 use Rattle.legacy_record.specs.Restating.{restated_left, restate_list}
 use Rattle.legacy_record.specs.Rules.{WrittenFits}
+use Rattle.std.specs.Prelude.{Result, Ok, Err}
 
 -- ---- questions 25 and 14
 module _ (board : Board) (size : ℕ) (sheet lent : List ℕ) where
@@ -42,10 +40,10 @@ module _ (board : Board) (size : ℕ) (sheet lent : List ℕ) where
 
 -- ---- all of them
 module _ (bytes lent : List ℕ) where
-  abbrev Promised : Converted → List ℕ → Type 0
+  abbrev Promised : Result ℕ Refusal → List ℕ → Type 0
   Promised r after = (r ≡ restate_answer bytes lent) × (after ≡ restate_list bytes lent)
 
-  pub not_whole : parse bytes ≡ none → Promised (converted.Refused refusal.InvalidRecord) lent
+  pub not_whole : parse bytes ≡ none → Promised (Err refusal.InvalidRecord) lent
   not_whole e =
       (sym (ap (λ (o : Option Shot). restated_shot o (length bytes) (length lent)) e), sym (ap (λ (o : Option Shot). restated_left bytes o lent) e))
 
@@ -64,7 +62,7 @@ module _ (bytes lent : List ℕ) where
           sym (ap (λ (x : Option Shot). restated_left bytes x lent) p ∙ ap (λ (q : Option Refusal). at_exit q (restated_bytes bytes s) lent) e),
         )
 
-    pub on-board : (b : Board) (r : Converted) (after : List ℕ) → new_board (spec_of s) s.codes ≡ new.Made b
+    pub on-board : (b : Board) (r : Result ℕ Refusal) (after : List ℕ) → new_board (spec_of s) s.codes ≡ Ok b
         → r ≡ converted_by (after_board b) (length bytes) → after ≡ at_exit (after_board b) (restated_bytes bytes s) lent → Promised r after
     on-board b r after e f g =
         let is = (made (spec_of s) s.codes b e).1 in
@@ -73,7 +71,7 @@ module _ (bytes lent : List ℕ) where
           g ∙ ap (λ (c : Board). at_exit (after_board c) (restated_bytes bytes s) lent) is ∙ p.1,
         )
 
-    pub no_board : (r : Refusal) → new_board (spec_of s) s.codes ≡ new.Refused r → Promised (converted.Refused r) lent
+    pub no_board : (r : Refusal) → new_board (spec_of s) s.codes ≡ Err r → Promised (Err r) lent
     no_board r e = by (some r) (after_refused (spec_of s) s.codes (after_board (board_of (spec_of s))) r e)
 
 -- ---- a record that was written
@@ -81,7 +79,7 @@ pub written_fits : WrittenFits
 unfolding asked_from25
 written_fits bytes lent count = of_parse (parse bytes)
   where
-    of_refusal : (s : Shot) (o : Option Refusal) → restate_refused_by s (length bytes) (length lent) ≡ o → converted_by o (length bytes) ≡ converted.Written count
+    of_refusal : (s : Shot) (o : Option Refusal) → restate_refused_by s (length bytes) (length lent) ≡ o → converted_by o (length bytes) ≡ Ok count
         → (count ≡ length bytes) × (count ≤ length lent)
     of_refusal s (some r) e f = let z : ◌≡◌ {A = ℕ} 0 1 = cc in absurd (omega arith)
     of_refusal s none e f =
@@ -90,7 +88,7 @@ written_fits bytes lent count = of_parse (parse bytes)
         let is : count ≡ length bytes = cc in
         (is, omega (arith, is, leb-true (length bytes) (length lent) room))
 
-    of_parse : (o : Option Shot) → restated_shot o (length bytes) (length lent) ≡ converted.Written count → (count ≡ length bytes) × (count ≤ length lent)
+    of_parse : (o : Option Shot) → restated_shot o (length bytes) (length lent) ≡ Ok count → (count ≡ length bytes) × (count ≤ length lent)
     of_parse none e = let z : ◌≡◌ {A = ℕ} 0 1 = cc in absurd (omega arith)
     of_parse (some s) e = of_refusal s (restate_refused_by s (length bytes) (length lent)) refl e
 

@@ -1,7 +1,6 @@
 -- The contracts of the inner functions.
-use Rattle.std.specs.Prelude.{◌≡◌, true, List, ℕ}
+use Rattle.std.specs.Prelude.{◌≡◌, true, List, ℕ, Ok}
 use Rattle.board.specs.declared.Board.{Board}
-use Rattle.board.specs.declared.NewBoard.TheVariants as new
 use Rattle.board.specs.Questions.{new_board}
 use Rattle.shot_record.specs.declared.fields.Fields.{Fields}
 use Rattle.shot_record.specs.Fields.{fields_of}
@@ -11,6 +10,6 @@ use Rattle.shot_record.specs.Answers.{spec_of}
 -- a record whose board passed its questions, with its fields and first codes
 pub record Restatable (bytes : List ℕ) (board : Board) (f : Fields) (codes : List ℕ) : Type 0 where
   pub whole : whole_record bytes ≡ true
-  pub made : new_board (spec_of (shot bytes)) (shot bytes).codes ≡ new.Made board
+  pub made : new_board (spec_of (shot bytes)) (shot bytes).codes ≡ Ok board
   pub fields : f ≡ fields_of bytes
   pub first_codes_is : codes ≡ first_codes (shot bytes)

@@ -1,5 +1,5 @@
 -- Document 02, 2.7: a record restated: its new bytes, the questions, the result and the output array.
-use Rattle.std.specs.Prelude.{ℕ, ◌-◌, ◌*◌, Bool, not, ◌&&◌, List, leb, length}
+use Rattle.std.specs.Prelude.{ℕ, ◌-◌, ◌*◌, Bool, not, ◌&&◌, List, leb, length, Result, Ok, Err}
 use Rattle.std.proofs.Math.Option.{Option, none, some}
 use Rattle.refusal.specs.declared.Refusal.{Refusal}
 use Rattle.refusal.specs.declared.Refusal.TheVariants as refusal
@@ -8,8 +8,6 @@ use Rattle.lent_list.specs.Front.{at_exit}
 use Rattle.matcher.specs.Codes.{bit}
 use Rattle.board.specs.declared.Board.{Board}
 use Rattle.board.specs.Questions.{board_of, asked_of_board}
-use Rattle.shot_record.specs.declared.Converted.{Converted}
-use Rattle.shot_record.specs.declared.Converted.TheVariants as converted
 use Rattle.shot_record.specs.Fields.{map_byte}
 use Rattle.shot_record.specs.Shots.{Shot, parse}
 use Rattle.shot_record.specs.Answers.{spec_of}
@@ -39,15 +37,15 @@ abbrev pub restate_refused_by : Shot → ℕ → ℕ → Option Refusal
 restate_refused_by s size room = asked_of_board (spec_of s) s.codes (asked_from25 (board_of (spec_of s)) size room)
 
 -- The result: the length of the record, which is that of the new one.
-abbrev pub converted_by : Option Refusal → ℕ → Converted
-converted_by (some refused) size = converted.Refused refused
-converted_by none size = converted.Written size
+abbrev pub converted_by : Option Refusal → ℕ → Result ℕ Refusal
+converted_by (some refused) size = Err refused
+converted_by none size = Ok size
 
-abbrev pub restated_shot : Option Shot → ℕ → ℕ → Converted
-restated_shot none size room = converted.Refused refusal.InvalidRecord
+abbrev pub restated_shot : Option Shot → ℕ → ℕ → Result ℕ Refusal
+restated_shot none size room = Err refusal.InvalidRecord
 restated_shot (some s) size room = converted_by (restate_refused_by s size room) size
 
-abbrev pub restate_answer : List ℕ → List ℕ → Converted
+abbrev pub restate_answer : List ℕ → List ℕ → Result ℕ Refusal
 restate_answer bytes lent = restated_shot (parse bytes) (length bytes) (length lent)
 
 -- the output array at exit: on error unchanged, else the new record overwrites its first elements

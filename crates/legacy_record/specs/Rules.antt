@@ -1,8 +1,7 @@
 -- The laws of restating (document 02, 2.7), for every record whose board passes its questions.
-use Rattle.std.specs.Prelude.{◌≡◌, ◌⊎◌, false, List, ℕ, ◌+◌, ◌*◌, ◌≤◌, ◌<◌, length}
+use Rattle.std.specs.Prelude.{◌≡◌, ◌⊎◌, false, List, ℕ, ◌+◌, ◌*◌, ◌≤◌, ◌<◌, length, Ok}
 use Rattle.std.proofs.Math.Option.{none, some}
 use Rattle.board.specs.Questions.{asked_of_board}
-use Rattle.shot_record.specs.declared.Converted.TheVariants as converted
 use Rattle.shot_record.specs.Fields.{byte, codes_at}
 use Rattle.shot_record.specs.Shots.{Shot, parse}
 use Rattle.shot_record.specs.Answers.{spec_of}
@@ -35,4 +34,4 @@ RestatesRule = (bytes : List ℕ) (s : Shot) → OfBoard bytes s → Restates by
 
 -- the number of bytes written: as many as the record has, and the output array has room for them
 abbrev pub WrittenFits : Type 0
-WrittenFits = (bytes lent : List ℕ) (count : ℕ) → restate_answer bytes lent ≡ converted.Written count → (count ≡ length bytes) × (count ≤ length lent)
+WrittenFits = (bytes lent : List ℕ) (count : ℕ) → restate_answer bytes lent ≡ Ok count → (count ≡ length bytes) × (count ≤ length lent)

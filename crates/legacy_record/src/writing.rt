@@ -9,8 +9,7 @@ ghost use Rattle.legacy_record.specs.Inner.{Restatable};
 
 use board::Board;
 use refusal::Refusal;
-use shot_record::Converted;
-use shot_record::fields::Fields;
+use shot_record::Record;
 
 fn is_even(n: u8) -> bool
     ensures { result ≡ is_even n }
@@ -52,35 +51,11 @@ fn without_flag(map: u8) -> u8
     map - 16 * (map / 16 % 2)
 }
 
-// The bytes of a code, little-endian.
-fn code_bytes(code: u64) -> [u8; 8]
-    ensures { result ≡ little_endian 8 code }
-{
-    let b = code / 256;
-    let c = b / 256;
-    let d = c / 256;
-    let e = d / 256;
-    let f = e / 256;
-    let g = f / 256;
-    let h = g / 256;
-    [
-        (code % 256) as u8,
-        (b % 256) as u8,
-        (c % 256) as u8,
-        (d % 256) as u8,
-        (e % 256) as u8,
-        (f % 256) as u8,
-        (g % 256) as u8,
-        (h % 256) as u8,
-    ]
-}
-
 fn put_code(sheet: &mut [u8], at: usize, code: u64) -> usize
     requires { at + 8 ≤ length sheet.old }
     ensures { Put sheet.old sheet.new at result (little_endian 8 code) }
 {
-    let part = code_bytes(code);
-    lent_list::put_bytes(sheet, at, &part)
+    lent_list::put(sheet, at, &code.to_le_bytes())
 }
 
 // Writes the first n codes in reverse, each turned twice, and returns the index after them.
@@ -89,49 +64,48 @@ fn put_codes(sheet: &mut [u8], at: usize, codes: &[u64; 512], bits: u8, n: usize
     ensures { Put sheet.old sheet.new at result (each (little_endian 8) (list (new_code bits n codes.now) n)) }
 {
     let mut next = at;
-    let mut k = 0;
-    while k < n {
+    for k in 0..n {
         let code = matcher::rotate_code_u64(codes[n - 1 - k], bits, 2);
         next = put_code(sheet, next, code);
-        k += 1;
     }
     next
 }
 
 // Writes the new record: the map byte, the bytes up to the codes, the codes that change, and the rest.
-fn put_restated(board: Board, bytes: &[u8], f: Fields, codes: &[u64; 512], sheet: &mut [u8])
-    requires { Restatable bytes.now board f codes.now × (length bytes.now ≤ length sheet.old) }
-    ensures { sheet.new ≡ in_front (restated_bytes bytes.now (shot bytes.now)) sheet.old }
+fn put_restated(board: Board, record: &Record<'_>, codes: &[u64; 512], sheet: &mut [u8])
+    requires { Restatable record.now.bytes.now board record.now.fields codes.now
+        × (length record.now.bytes.now ≤ length sheet.old) }
+    ensures { sheet.new ≡ in_front (restated_bytes record.now.bytes.now (shot record.now.bytes.now)) sheet.old }
 {
+    let bytes = record.bytes;
     let n = reversed_on(board);
-    let codes_at = f.rows_at + 14;
-    let map: [u8; 1] = [without_flag(f.map)];
-    let mut next = lent_list::put_bytes(sheet, 0, &map);
-    next = lent_list::put_bytes(sheet, next, &bytes[next..codes_at]);
+    let codes_at = record.fields.rows_at + 14;
+    let mut next = lent_list::put(sheet, 0, &[without_flag(record.fields.map)]);
+    next = lent_list::put(sheet, next, &bytes[next..codes_at]);
     next = put_codes(sheet, next, codes, board.bits, n);
-    lent_list::put_bytes(sheet, next, &bytes[next..]);
+    lent_list::put(sheet, next, &bytes[next..]);
 }
 
 // Questions 25 and 14, then the new record.
 pub fn restate_on(
     board: Board,
-    bytes: &[u8],
-    f: Fields,
+    record: &Record<'_>,
     codes: &[u64; 512],
     sheet: &mut [u8],
-) -> Converted
-    requires { Restatable bytes.now board f codes.now }
-    ensures answer { result ≡ converted_by (asked_from25 board (length bytes.now) (length sheet.old)) (length bytes.now) }
-    ensures list { sheet.new ≡ at_exit (asked_from25 board (length bytes.now) (length sheet.old))
-        (restated_bytes bytes.now (shot bytes.now)) sheet.old }
+) -> Result<usize, Refusal>
+    requires { Restatable record.now.bytes.now board record.now.fields codes.now }
+    ensures answer { result
+        ≡ converted_by (asked_from25 board (length record.now.bytes.now) (length sheet.old)) (length record.now.bytes.now) }
+    ensures list { sheet.new ≡ at_exit (asked_from25 board (length record.now.bytes.now) (length sheet.old))
+        (restated_bytes record.now.bytes.now (shot record.now.bytes.now)) sheet.old }
 {
     if !sides(board) {
-        return Converted::Refused(Refusal::EvenLegacyBoard);
+        return Err(Refusal::EvenLegacyBoard);
     }
-    let size = bytes.len();
+    let size = record.bytes.len();
     if sheet.len() < size {
-        return Converted::Refused(Refusal::ListTooShort);
+        return Err(Refusal::ListTooShort);
     }
-    put_restated(board, bytes, f, codes, sheet);
-    Converted::Written(size)
+    put_restated(board, record, codes, sheet);
+    Ok(size)
 }

@@ -1,5 +1,5 @@
 -- The link entry point (document 01, "The questions asked"): the board's questions, 19, then 14 with three places for each link.
-use Rattle.std.specs.Prelude.{ℕ, ◌*◌, List, leb, length}
+use Rattle.std.specs.Prelude.{ℕ, ◌*◌, List, leb, length, Result, Ok, Err}
 use Rattle.std.proofs.Math.Option.{Option, none, some}
 use Rattle.lent_list.specs.Front.{at_exit}
 use Rattle.refusal.specs.declared.Refusal.{Refusal}
@@ -9,8 +9,6 @@ use Rattle.board.specs.declared.CharucoBoardSpec.{CharucoBoardSpec}
 use Rattle.board.specs.declared.Board.{Board}
 use Rattle.board.specs.Questions.{board_of, asked_of_board}
 use Rattle.link_check.specs.declared.LinkCheckMode.{LinkCheckMode}
-use Rattle.link_check.specs.declared.CheckedLinks.{CheckedLinks}
-use Rattle.link_check.specs.declared.CheckedLinks.TheVariants as checked
 use Rattle.link_check.specs.Links.{link_count}
 use Rattle.link_check.specs.Violations.{Violation, expectation, violations, words_of_violations}
 
@@ -30,11 +28,11 @@ abbrev pub links_refused_by : CharucoBoardSpec → List ℕ → List ℕ → ℕ
 links_refused_by spec codes links words = asked_of_board spec codes (asked_from19 links words)
 
 -- The result, and the output array at exit.
-abbrev pub checked_by : Option Refusal → List Violation → CheckedLinks
-checked_by (some r) vs = checked.Refused r
-checked_by none vs = checked.Checked (length vs)
+abbrev pub checked_by : Option Refusal → List Violation → Result ℕ Refusal
+checked_by (some r) vs = Err r
+checked_by none vs = Ok (length vs)
 
-abbrev pub check_links : CharucoBoardSpec → List ℕ → LinkCheckMode → List ℕ → List ℕ → CheckedLinks
+abbrev pub check_links : CharucoBoardSpec → List ℕ → LinkCheckMode → List ℕ → List ℕ → Result ℕ Refusal
 check_links spec codes mode links lent = checked_by (links_refused_by spec codes links (length lent)) (violations_on (board_of spec) mode links)
 
 abbrev pub check_links_list : CharucoBoardSpec → List ℕ → LinkCheckMode → List ℕ → List ℕ → List ℕ

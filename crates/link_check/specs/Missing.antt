@@ -1,10 +1,6 @@
--- The contracts of the inner functions on the corners of an expected marker: all four, and the missing ones.
+-- The missing corners of an expected marker, as the inner functions hand them on.
 use Rattle.std.specs.Prelude.{ℕ, List, [], ◌∷◌, length, get_or}
-use Rattle.link_check.specs.declared.expected.MarkerCorners.{MarkerCorners}
 use Rattle.link_check.specs.declared.words.Missing.{Missing}
-
-abbrev pub four_of : MarkerCorners → List ℕ
-four_of m = m.top_left ∷ m.top_right ∷ m.bottom_right ∷ m.bottom_left ∷ []
 
 -- padded with 0
 abbrev pub padded : List ℕ → Missing

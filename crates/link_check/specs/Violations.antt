@@ -1,13 +1,9 @@
 -- Document 01, Links: the violations, in order, and the 12 words of each.
-use Rattle.std.specs.Prelude.{ℕ, Bool, false, ◌&&◌, ◌||◌, cond, eqb, length, get_or}
+use Rattle.std.specs.Prelude.{ℕ, Bool, false, ◌&&◌, ◌||◌, cond, eqb, length, get_or, Option, Some, None}
 use mathlib.Core.List.{List, [], ◌∷◌, ◌++◌, flat_map}
-use Rattle.std.proofs.Math.Option.{Option, none, some}
+use Rattle.std.proofs.Math.Option.{Option as Maybe, none, some}
 use Rattle.lent_list.specs.Front.{up_to}
 use Rattle.board.specs.declared.Board.{Board}
-use Rattle.board.specs.declared.Located.{Located}
-use Rattle.board.specs.declared.Located.TheVariants as located
-use Rattle.board.specs.declared.Surrounding.{Surrounding}
-use Rattle.board.specs.declared.Surrounding.TheVariants as surrounding
 use Rattle.board.specs.Layout.{marker_square, surrounding_corners}
 use Rattle.link_check.specs.declared.LinkCheckMode.{LinkCheckMode}
 use Rattle.link_check.specs.declared.LinkCheckMode.TheVariants as mode
@@ -17,24 +13,29 @@ use Rattle.link_check.specs.declared.LinkViolationKind.TheVariants.{MissingCorne
 use Rattle.link_check.specs.declared.expected.MarkerExpectation.{MarkerExpectation}
 use Rattle.link_check.specs.declared.expected.MarkerExpectation.TheVariants.{Unknown, NoFourCorners, Expected}
 use Rattle.link_check.specs.Links.{link_marker, link_corner, names, repeated, first, is_reported}
+use Rattle.board.specs.declared.Position.{Position}
+use Rattle.board.specs.declared.Surrounding.{Surrounding}
 
 -- What the board expects of a marker: nothing of an unknown one or one on the rim, else its four corners.
-abbrev pub of_corners : Surrounding → MarkerExpectation
-of_corners (surrounding.Corners a b c d) = Expected a b c d
-of_corners surrounding.Absent = NoFourCorners
+abbrev pub of_corners : Option Surrounding → MarkerExpectation
+of_corners (Some four) = Expected four
+of_corners None = NoFourCorners
 
-abbrev pub on_square : Located → Surrounding → MarkerExpectation
-on_square located.Absent four = Unknown
-on_square (located.At i j) four = of_corners four
+abbrev pub on_square : Option Position → Option Surrounding → MarkerExpectation
+on_square None four = Unknown
+on_square (Some place) four = of_corners four
 
 unfoldable pub expectation : Board → ℕ → MarkerExpectation
 expectation b m = on_square (marker_square b m) (surrounding_corners b m)
+
+abbrev pub four_of : Surrounding → List ℕ
+four_of s = s.top_left ∷ s.top_right ∷ s.bottom_right ∷ s.bottom_left ∷ []
 
 -- A violation: marker, kind, reported corner if any, the expected four if any, and the missing ones.
 pub record Violation : Type 0 where
   pub marker : ℕ
   pub kind : LinkViolationKind
-  pub reported : Option ℕ
+  pub reported : Maybe ℕ
   pub expected : List ℕ
   pub missing : List ℕ
 
@@ -53,7 +54,7 @@ unless b x = cond b [] (x ∷ [])
 abbrev pub against : MarkerExpectation → ℕ → ℕ → List Violation
 against Unknown m c = of_link UnknownMarker m c [] ∷ []
 against NoFourCorners m c = of_link MarkerHasNoFourCorners m c [] ∷ []
-against (Expected a b d e) m c = unless (has (a ∷ b ∷ d ∷ e ∷ []) c) (of_link CornerNotInNeighborhood m c (a ∷ b ∷ d ∷ e ∷ []))
+against (Expected s) m c = unless (has (four_of s) c) (of_link CornerNotInNeighborhood m c (four_of s))
 
 -- Then per expected marker: each repeated corner after its first, in link order,
 abbrev pub repeat_at : List ℕ → ℕ → List ℕ → ℕ → List Violation
@@ -88,7 +89,7 @@ module _ (links : List ℕ) (n : ℕ) (mode : LinkCheckMode) where
   abbrev pub of_marker : ℕ → MarkerExpectation → List Violation
   of_marker m Unknown = []
   of_marker m NoFourCorners = []
-  of_marker m (Expected a b c d) = of_four m (a ∷ b ∷ c ∷ d ∷ [])
+  of_marker m (Expected s) = of_four m (four_of s)
 
   -- the violations of link k's marker, if the link is its first
   abbrev pub of_first : (ℕ → MarkerExpectation) → ℕ → List Violation
@@ -105,7 +106,7 @@ kind_number CornerNotInNeighborhood = 3
 kind_number DuplicateCorner = 4
 kind_number MissingCorners = 5
 
-abbrev pub or_nought : Option ℕ → ℕ
+abbrev pub or_nought : Maybe ℕ → ℕ
 or_nought none = 0
 or_nought (some c) = c
 

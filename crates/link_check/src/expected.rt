@@ -1,46 +1,28 @@
 // The corners that the board expects for a marker.
-ghost use Rattle.std.specs.Prelude.{◌≡◌, [], ◌∷◌};
-ghost use Rattle.link_check.specs.Violations.{expectation, of_corners, has};
+ghost use Rattle.std.specs.Prelude.{◌≡◌};
+ghost use Rattle.link_check.specs.Violations.{expectation, of_corners, four_of};
 
-use board::{Board, Located, Surrounding};
+use board::{Board, Surrounding};
 
 #[derive(Clone, Copy)]
 pub enum MarkerExpectation {
     Unknown,
     NoFourCorners,
-    Expected {
-        top_left: u32,
-        top_right: u32,
-        bottom_right: u32,
-        bottom_left: u32,
-    },
+    Expected(Surrounding),
 }
 
 #[derive(Clone, Copy)]
 pub struct MarkerCorners {
     pub marker: u32,
-    pub top_left: u32,
-    pub top_right: u32,
-    pub bottom_right: u32,
-    pub bottom_left: u32,
+    pub corners: Surrounding,
 }
 
-fn of_corners(around: Surrounding) -> MarkerExpectation
+fn of_corners(around: Option<Surrounding>) -> MarkerExpectation
     ensures { result ≡ of_corners around }
 {
     match around {
-        Surrounding::Corners {
-            top_left,
-            top_right,
-            bottom_right,
-            bottom_left,
-        } => MarkerExpectation::Expected {
-            top_left,
-            top_right,
-            bottom_right,
-            bottom_left,
-        },
-        Surrounding::Absent => MarkerExpectation::NoFourCorners,
+        Some(corners) => MarkerExpectation::Expected(corners),
+        None => MarkerExpectation::NoFourCorners,
     }
 }
 
@@ -50,23 +32,19 @@ pub fn expectation(board: Board, marker: u32) -> MarkerExpectation
     let square = board.marker_position(marker);
     let around = board.marker_surrounding_charuco_corners(marker);
     match square {
-        Located::Absent => MarkerExpectation::Unknown,
-        Located::At { i: _, j: _ } => of_corners(around),
+        None => MarkerExpectation::Unknown,
+        Some(_) => of_corners(around),
     }
 }
 
-// Is the corner one of the four?
-pub fn is_one_of(corner: u32, a: u32, b: u32, c: u32, d: u32) -> bool
-    ensures { result ≡ has (a ∷ b ∷ c ∷ d ∷ []) corner }
+// The four corners of the list `expected` in a violation.
+pub fn four(corners: Surrounding) -> [u32; 4]
+    ensures { result ≡ four_of corners }
 {
-    if a == corner {
-        return true;
-    }
-    if b == corner {
-        return true;
-    }
-    if c == corner {
-        return true;
-    }
-    d == corner
+    [
+        corners.top_left,
+        corners.top_right,
+        corners.bottom_right,
+        corners.bottom_left,
+    ]
 }

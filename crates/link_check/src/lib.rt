@@ -16,7 +16,7 @@ mod passes;
 mod repeats;
 mod words;
 
-use board::{Board, CharucoBoardSpec, NewBoard};
+use board::{Board, CharucoBoardSpec};
 use passes::Standard;
 use refusal::Refusal;
 
@@ -52,13 +52,6 @@ impl LinkViolationKind {
     }
 }
 
-// The number of violations.
-#[derive(Clone, Copy)]
-pub enum CheckedLinks {
-    Checked(usize),
-    Refused(Refusal),
-}
-
 // Both passes, for links that passed the questions. Returns the index after the last word.
 fn check(
     board: Board,
@@ -86,30 +79,26 @@ fn check(
     )
 }
 
-// Writes the violations of links on a board, twelve words each, to the start of the output array; on a refusal it is unchanged.
+// Writes the violations of links on a board, twelve words each, to the start of the output array, and returns their number; on a refusal the array is
+// unchanged.
 pub fn validate_marker_corner_links(
     spec: CharucoBoardSpec,
     codes: &[u64],
     links: &[u32],
     mode: LinkCheckMode,
     violations: &mut [u32],
-) -> CheckedLinks
+) -> Result<usize, Refusal>
     ensures answer { result ≡ check_links spec codes.now mode links.now violations.old }
     ensures list { violations.new ≡ check_links_list spec codes.now mode links.now violations.old }
 {
-    let made = Board::new(spec, codes);
-    match made {
-        NewBoard::Refused(refusal) => CheckedLinks::Refused(refusal),
-        NewBoard::Made(board) => {
-            let n = links.len() / 2;
-            if 4096 < n {
-                return CheckedLinks::Refused(Refusal::TooManyLinks);
-            }
-            if violations.len() < 36 * n {
-                return CheckedLinks::Refused(Refusal::ListTooShort);
-            }
-            let end = check(board, links, n, mode, violations);
-            CheckedLinks::Checked(end / 12)
-        }
+    let board = Board::new(spec, codes)?;
+    let n = links.len() / 2;
+    if 4096 < n {
+        return Err(Refusal::TooManyLinks);
     }
+    if violations.len() < 36 * n {
+        return Err(Refusal::ListTooShort);
+    }
+    let end = check(board, links, n, mode, violations);
+    Ok(end / 12)
 }

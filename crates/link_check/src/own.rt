@@ -51,20 +51,16 @@ pub fn put_own(board: Board, marker: u32, corner: u32, violations: &mut [u32], a
             violations,
             at,
         ),
-        MarkerExpectation::Expected {
-            top_left: a,
-            top_right: b,
-            bottom_right: c,
-            bottom_left: d,
-        } => {
-            if expected::is_one_of(corner, a, b, c, d) {
+        MarkerExpectation::Expected(corners) => {
+            let four = expected::four(corners);
+            if four.contains(&corner) {
                 return at;
             }
             put_of_link(
                 LinkViolationKind::CornerNotInNeighborhood,
                 marker,
                 corner,
-                [a, b, c, d],
+                four,
                 violations,
                 at,
             )

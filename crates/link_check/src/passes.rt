@@ -1,9 +1,8 @@
 // The two passes over the links: each link's own violation, then the violations of each expected marker.
 ghost use Rattle.std.specs.Prelude.{◌+◌, ◌*◌, ◌≤◌, ◌<◌, length};
 ghost use Rattle.lent_list.specs.Front.{up_to, Put};
-ghost use Rattle.link_check.specs.Violations.{expectation, own as ownEntry, of_four, of_first, words_of_violations};
+ghost use Rattle.link_check.specs.Violations.{expectation, four_of, own as own_entry, of_four, of_first, words_of_violations};
 ghost use Rattle.link_check.specs.Chains.{key_of, Chained};
-ghost use Rattle.link_check.specs.Missing.{four_of};
 
 use super::expected::{MarkerCorners, MarkerExpectation};
 use super::{LinkCheckMode, chains, expected, missing, own, repeats};
@@ -19,7 +18,7 @@ pub struct Standard {
 pub fn put_own_entries(board: Board, links: &[u32], n: usize, violations: &mut [u32]) -> usize
     requires { (n ≤ 4096) × (12 * n ≤ length violations.old) }
     ensures { Put violations.old violations.new 0 result
-        (words_of_violations (up_to (ownEntry links.now (expectation board)) n)) }
+        (words_of_violations (up_to (own_entry links.now (expectation board)) n)) }
 {
     let mut end = 0;
     let mut k = 0;
@@ -44,9 +43,9 @@ fn put_of_four(
 ) -> usize
     requires n_bound { (n ≤ 4096) × Chained (key_of 0 links.now) n marker_chain.now
         × Chained (key_of 1 links.now) n chain.now }
-    requires expected_in_bounds { at + length (words_of_violations (of_four links.now n mode expected.marker (four_of expected))) ≤ length violations.old }
+    requires expected_in_bounds { at + length (words_of_violations (of_four links.now n mode expected.marker (four_of expected.corners))) ≤ length violations.old }
     ensures { Put violations.old violations.new at result
-        (words_of_violations (of_four links.now n mode expected.marker (four_of expected))) }
+        (words_of_violations (of_four links.now n mode expected.marker (four_of expected.corners))) }
 {
     let end = repeats::put_repeats(links, n, marker_chain, chain, expected, violations, at);
     missing::put_missing(links, n, chain, mode, expected, violations, end)
@@ -78,24 +77,13 @@ fn put_of_first(
     match expected {
         MarkerExpectation::Unknown => at,
         MarkerExpectation::NoFourCorners => at,
-        MarkerExpectation::Expected {
-            top_left,
-            top_right,
-            bottom_right,
-            bottom_left,
-        } => put_of_four(
+        MarkerExpectation::Expected(corners) => put_of_four(
             links,
             n,
             mode,
             marker_chain,
             chain,
-            MarkerCorners {
-                marker,
-                top_left,
-                top_right,
-                bottom_right,
-                bottom_left,
-            },
+            MarkerCorners { marker, corners },
             violations,
             at,
         ),

@@ -1,12 +1,11 @@
 // The repeated corners of a marker.
 ghost use Rattle.std.specs.Prelude.{◌+◌, ◌≤◌, ◌<◌, length};
 ghost use Rattle.lent_list.specs.Front.{up_to, Put};
-ghost use Rattle.link_check.specs.Violations.{repeat_at, words_of_violations};
+ghost use Rattle.link_check.specs.Violations.{four_of, repeat_at, words_of_violations};
 ghost use Rattle.link_check.specs.Chains.{key_of, Chained};
-ghost use Rattle.link_check.specs.Missing.{four_of};
 
 use super::expected::MarkerCorners;
-use super::{LinkViolationKind, chains, own};
+use super::{LinkViolationKind, chains, expected as expectations, own};
 
 // The violation of link k, if it has the marker and repeats an earlier one. `chain` has weight 1.
 fn put_repeat(
@@ -19,9 +18,9 @@ fn put_repeat(
     at: usize,
 ) -> usize
     requires n_bound { (n ≤ 4096) × (k < n) × Chained (key_of 1 links.now) n chain.now }
-    requires k_in_bounds { at + length (words_of_violations (repeat_at links.now expected.marker (four_of expected) k)) ≤ length violations.old }
+    requires k_in_bounds { at + length (words_of_violations (repeat_at links.now expected.marker (four_of expected.corners) k)) ≤ length violations.old }
     ensures { Put violations.old violations.new at result
-        (words_of_violations (repeat_at links.now expected.marker (four_of expected) k)) }
+        (words_of_violations (repeat_at links.now expected.marker (four_of expected.corners) k)) }
 {
     if chains::marker_of(links, k) != expected.marker {
         return at;
@@ -33,12 +32,7 @@ fn put_repeat(
         LinkViolationKind::DuplicateCorner,
         expected.marker,
         chains::corner_of(links, k),
-        [
-            expected.top_left,
-            expected.top_right,
-            expected.bottom_right,
-            expected.bottom_left,
-        ],
+        expectations::four(expected.corners),
         violations,
         at,
     )
@@ -56,9 +50,9 @@ pub fn put_repeats(
 ) -> usize
     requires n_bound { (n ≤ 4096) × Chained (key_of 0 links.now) n marker_chain.now
         × Chained (key_of 1 links.now) n chain.now }
-    requires n_in_bounds { at + length (words_of_violations (up_to (repeat_at links.now expected.marker (four_of expected)) n)) ≤ length violations.old }
+    requires n_in_bounds { at + length (words_of_violations (up_to (repeat_at links.now expected.marker (four_of expected.corners)) n)) ≤ length violations.old }
     ensures { Put violations.old violations.new at result
-        (words_of_violations (up_to (repeat_at links.now expected.marker (four_of expected)) n)) }
+        (words_of_violations (up_to (repeat_at links.now expected.marker (four_of expected.corners)) n)) }
 {
     let mut end = at;
     let mut k = marker_chain[chains::key_for(expected.marker, 0, 0)] as usize;

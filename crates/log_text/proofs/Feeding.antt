@@ -9,11 +9,11 @@ use lib.Seq.{take_at, take_all, length-take-le, drop-drop}
 use borrow.Author.Tests.{leb-true}
 use Rattle.place_text.specs.Writing.{Printed}
 use Rattle.place_text.proofs.Printing.{printed_length}
-use Rattle.log_text.specs.declared.Highest.{Highest}
 use Rattle.log_text.specs.Lines.{entry_lines}
 use Rattle.log_text.specs.Log.{entry_number, record_length, entry_end, is_whole, whole_end, first_record, raised, log_text}
 use Rattle.log_text.specs.Rules.{Takes}
 use Rattle.log_text.proofs.Laws.{entry_taken}
+use Rattle.std.specs.Prelude.{Option}
 
 -- ---- what the end of the first entry tells
 pub some_end : (bytes : List ℕ) (e : ℕ) → e ≡ whole_end bytes → (e ≡ 0 → ⊥) → (is_whole bytes ≡ true) × (e ≡ entry_end bytes)
@@ -49,18 +49,18 @@ module _ {us : List ℕ} {at r : ℕ} {a b : List ℕ} (p : Printed us at r a b)
       ∙ take_at front (drop (length us) (drop at a)) r size
 
 -- ---- so far
-pub record Feeding (bytes text₀ : List ℕ) (first : Highest) (text : List ℕ) (used written : ℕ) (seen : Highest) : Type 0 where
+pub record Feeding (bytes text₀ : List ℕ) (first : Option ℕ) (text : List ℕ) (used written : ℕ) (seen : Option ℕ) : Type 0 where
   pub within : used ≤ length bytes
   pub size : length text ≡ length text₀
   pub room : written ≤ length text₀
   pub started : used ≡ 0 → written ≡ 0
   pub lines : Takes first bytes seen (drop used bytes) (take written text)
 
-pub nothing_fed : (bytes text : List ℕ) (first : Highest) → Feeding bytes text first text 0 0 first
+pub nothing_fed : (bytes text : List ℕ) (first : Option ℕ) → Feeding bytes text first text 0 0 first
 nothing_fed bytes text first =
     record { within = omega arith; size = refl; room = omega arith; started = λ e. refl; lines = λ more. refl }
 
-module _ {bytes text₀ : List ℕ} {first : Highest} {text : List ℕ} {used written : ℕ} {seen : Highest} (f : Feeding bytes text₀ first text used written seen) where
+module _ {bytes text₀ : List ℕ} {first : (Option ℕ)} {text : List ℕ} {used written : ℕ} {seen : (Option ℕ)} (f : Feeding bytes text₀ first text used written seen) where
   abbrev rest : List ℕ
   rest = drop used bytes
 
@@ -87,7 +87,7 @@ module _ {bytes text₀ : List ℕ} {first : Highest} {text : List ℕ} {used wr
   -- in the words of the program: the rest as a slice p, the end e, the number n, the record as a slice of p
   pub next_fed : (p : List ℕ) → p ≡ rest → (e : ℕ) → e ≡ whole_end p → (e ≡ 0 → ⊥) → (n : ℕ) → n ≡ entry_number p → {after : List ℕ} {w : ℕ}
       → Printed (entry_lines seen n (take (e - 6) (drop 6 p))) written w text after → length (entry_lines seen n (take (e - 6) (drop 6 p))) ≤ 76
-      → 76 ≤ length text - written → (s : Highest) → s ≡ raised seen n
+      → 76 ≤ length text - written → (s : Option ℕ) → s ≡ raised seen n
       → Feeding bytes text₀ first after (used + e) w s
   next_fed p is e ends not-0 n is-n {after} {w} printed most room s is-s =
       let whole = some_end p e ends not-0 in

@@ -12,25 +12,24 @@ use borrow.Author.Tests.{leb-true, leb-false, le-leb}
 use Rattle.shot_record.specs.Fields.{number}
 use Rattle.shot_record.specs.Writing.{little_endian, All}
 use Rattle.shot_record.proofs.LittleEndian.{byte-below, le_length, number_of_le, le_of_number}
-use Rattle.log_text.specs.declared.Highest.{Highest}
-use Rattle.log_text.specs.declared.Highest.TheVariants as highest
 use Rattle.log_text.specs.Lines.{entry_lines}
 use Rattle.log_text.specs.Log.{entry_number, record_length, entry_end, is_whole, first_record, raised, rest_text, text_in, log_text}
 use Rattle.log_text.specs.Rules.{Entry, FitEntry, entry_bytes, row_bytes, row_lines, highest_after, RowRule, CutRule, WholeRule}
 use Rattle.log_text.specs.Rules.{IsNumber, Greatest, GreatestRule, Takes, Took, Read, Print, input, PiecesRule}
+use Rattle.std.specs.Prelude.{Option, Some, None}
 
 -- ---- the first entry
-abbrev first_lines : Highest → List ℕ → List ℕ
+abbrev first_lines : Option ℕ → List ℕ → List ℕ
 first_lines h bytes = entry_lines h (entry_number bytes) (first_record bytes)
 
-abbrev after : Highest → List ℕ → Highest
+abbrev after : Option ℕ → List ℕ → Option ℕ
 after h bytes = raised h (entry_number bytes)
 
 abbrev rest : List ℕ → List ℕ
 rest bytes = drop (entry_end bytes) bytes
 
 -- two numbers of entries that are large enough give the same text
-enough : (k j : ℕ) (h : Highest) (bytes : List ℕ) → length bytes ≤ k → length bytes ≤ j → text_in k h bytes ≡ text_in j h bytes
+enough : (k j : ℕ) (h : Option ℕ) (bytes : List ℕ) → length bytes ≤ k → length bytes ≤ j → text_in k h bytes ≡ text_in j h bytes
 unfolding text_in number
 enough zero zero h bytes a b = refl
 enough zero (suc j) h [] a b = refl
@@ -49,7 +48,7 @@ enough (suc k) (suc j) h bytes a b =
         ap (λ (l : List ℕ). first_lines h bytes ++ l) (more (omega (arith, shorter, a)) (omega (arith, shorter, b)))
     go false le more = refl
 
-pub entry_first : (h : Highest) (bytes : List ℕ) → is_whole bytes ≡ true → log_text h bytes ≡ first_lines h bytes ++ log_text (after h bytes) (rest bytes)
+pub entry_first : (h : Option ℕ) (bytes : List ℕ) → is_whole bytes ≡ true → log_text h bytes ≡ first_lines h bytes ++ log_text (after h bytes) (rest bytes)
 unfolding text_in
 entry_first h bytes w =
     let le = leb-true (entry_end bytes) (length bytes) w in
@@ -60,7 +59,7 @@ entry_first h bytes w =
     ∙ ap (λ (l : List ℕ). first_lines h bytes ++ l)
     (enough m (length (rest bytes)) (after h bytes) (rest bytes) (omega (arith, length-drop (entry_end bytes) bytes, le, s)) (omega arith))
 
-pub none_whole : (h : Highest) (bytes : List ℕ) → is_whole bytes ≡ false → log_text h bytes ≡ rest_text bytes
+pub none_whole : (h : Option ℕ) (bytes : List ℕ) → is_whole bytes ≡ false → log_text h bytes ≡ rest_text bytes
 unfolding text_in
 none_whole h bytes w = go (length bytes)
   where
@@ -96,7 +95,7 @@ module _ (xs ys : List ℕ) (w : is_whole xs ≡ true) where
   same_rest : rest (xs ++ ys) ≡ rest xs ++ ys
   same_rest = ap (λ (n : ℕ). drop (6 + n) (xs ++ ys)) same_length ∙ drop-append-le (entry_end xs) xs ys inside
 
-  pub entry_taken : (h : Highest) → log_text h (xs ++ ys) ≡ first_lines h xs ++ log_text (after h xs) (rest xs ++ ys)
+  pub entry_taken : (h : Option ℕ) → log_text h (xs ++ ys) ≡ first_lines h xs ++ log_text (after h xs) (rest xs ++ ys)
   entry_taken h =
       entry_first h (xs ++ ys) still_whole
       ∙ ap₂ (λ (a b : List ℕ). a ++ b) (ap₂ (entry_lines h) same_number same_record)
@@ -152,7 +151,7 @@ module _ (e : Entry) (f : FitEntry e) (ys : List ℕ) where
       le-leb (entry_end bytes) (length bytes)
       (omega (arith, its_length, ap length in_three, length-append head (e.shot ++ ys), length-append e.shot ys, head-length))
 
-  pub written_first : (h : Highest) → log_text h bytes ≡ entry_lines h e.number e.shot ++ log_text (raised h e.number) ys
+  pub written_first : (h : Option ℕ) → log_text h bytes ≡ entry_lines h e.number e.shot ++ log_text (raised h e.number) ys
   written_first h =
       entry_first h bytes whole
       ∙ ap₂ (λ (a b : List ℕ). a ++ b) (ap₂ (entry_lines h) its_number its_record) (ap₂ (λ (n : ℕ) (l : List ℕ). log_text (raised h n) l) its_number its_rest)
@@ -193,9 +192,9 @@ whole_written bytes b w =
 
 -- ---- the highest number
 -- after entries that follow a number m
-abbrev GreatestFrom : ℕ → List Entry → Highest → Type 0
-GreatestFrom m es highest.Absent = ⊥
-GreatestFrom m es (highest.Seen n) = (m ≤ n) × (All (λ (e : Entry). e.number ≤ n) es × ((n ≡ m) ⊎ IsNumber n es))
+abbrev GreatestFrom : ℕ → List Entry → Option ℕ → Type 0
+GreatestFrom m es None = ⊥
+GreatestFrom m es (Some n) = (m ≤ n) × (All (λ (e : Entry). e.number ≤ n) es × ((n ≡ m) ⊎ IsNumber n es))
 
 greater_of : (k m n : ℕ) → k ≡ max m n → (k ≡ m) ⊎ (k ≡ n)
 greater_of k m n e = go (leb m n) (leb-true m n) (leb-false m n)
@@ -204,9 +203,9 @@ greater_of k m n e = go (leb m n) (leb-true m n) (leb-false m n)
     go true le lt = inr (omega (arith, e, le refl))
     go false le lt = inl (omega (arith, e, lt refl))
 
-greatest-from : (m : ℕ) (es : List Entry) → GreatestFrom m es (highest_after (highest.Seen m) es)
+greatest-from : (m : ℕ) (es : List Entry) → GreatestFrom m es (highest_after (Some m) es)
 greatest-from m [] = (omega arith, (tt, inl refl))
-greatest-from m (e ∷ es) = go (highest_after (highest.Seen (max m e.number)) es) (greatest-from (max m e.number) es)
+greatest-from m (e ∷ es) = go (highest_after (Some (max m e.number)) es) (greatest-from (max m e.number) es)
   where
     which : (k : ℕ) → (k ≡ m) ⊎ (k ≡ e.number) → (k ≡ m) ⊎ ((k ≡ e.number) ⊎ IsNumber k es)
     which k (inl i) = inl i
@@ -216,23 +215,23 @@ greatest-from m (e ∷ es) = go (highest_after (highest.Seen (max m e.number)) e
     whose k (inl i) = which k (greater_of k m e.number i)
     whose k (inr i) = inr (inr i)
 
-    go : (h : Highest) → GreatestFrom (max m e.number) es h → GreatestFrom m (e ∷ es) h
-    go highest.Absent g = g
-    go (highest.Seen k) g = (omega (arith, g.0), ((omega (arith, g.0), g.1.0), whose k g.1.1))
+    go : (h : Option ℕ) → GreatestFrom (max m e.number) es h → GreatestFrom m (e ∷ es) h
+    go None g = g
+    go (Some k) g = (omega (arith, g.0), ((omega (arith, g.0), g.1.0), whose k g.1.1))
 
 pub greatest_before : GreatestRule
 greatest_before [] = refl
-greatest_before (e ∷ es) = go (highest_after (highest.Seen e.number) es) (greatest-from e.number es)
+greatest_before (e ∷ es) = go (highest_after (Some e.number) es) (greatest-from e.number es)
   where
-    go : (h : Highest) → GreatestFrom e.number es h → Greatest (e ∷ es) h
-    go highest.Absent g = absurd g
-    go (highest.Seen k) g = ((g.0, g.1.0), g.1.1)
+    go : (h : Option ℕ) → GreatestFrom e.number es h → Greatest (e ∷ es) h
+    go None g = absurd g
+    go (Some k) g = ((g.0, g.1.0), g.1.1)
 
 -- ---- pieces
-pub took_nothing : (h : Highest) (held : List ℕ) → Took h held h held
+pub took_nothing : (h : Option ℕ) (held : List ℕ) → Took h held h held
 took_nothing h held = record { lines = []; takes = λ more. refl }
 
-pub took_more : {h k : Highest} {a b : List ℕ} → Took h a k b → (m : Highest) (c lines : List ℕ) → Takes k b m c lines → Took h a m c
+pub took_more : {h k : (Option ℕ)} {a b : List ℕ} → Took h a k b → (m : Option ℕ) (c lines : List ℕ) → Takes k b m c lines → Took h a m c
 took_more t m c lines s =
     record {
       lines = t.lines ++ lines;

@@ -9,7 +9,6 @@ use lib.ListN.{length, replicate, length-append, length-replicate}
 use borrow.Author.Tests.{leb-false}
 use Rattle.shot_record.specs.Shots.{parse}
 use Rattle.shot_record.proofs.Reading.{Small, number-below}
-use Rattle.board_match.specs.declared.Matched.{Matched}
 use Rattle.board_match.specs.Match.{matched_shot}
 use Rattle.board_match.specs.Accuracy.{Accuracy}
 use Rattle.board_match.specs.Sizes.{SmallAnswer}
@@ -18,14 +17,15 @@ use Rattle.board_match.proofs.Sizes.{small-answer}
 use Rattle.place_text.specs.Numerals.{decimal}
 use Rattle.place_text.specs.Text.{line}
 use Rattle.place_text.proofs.Lengths.{decimal-room, answer-room}
-use Rattle.log_text.specs.declared.Highest.{Highest}
-use Rattle.log_text.specs.declared.Highest.TheVariants as highest
 use Rattle.log_text.specs.Lines.{the_gap, the_backward, step_line, order_line, entry_line, shot_answer, entry_lines}
 use Rattle.log_text.specs.Log.{entry_end}
 use Rattle.log_text.specs.Rules.{SmallHighest, RoomRule, FullRule, DemandsRule}
+use Rattle.std.specs.Prelude.{Option, Result, Some, None}
+use Rattle.board_match.specs.declared.Match.{Match}
+use Rattle.refusal.specs.declared.Refusal.{Refusal}
 
 -- Match with any output array of 4,608 words
-with_array : (P : Matched → Type 0) (shot : List ℕ) → ((lent : List ℕ) → P (matched_shot (parse shot) (length lent))) → P (shot_answer shot)
+with_array : (P : Result Match Refusal → Type 0) (shot : List ℕ) → ((lent : List ℕ) → P (matched_shot (parse shot) (length lent))) → P (shot_answer shot)
 with_array P shot all = subst (λ (n : ℕ). P (matched_shot (parse shot) n)) (length-replicate {A = ℕ} 4608 0) (all (replicate 4608 0))
 
 pub demands_stand : DemandsRule
@@ -39,9 +39,9 @@ step_room h n a b = go (leb n h) (ltb (h + 1) n)
     go false true = simp length-append (omega (arith, decimal-room 9 (h + 1) (omega (arith, a)), decimal-room 9 (n - 1) (omega (arith, b))))
     go false false = omega arith
 
-order-room : (h : Highest) (n : ℕ) → SmallHighest h → n < 2 ^ 32 → length (order_line h n) ≤ 26
-order-room highest.Absent n a b = omega arith
-order-room (highest.Seen h) n a b = step_room h n a b
+order-room : (h : Option ℕ) (n : ℕ) → SmallHighest h → n < 2 ^ 32 → length (order_line h n) ≤ 26
+order-room None n a b = omega arith
+order-room (Some h) n a b = step_room h n a b
 
 pub entry-room : (n : ℕ) (shot : List ℕ) → n < 2 ^ 32 → Small shot → length (entry_line n (shot_answer shot)) ≤ 50
 entry-room n shot b small =

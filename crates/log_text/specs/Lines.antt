@@ -1,12 +1,11 @@
 -- Document 02, 2.9: the lines of an entry, as bytes.
-use Rattle.std.specs.Prelude.{ℕ, ◌+◌, ◌-◌, cond, List, [], ◌∷◌, ◌++◌, leb, ltb}
+use Rattle.std.specs.Prelude.{ℕ, ◌+◌, ◌-◌, cond, List, [], ◌∷◌, ◌++◌, leb, ltb, Option, Result, Some, None}
 use Rattle.shot_record.specs.Shots.{parse}
-use Rattle.board_match.specs.declared.Matched.{Matched}
 use Rattle.board_match.specs.Match.{matched_shot}
 use Rattle.place_text.specs.Numerals.{decimal}
 use Rattle.place_text.specs.Text.{line, the_refused, answer_line}
-use Rattle.log_text.specs.declared.Highest.{Highest}
-use Rattle.log_text.specs.declared.Highest.TheVariants as highest
+use Rattle.board_match.specs.declared.Match.{Match}
+use Rattle.refusal.specs.declared.Refusal.{Refusal}
 
 -- `gap`
 abbrev pub the_gap : List ℕ
@@ -25,20 +24,20 @@ abbrev pub step_line : ℕ → ℕ → List ℕ
 step_line h n = cond (leb n h) (line the_backward []) (cond (ltb (h + 1) n) (line the_gap (decimal (h + 1) ∷ decimal (n - 1) ∷ [])) [])
 
 -- "The first entry has neither line."
-abbrev pub order_line : Highest → ℕ → List ℕ
-order_line highest.Absent n = []
-order_line (highest.Seen h) n = step_line h n
+abbrev pub order_line : Option ℕ → ℕ → List ℕ
+order_line None n = []
+order_line (Some h) n = step_line h n
 
 -- "`entry` with its number, then on that line `place`'s best or refused line"
-abbrev pub entry_line : ℕ → Matched → List ℕ
+abbrev pub entry_line : ℕ → Result Match Refusal → List ℕ
 entry_line n answer = the_entry ++ (32 ∷ (decimal n ++ (32 ∷ answer_line answer)))
 
 -- The result of Match with an output array that has 18 words for each of 256 cells, as in `place`.
-abbrev pub shot_answer : List ℕ → Matched
+abbrev pub shot_answer : List ℕ → Result Match Refusal
 shot_answer shot = matched_shot (parse shot) 4608
 
 -- "Either line comes before the entry's own." "The lines for any entry depend only on that entry and the highest number before it."
-unfoldable pub entry_lines : Highest → ℕ → List ℕ → List ℕ
+unfoldable pub entry_lines : Option ℕ → ℕ → List ℕ → List ℕ
 entry_lines h n shot = order_line h n ++ entry_line n (shot_answer shot)
 
 -- "26: the last entry is cut off; printed as `refused 26` and the count of bytes from that entry's first"

@@ -1,9 +1,7 @@
 -- Document 02, 2.9: "A log is a row of entries: sequence number as u32, length as u16, then one shot record, all little-endian." The text of every
 -- list of bytes as a log.
-use Rattle.std.specs.Prelude.{ℕ, zero, suc, ◌+◌, max, Bool, cond, List, [], ◌∷◌, ◌++◌, leb, length, take, drop}
+use Rattle.std.specs.Prelude.{ℕ, zero, suc, ◌+◌, max, Bool, cond, List, [], ◌∷◌, ◌++◌, leb, length, take, drop, Option, Some, None}
 use Rattle.shot_record.specs.Fields.{number}
-use Rattle.log_text.specs.declared.Highest.{Highest}
-use Rattle.log_text.specs.declared.Highest.TheVariants as highest
 use Rattle.log_text.specs.Lines.{entry_lines, cut_line}
 
 -- The first entry of the bytes: its number, the length of its record, where it ends, and its record. A byte past the end counts as 0, so that an
@@ -28,9 +26,9 @@ abbrev pub first_record : List ℕ → List ℕ
 first_record bytes = take (record_length bytes) (drop 6 bytes)
 
 -- the highest number after an entry: "After a backward entry the highest number seen so far remains the one compared with."
-abbrev pub raised : Highest → ℕ → Highest
-raised highest.Absent n = highest.Seen n
-raised (highest.Seen h) n = highest.Seen (max h n)
+abbrev pub raised : Option ℕ → ℕ → Option ℕ
+raised None n = Some n
+raised (Some h) n = Some (max h n)
 
 -- bytes without a whole entry: "An empty log prints nothing. An entry cut off at the end stops the reading with one line."
 abbrev pub rest_text : List ℕ → List ℕ
@@ -38,7 +36,7 @@ rest_text [] = []
 rest_text (b ∷ bs) = cut_line (length (b ∷ bs))
 
 -- the text of bytes of at most k entries
-unfoldable pub text_in : ℕ → Highest → List ℕ → List ℕ
+unfoldable pub text_in : ℕ → Option ℕ → List ℕ → List ℕ
 text_in zero h bytes = rest_text bytes
 text_in (suc k) h bytes =
     cond (is_whole bytes)
@@ -46,5 +44,5 @@ text_in (suc k) h bytes =
     (rest_text bytes)
 
 -- of any bytes after entries with the highest number h; an entry has at least one byte
-abbrev pub log_text : Highest → List ℕ → List ℕ
+abbrev pub log_text : Option ℕ → List ℕ → List ℕ
 log_text h bytes = text_in (length bytes) h bytes

@@ -1,8 +1,7 @@
 // The first entry of a log's bytes, and the highest number after it.
 ghost use Rattle.std.specs.Prelude.{◌≡◌};
-ghost use Rattle.log_text.specs.Log.{entry_number, whole_end, raised as raisedBy};
+ghost use Rattle.log_text.specs.Log.{entry_number, whole_end, raised};
 
-use super::Highest;
 use shot_record::numbers;
 
 pub fn number(bytes: &[u8]) -> u32
@@ -22,16 +21,11 @@ pub fn whole_end(bytes: &[u8]) -> usize
     0
 }
 
-pub fn raised(highest: Highest, n: u32) -> Highest
-    ensures { result ≡ raisedBy highest n }
+pub fn raised(highest: Option<u32>, n: u32) -> Option<u32>
+    ensures { result ≡ raised highest n }
 {
     match highest {
-        Highest::Absent => Highest::Seen(n),
-        Highest::Seen(h) => {
-            if h < n {
-                return Highest::Seen(n);
-            }
-            Highest::Seen(h)
-        }
+        Some(h) if n <= h => highest,
+        _ => Some(n),
     }
 }

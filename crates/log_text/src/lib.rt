@@ -10,23 +10,16 @@ ghost use Rattle.log_text.specs.Rules.{Takes};
 mod entries;
 mod lines;
 
-// The greatest number of the entries before, if there is one.
-#[derive(Clone, Copy)]
-pub enum Highest {
-    Absent,
-    Seen(u32),
-}
-
-// The number of bytes that were read, the number of bytes of their lines, and the highest number after them.
+// The number of bytes that were read, the number of bytes of their lines, and the highest number of the entries up to them, if there is one.
 #[derive(Clone, Copy)]
 pub struct Fed {
     pub used: usize,
     pub written: usize,
-    pub highest: Highest,
+    pub highest: Option<u32>,
 }
 
 // Writes the lines of the whole entries at the start of the bytes to the start of the text, as long as it has room for those of one more.
-pub fn feed(bytes: &[u8], highest: Highest, text: &mut [u8]) -> Fed
+pub fn feed(bytes: &[u8], highest: Option<u32>, text: &mut [u8]) -> Fed
     ensures lines { Takes highest bytes.now result.highest (drop result.used bytes.now) (take result.written text.new) }
     ensures inside { (result.used ≤ length bytes.now) × (result.written ≤ length text.new) }
     ensures progress { result.used ≡ 0 → 76 ≤ length text.old

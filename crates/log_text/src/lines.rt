@@ -4,9 +4,9 @@ ghost use Rattle.place_text.specs.Text.{answer_line};
 ghost use Rattle.place_text.specs.Writing.{Printed};
 ghost use Rattle.log_text.specs.Lines.{step_line, order_line, entry_line, shot_answer, entry_lines, cut_line};
 
-use super::Highest;
-use board_match::Matched;
+use board_match::Match;
 use place_text::{lines, words, writer};
+use refusal::Refusal;
 
 // Number `n` after the highest number `h`.
 fn put_step(text: &mut [u8], at: usize, h: u32, n: u32) -> usize
@@ -26,22 +26,22 @@ fn put_step(text: &mut [u8], at: usize, h: u32, n: u32) -> usize
     writer::least(at, text.len())
 }
 
-fn put_order(text: &mut [u8], at: usize, highest: Highest, n: u32) -> usize
+fn put_order(text: &mut [u8], at: usize, highest: Option<u32>, n: u32) -> usize
     ensures line { Printed (order_line highest n) at result text.old text.new }
     ensures room { length (order_line highest n) ≤ 26 }
 {
     match highest {
-        Highest::Absent => writer::least(at, text.len()),
-        Highest::Seen(h) => put_step(text, at, h, n),
+        None => writer::least(at, text.len()),
+        Some(h) => put_step(text, at, h, n),
     }
 }
 
-fn put_answer(text: &mut [u8], at: usize, answer: Matched) -> usize
+fn put_answer(text: &mut [u8], at: usize, answer: Result<Match, Refusal>) -> usize
     ensures { Printed (answer_line answer) at result text.old text.new }
 {
     match answer {
-        Matched::Placed(found) => lines::put_hypothesis(text, at, b"best", found.best),
-        Matched::Refused(refusal) => lines::put_refusal(text, at, refusal),
+        Ok(found) => lines::put_hypothesis(text, at, b"best", found.best),
+        Err(refusal) => lines::put_refusal(text, at, refusal),
     }
 }
 
@@ -60,7 +60,7 @@ fn put_entry(text: &mut [u8], at: usize, n: u32, shot: &[u8], markers: &mut [u32
 pub fn put_lines(
     text: &mut [u8],
     at: usize,
-    highest: Highest,
+    highest: Option<u32>,
     n: u32,
     shot: &[u8],
     markers: &mut [u32; 4608],

@@ -1,5 +1,5 @@
 -- The cells entry point (document 01, "The questions asked"): question 18 without turn and translation, 14 with 256 places, 20.
-use Rattle.std.specs.Prelude.{ℕ, ◌*◌, Bool, true, not, ◌&&◌, ◌||◌, List, [], ◌∷◌, leb, length, ℤ, Float}
+use Rattle.std.specs.Prelude.{ℕ, ◌*◌, Bool, true, not, ◌&&◌, ◌||◌, List, [], ◌∷◌, leb, length, ℤ, Float, Result, Ok, Err}
 use Rattle.std.proofs.Math.Option.{Option, none, some}
 use Rattle.std.specs.Float.Ieee.Scale.{finite}
 use Rattle.integers.specs.Distance.{is_within}
@@ -9,8 +9,6 @@ use Rattle.grid_alignment.specs.declared.Coord.{Coord}
 use Rattle.refusal.specs.declared.Refusal.{Refusal}
 use Rattle.refusal.specs.declared.Refusal.TheVariants as refusal
 use Rattle.refusal.specs.Questions.{ask}
-use Rattle.marker_sampling.specs.declared.MarkerCells.{MarkerCells}
-use Rattle.marker_sampling.specs.declared.MarkerCells.TheVariants as found
 use Rattle.marker_sampling.specs.Cells.{Corners, word, labelled, cells, words_of_cells}
 
 -- the corners of the input arrays: one score each
@@ -41,11 +39,11 @@ cells_refused_by scores grid inliers lent =
     (ask (leb (length (cells_of scores grid inliers)) 256) refusal.TooManyCells
     none))
 
-abbrev pub found_by : Option Refusal → ℕ → MarkerCells
-found_by (some r) count = found.Refused r
-found_by none count = found.Found count
+abbrev pub found_by : Option Refusal → ℕ → Result ℕ Refusal
+found_by (some r) count = Err r
+found_by none count = Ok count
 
-abbrev pub marker_cells : List Float → List ℤ → List ℕ → List ℤ → MarkerCells
+abbrev pub marker_cells : List Float → List ℤ → List ℕ → List ℤ → Result ℕ Refusal
 marker_cells scores grid inliers lent = found_by (cells_refused_by scores grid inliers lent) (length (cells_of scores grid inliers))
 
 abbrev pub marker_cells_list : List Float → List ℤ → List ℕ → List ℤ → List ℤ

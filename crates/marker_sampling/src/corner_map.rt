@@ -62,7 +62,7 @@ pub fn build_corner_map(count: usize, grid: &[i32], inliers: &[usize]) -> [u64; 
     ensures { MapOf 4096 (corners_of count grid.now) inliers.now (length inliers.now) result }
 {
     let mut map = words(count, grid, inliers);
-    sorting::sort(&mut map, inliers.len());
+    sorting::sort(&mut map[..inliers.len()]);
     map
 }
 

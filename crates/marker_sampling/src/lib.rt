@@ -11,13 +11,6 @@ mod walk;
 
 use refusal::Refusal;
 
-// The number of cells found.
-#[derive(Clone, Copy)]
-pub enum MarkerCells {
-    Found(usize),
-    Refused(Refusal),
-}
-
 // Question 18 without the inliers: at most 1,024 corners, their grid points from −4,096 to 4,096, their scores finite?
 pub fn corners_in_range(scores: &[f32], grid: &[i32]) -> bool
     ensures { result ≡ corners_answer scores.now grid.now }
@@ -31,32 +24,33 @@ pub fn corners_in_range(scores: &[f32], grid: &[i32]) -> bool
     questions::all_finite(scores)
 }
 
-// Writes the whole cells in row-major order, six words each, to the start of the output array; on a refusal it is unchanged.
+// Writes the whole cells in row-major order, six words each, to the start of the output array, and returns their number; on a refusal the array is
+// unchanged.
 pub fn build_marker_cells(
     scores: &[f32],
     grid: &[i32],
     inliers: &[usize],
     cells: &mut [i32],
-) -> MarkerCells
+) -> Result<usize, Refusal>
     ensures answer { result ≡ marker_cells scores.now grid.now inliers.now cells.old }
     ensures list { cells.new ≡ marker_cells_list scores.now grid.now inliers.now cells.old }
 {
     if !corners_in_range(scores, grid) {
-        return MarkerCells::Refused(Refusal::CornersOutOfRange);
+        return Err(Refusal::CornersOutOfRange);
     }
     if 1024 < inliers.len() {
-        return MarkerCells::Refused(Refusal::CornersOutOfRange);
+        return Err(Refusal::CornersOutOfRange);
     }
     if cells.len() < 1536 {
-        return MarkerCells::Refused(Refusal::ListTooShort);
+        return Err(Refusal::ListTooShort);
     }
     let map = corner_map::build_corner_map(scores.len(), grid, inliers);
     let mut results: [i32; 1536] = [0; 1536];
     let count = walk::collect(&map, inliers, &mut results);
     if 256 < count {
-        return MarkerCells::Refused(Refusal::TooManyCells);
+        return Err(Refusal::TooManyCells);
     }
     let end = 6 * count;
-    lent_list::put_signed(cells, 0, &results[..end]);
-    MarkerCells::Found(count)
+    lent_list::put(cells, 0, &results[..end]);
+    Ok(count)
 }

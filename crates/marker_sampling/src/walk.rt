@@ -79,7 +79,7 @@ fn put(results: &mut [i32], n: usize, cell: &[i32; 6]) -> usize
     if 256 <= n {
         return n + 1;
     }
-    lent_list::put_signed(results, 6 * n, cell);
+    lent_list::put(results, 6 * n, cell);
     n + 1
 }
 

@@ -1,23 +1,16 @@
 -- The number that each function returns for a result of the library.
-use Rattle.std.specs.Prelude.{ℕ, zero, suc, ◌+◌, ◌*◌, ◌<◌, ◌≡◌, List, [], Bool, not, ◌&&◌, cond, leb, eqb, get_or, length, ℤ, Float}
+use Rattle.std.specs.Prelude.{ℕ, zero, suc, ◌+◌, ◌*◌, ◌<◌, ◌≡◌, List, [], Bool, not, ◌&&◌, cond, leb, eqb, get_or, length, ℤ, Float, Option, Some, None}
 use Rattle.std.specs.Float.{nan, binary32}
 use Rattle.std.specs.Float.Ieee.{of_bits}
 use Rattle.floats.specs.Units.{nought}
 use Rattle.grid_alignment.specs.declared.Coord.{Coord}
 use Rattle.grid_alignment.specs.Alignment.{point, corner_alignment, rect_corners}
 use Rattle.board.specs.declared.Board.{Board}
-use Rattle.board.specs.declared.Numbered.{Numbered}
-use Rattle.board.specs.declared.Numbered.TheVariants as numbered
-use Rattle.board.specs.declared.Located.{Located}
-use Rattle.board.specs.declared.Located.TheVariants as located
-use Rattle.board.specs.declared.ObjectPoint.{ObjectPoint}
-use Rattle.board.specs.declared.ObjectPoint.TheVariants as object
-use Rattle.board.specs.declared.Surrounding.{Surrounding}
-use Rattle.board.specs.declared.Surrounding.TheVariants as surrounding
 use Rattle.score_matrix.specs.declared.BoardMatchConfig.{BoardMatchConfig}
-use Rattle.score_matrix.specs.declared.BorderSample.{BorderSample}
-use Rattle.score_matrix.specs.declared.BorderSample.TheVariants as border
 use Rattle.score_matrix.specs.Scores.{side}
+use Rattle.board.specs.declared.ObjectPoint.{ObjectPoint}
+use Rattle.board.specs.declared.Position.{Position}
+use Rattle.board.specs.declared.Surrounding.{Surrounding}
 
 -- 2^64 − 1
 abbrev pub absent : ℕ
@@ -53,35 +46,35 @@ board_with rows cols legacy size =
       marker_size_rel = unit_size;
     }
 
-abbrev pub id_word : Numbered → ℕ
-id_word (numbered.Id n) = n
-id_word numbered.Absent = absent
+abbrev pub id_word : Option ℕ → ℕ
+id_word (Some n) = n
+id_word None = absent
 
-abbrev pub place_word : Located → ℕ
-place_word (located.At i j) = j * 65536 + i
-place_word located.Absent = absent
+abbrev pub place_word : Option Position → ℕ
+place_word (Some p) = p.j * 65536 + p.i
+place_word None = absent
 
 -- axis 0 is x, every other one y
-abbrev pub axis_of_point : ObjectPoint → ℕ → Float
-axis_of_point (object.At x y) zero = x
-axis_of_point (object.At x y) (suc k) = y
-axis_of_point object.Absent axis = nan
+abbrev pub axis_of_point : Option ObjectPoint → ℕ → Float
+axis_of_point (Some q) zero = q.x
+axis_of_point (Some q) (suc k) = q.y
+axis_of_point None axis = nan
 
 -- corners 0 to 3 are top left, top right, bottom right, bottom left
-abbrev pub four_word : Surrounding → ℕ → ℕ
-four_word (surrounding.Corners a b c d) zero = a
-four_word (surrounding.Corners a b c d) (suc zero) = b
-four_word (surrounding.Corners a b c d) (suc (suc zero)) = c
-four_word (surrounding.Corners a b c d) (suc (suc (suc k))) = d
-four_word surrounding.Absent k = absent
+abbrev pub four_word : Option Surrounding → ℕ → ℕ
+four_word (Some s) zero = s.top_left
+four_word (Some s) (suc zero) = s.top_right
+four_word (Some s) (suc (suc zero)) = s.bottom_right
+four_word (Some s) (suc (suc (suc k))) = s.bottom_left
+four_word None k = absent
 
 -- the length of the grid is side × side, and the code fits in a word
 abbrev pub whole_grid : ℕ → ℕ → ℕ → Bool
 whole_grid n bits border = leb bits 8 && eqb n (side bits border * side bits border)
 
 -- the border of a cell, and settings with only those that a weight depends on
-abbrev pub border_sample : Bool → Float → BorderSample
-border_sample sampled fraction = cond sampled (border.BlackFraction fraction) border.Unsampled
+abbrev pub border_sample : Bool → Float → Option Float
+border_sample sampled fraction = cond sampled (Some fraction) None
 
 abbrev pub weight_settings : Float → Float → BoardMatchConfig
 weight_settings threshold least =

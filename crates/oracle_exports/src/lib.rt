@@ -10,7 +10,7 @@ ghost use Rattle.board.specs.Layout.{marker_total, marker_on, marker_square, cor
 ghost use Rattle.oracle_exports.specs.Words.{axis_of, corner_translation, rect_corner};
 ghost use Rattle.oracle_exports.specs.Words.{unit_size, board_with, id_word, place_word, axis_of_point, four_word};
 
-use board::{Board, Located, Numbered, ObjectPoint, Surrounding};
+use board::{Board, Position};
 use grid_alignment::{Coord, GridAlignment, alignments};
 
 mod scores;
@@ -100,22 +100,22 @@ fn board_of(rows: u8, cols: u8, legacy: u32, cell_size: f32) -> Board
     }
 }
 
-fn id_word(n: Numbered) -> u64
+fn id_word(n: Option<u32>) -> u64
     ensures { result ≡ id_word n }
 {
     match n {
-        Numbered::Id(id) => id as u64,
-        Numbered::Absent => ABSENT,
+        Some(id) => id as u64,
+        None => ABSENT,
     }
 }
 
 // j × 65536 + i. Both are below 256, so the word determines them.
-fn place_word(place: Located) -> u64
+fn place_word(place: Option<Position>) -> u64
     ensures { result ≡ place_word place }
 {
     match place {
-        Located::At { i, j } => (j as u64) * 65536 + (i as u64),
-        Located::Absent => ABSENT,
+        Some(p) => (p.j as u64) * 65536 + (p.i as u64),
+        None => ABSENT,
     }
 }
 
@@ -155,8 +155,8 @@ pub fn oracle_object_xy(rows: u8, cols: u8, legacy: u32, cell_size: f32, id: u32
 {
     let point = board_of(rows, cols, legacy, cell_size).charuco_object_xy(id);
     match point {
-        ObjectPoint::At { x, y } => { if axis == 0 { x } else { y } }
-        ObjectPoint::Absent => 0.0 / 0.0,
+        Some(p) => { if axis == 0 { p.x } else { p.y } }
+        None => 0.0 / 0.0,
     }
 }
 
@@ -166,20 +166,12 @@ pub fn oracle_surrounding_corner(rows: u8, cols: u8, legacy: u32, marker: u32, c
 {
     let around = board_of(rows, cols, legacy, 1.0).marker_surrounding_charuco_corners(marker);
     match around {
-        Surrounding::Corners {
-            top_left,
-            top_right,
-            bottom_right,
-            bottom_left,
-        } => {
-            let k = corner % 4;
-            match k {
-                0 => top_left as u64,
-                1 => top_right as u64,
-                2 => bottom_right as u64,
-                _ => bottom_left as u64,
-            }
-        }
-        Surrounding::Absent => ABSENT,
+        Some(four) => match corner % 4 {
+            0 => four.top_left as u64,
+            1 => four.top_right as u64,
+            2 => four.bottom_right as u64,
+            _ => four.bottom_left as u64,
+        },
+        None => ABSENT,
     }
 }

@@ -11,7 +11,7 @@ ghost use Rattle.score_matrix.specs.Likelihoods.{picked};
 ghost use Rattle.score_matrix.specs.Weights.{weight};
 ghost use Rattle.oracle_exports.specs.Words.{whole_grid, ScoresWritten, border_sample, weight_settings};
 
-use score_matrix::{BoardMatchConfig, BorderSample, cell, table};
+use score_matrix::{BoardMatchConfig, cell, table};
 
 // NaN past the table.
 pub fn oracle_table_entry(i: usize) -> f32
@@ -27,19 +27,13 @@ pub fn oracle_table_entry(i: usize) -> f32
 pub fn oracle_is_table(table: &[f32]) -> u8
     ensures { result ≡ as_one (is_table table.now) }
 {
-    if table::is_table(table) {
-        return 1;
-    }
-    0
+    u8::from(table::is_table(table))
 }
 
-fn border_of(sampled: bool, fraction: f32) -> BorderSample
+fn border_of(sampled: bool, fraction: f32) -> Option<f32>
     ensures { result ≡ border_sample sampled fraction }
 {
-    if sampled {
-        return BorderSample::BlackFraction(fraction);
-    }
-    BorderSample::Unsampled
+    if sampled { Some(fraction) } else { None }
 }
 
 pub fn oracle_cell_weight(
@@ -110,13 +104,8 @@ fn fill_scores(likelihoods: &[f32; 128], bits: u8, codes: &[u64], out: &mut [f32
     ensures { ScoresWritten (λ code. sum_to (picked likelihoods.now code) (bits * bits)) codes.now out.old
         out.new }
 {
-    let mut i = 0;
-    while i < codes.len() {
-        if out.len() <= i {
-            return;
-        }
+    for i in 0..codes.len().min(out.len()) {
         out[i] = cell::sum(likelihoods, bits, codes[i]);
-        i += 1;
     }
 }
 

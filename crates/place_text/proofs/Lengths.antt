@@ -14,15 +14,9 @@ use Rattle.lent_list.proofs.Front.{up_to-most}
 use Rattle.refusal.specs.declared.Refusal.{Refusal}
 use Rattle.refusal.specs.declared.Refusal.TheVariants as refusal
 use Rattle.refusal.specs.Numbers.{number_of, values_of}
-use Rattle.ranking.specs.declared.Evidence.{Evidence}
-use Rattle.ranking.specs.declared.Evidence.TheVariants as evidence
 use Rattle.ranking.specs.declared.Hypothesis.{Hypothesis}
-use Rattle.ranking.specs.declared.Choice.{Choice}
-use Rattle.ranking.specs.declared.Choice.TheVariants as choice
 use Rattle.grid_alignment.specs.declared.GridAlignment.{GridAlignment}
 use Rattle.board_match.specs.declared.Match.{Match}
-use Rattle.board_match.specs.declared.Matched.{Matched}
-use Rattle.board_match.specs.declared.Matched.TheVariants as matched
 use Rattle.board_match.specs.Match.{match_answer, match_list}
 use Rattle.grid_alignment.specs.Alignment.{SmallAlignment}
 use Rattle.board_match.specs.Sizes.{SmallHypothesis, SmallRunnerUp, SmallMatch, SmallAnswer}
@@ -32,6 +26,7 @@ use Rattle.place_text.specs.Text.{line, and_words, float_word, the_placed, the_b
 use Rattle.place_text.specs.Text.{hypothesis_line, next_line, corners_line, word_of, reading, marker_line, marker_lines, match_lines, refusal_line, answer_line, text_of}
 use Rattle.place_text.specs.Room.{Room}
 use Rattle.place_text.proofs.Numerals.{decimal-short, decimal-long}
+use Rattle.std.specs.Prelude.{Option, Result, Some, None, Ok, Err, Float}
 
 pub decimal-room : (k n : ℕ) → n < 10 ^ suc k → length (decimal n) ≤ suc k
 decimal-room zero n h = rw (decimal-short n h) (omega arith)
@@ -62,9 +57,9 @@ signed_word-room n h = go (ltb n 2147483648)
     go true = omega (arith, decimal-room 9 n (omega arith))
     go false = omega (arith, decimal-room 9 (4294967296 - n) (omega arith))
 
-evidence-room : (e : Evidence) → length (evidence_word e) ≤ 8
-evidence-room (evidence.Number x) = omega (arith, hex8-room (to_bits binary32 x))
-evidence-room evidence.Absent = omega arith
+evidence-room : (e : Option Float) → length (evidence_word e) ≤ 8
+evidence-room (Some x) = omega (arith, hex8-room (to_bits binary32 x))
+evidence-room None = omega arith
 
 hypothesis-room : (cells : ℕ) (first : List ℕ) (h : Hypothesis) → cells ≤ 256 → SmallHypothesis cells h → length (hypothesis_line first h) ≤ length first + 28
 hypothesis-room cells first h few s =
@@ -74,9 +69,9 @@ hypothesis-room cells first h few s =
     let n = decimal-room 2 h.contributing_cells (omega (arith, s.contributing, few)) in
     simp length-append (omega (arith, turn-room a.turn s.alignment.turn, t, v, evidence-room h.evidence, n))
 
-next_room : (cells : ℕ) (r : Choice) → cells ≤ 256 → SmallRunnerUp cells r → length (next_line r) ≤ 32
-next_room cells (choice.Placement h) few s = hypothesis-room cells the_next h few s
-next_room cells choice.Absent few s = omega arith
+next_room : (cells : ℕ) (r : Option Hypothesis) → cells ≤ 256 → SmallRunnerUp cells r → length (next_line r) ≤ 32
+next_room cells (Some h) few s = hypothesis-room cells the_next h few s
+next_room cells None few s = omega arith
 
 corners-room : (a : GridAlignment) → SmallAlignment 4128 a → length (corners_line a) ≤ 36
 corners-room a s =
@@ -167,13 +162,13 @@ refusal_room r = go (eqb (number_of r) 16)
         simp length-append (omega (arith, decimal-room 1 (number_of r) (number_small r), hex8-room (get_or (values_of r) 0 0)))
     go false = simp length-append (omega (arith, decimal-room 1 (number_of r) (number_small r)))
 
-pub answer-room : (bytes : List ℕ) (a : Matched) → SmallAnswer bytes a → length (answer_line a) ≤ 32
-answer-room bytes (matched.Placed m) s = hypothesis-room _ the_best m.best s.few_cells s.best
-answer-room bytes (matched.Refused r) s = omega (arith, refusal_room r)
+pub answer-room : (bytes : List ℕ) (a : Result Match Refusal) → SmallAnswer bytes a → length (answer_line a) ≤ 32
+answer-room bytes (Ok m) s = hypothesis-room _ the_best m.best s.few_cells s.best
+answer-room bytes (Err r) s = omega (arith, refusal_room r)
 
 pub room : Room
 room bytes lent small sizes = go (match_answer bytes lent) (small-answer bytes lent small)
   where
-    go : (a : Matched) → SmallAnswer bytes a → length (text_of a (match_list bytes lent)) ≤ 32768
-    go (matched.Placed m) s = match_room (match_list bytes lent) sizes _ m s
-    go (matched.Refused r) s = omega (arith, refusal_room r)
+    go : (a : Result Match Refusal) → SmallAnswer bytes a → length (text_of a (match_list bytes lent)) ≤ 32768
+    go (Ok m) s = match_room (match_list bytes lent) sizes _ m s
+    go (Err r) s = omega (arith, refusal_room r)

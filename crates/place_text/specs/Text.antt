@@ -1,19 +1,13 @@
 -- Document 01, "The program `place`": the text of a result, as bytes. A line is words separated by one space, and a line feed.
-use Rattle.std.specs.Prelude.{ℕ, ◌+◌, ◌*◌, cond, List, [], ◌∷◌, ◌++◌, eqb, get_or, Float}
+use Rattle.std.specs.Prelude.{ℕ, ◌+◌, ◌*◌, cond, List, [], ◌∷◌, ◌++◌, eqb, get_or, Float, Option, Result, Some, None, Ok, Err}
 use Rattle.std.specs.Float.{binary32}
 use Rattle.std.specs.Float.Ieee.{to_bits}
 use Rattle.lent_list.specs.Front.{up_to}
 use Rattle.refusal.specs.declared.Refusal.{Refusal}
 use Rattle.refusal.specs.Numbers.{number_of, values_of}
 use Rattle.grid_alignment.specs.declared.GridAlignment.{GridAlignment}
-use Rattle.ranking.specs.declared.Evidence.{Evidence}
-use Rattle.ranking.specs.declared.Evidence.TheVariants as evidence
 use Rattle.ranking.specs.declared.Hypothesis.{Hypothesis}
-use Rattle.ranking.specs.declared.Choice.{Choice}
-use Rattle.ranking.specs.declared.Choice.TheVariants as choice
 use Rattle.board_match.specs.declared.Match.{Match}
-use Rattle.board_match.specs.declared.Matched.{Matched}
-use Rattle.board_match.specs.declared.Matched.TheVariants as matched
 use Rattle.place_text.specs.Numerals.{hex8, decimal, signed_decimal, signed_word}
 
 -- `placed`
@@ -68,9 +62,9 @@ abbrev pub float_word : Float → List ℕ
 float_word x = hex8 (to_bits binary32 x)
 
 -- the evidence's bit pattern or `none`
-abbrev pub evidence_word : Evidence → List ℕ
-evidence_word (evidence.Number x) = float_word x
-evidence_word evidence.Absent = the_none
+abbrev pub evidence_word : Option Float → List ℕ
+evidence_word (Some x) = float_word x
+evidence_word None = the_none
 
 -- best and next: turn, tx, ty, evidence, and the number of contributing cells (document 02, 2.5)
 abbrev pub hypothesis_line : List ℕ → Hypothesis → List ℕ
@@ -84,9 +78,9 @@ hypothesis_line first h =
     ∷ [])
 
 -- `next absent` without a runner_up_is
-abbrev pub next_line : Choice → List ℕ
-next_line (choice.Placement h) = hypothesis_line the_next h
-next_line choice.Absent = line the_next (the_absent ∷ [])
+abbrev pub next_line : Option Hypothesis → List ℕ
+next_line (Some h) = hypothesis_line the_next h
+next_line None = line the_next (the_absent ∷ [])
 
 -- corners: turn and corner translation
 abbrev pub corners_line : GridAlignment → List ℕ
@@ -132,11 +126,11 @@ refusal_line r =
     line the_refused (decimal (number_of r) ∷ cond (eqb (number_of r) 16) (hex8 (get_or (values_of r) 0 0) ∷ []) [])
 
 -- the line of a result in the text of a log (document 02, 2.9): "`place`'s best or refused line"
-abbrev pub answer_line : Matched → List ℕ
-answer_line (matched.Placed m) = hypothesis_line the_best m.best
-answer_line (matched.Refused r) = refusal_line r
+abbrev pub answer_line : Result Match Refusal → List ℕ
+answer_line (Ok m) = hypothesis_line the_best m.best
+answer_line (Err r) = refusal_line r
 
 -- the text of a result and the markers' words
-abbrev pub text_of : Matched → List ℕ → List ℕ
-text_of (matched.Placed m) words = match_lines m words
-text_of (matched.Refused r) words = refusal_line r
+abbrev pub text_of : Result Match Refusal → List ℕ → List ℕ
+text_of (Ok m) words = match_lines m words
+text_of (Err r) words = refusal_line r

@@ -14,7 +14,8 @@ mod markers;
 pub mod words;
 pub mod writer;
 
-use board_match::{Match, Matched};
+use board_match::Match;
+use refusal::Refusal;
 
 fn put_match(text: &mut [u8], at: usize, found: Match, markers: &[u32]) -> usize
     ensures { Printed (match_lines found markers.now) at result text.old text.new }
@@ -34,13 +35,13 @@ fn put_match(text: &mut [u8], at: usize, found: Match, markers: &[u32]) -> usize
 // Writes the text of `answer`, with the markers' words that Match wrote to `markers`, to the start of the output array, truncated to its length.
 // Returns the number of bytes written.
 // Public for `replay`: no record leads to an absent runner-up, or to a best placement without a number, and the text of both is tested.
-pub fn format(answer: Matched, markers: &[u32], text: &mut [u8]) -> usize
+pub fn format(answer: Result<Match, Refusal>, markers: &[u32], text: &mut [u8]) -> usize
     ensures count { result ≡ min (length (text_of answer markers.now)) (length text.old) }
     ensures list { text.new ≡ in_front (text_of answer markers.now) text.old }
 {
     match answer {
-        Matched::Placed(found) => put_match(text, 0, found, markers),
-        Matched::Refused(refusal) => lines::put_refusal(text, 0, refusal),
+        Ok(found) => put_match(text, 0, found, markers),
+        Err(refusal) => lines::put_refusal(text, 0, refusal),
     }
 }
 

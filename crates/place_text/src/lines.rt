@@ -6,7 +6,7 @@ ghost use Rattle.place_text.specs.Writing.{Printed};
 
 use super::{words, writer};
 use grid_alignment::GridAlignment;
-use ranking::{Choice, Hypothesis};
+use ranking::Hypothesis;
 use refusal::Refusal;
 
 pub fn put_hypothesis(text: &mut [u8], at: usize, first: &[u8], h: Hypothesis) -> usize
@@ -23,12 +23,12 @@ pub fn put_hypothesis(text: &mut [u8], at: usize, first: &[u8], h: Hypothesis) -
     writer::put(text, next, b'\n')
 }
 
-pub fn put_next(text: &mut [u8], at: usize, runner_up: Choice) -> usize
+pub fn put_next(text: &mut [u8], at: usize, runner_up: Option<Hypothesis>) -> usize
     ensures { Printed (next_line runner_up) at result text.old text.new }
 {
     match runner_up {
-        Choice::Placement(h) => put_hypothesis(text, at, b"next", h),
-        Choice::Absent => writer::put_all(text, at, b"next absent\n"),
+        Some(h) => put_hypothesis(text, at, b"next", h),
+        None => writer::put_all(text, at, b"next absent\n"),
     }
 }
 

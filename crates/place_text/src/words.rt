@@ -5,7 +5,6 @@ ghost use Rattle.place_text.specs.Text.{evidence_word};
 ghost use Rattle.place_text.specs.Writing.{Printed};
 
 use super::writer;
-use ranking::Evidence;
 
 pub fn and_decimal(text: &mut [u8], at: usize, n: u64) -> usize
     ensures { Printed (32 ∷ decimal n) at result text.old text.new }
@@ -42,11 +41,11 @@ pub fn and_hex16(text: &mut [u8], at: usize, high: u32, low: u32) -> usize
     writer::put_hex8(text, next, low)
 }
 
-pub fn and_evidence(text: &mut [u8], at: usize, evidence: Evidence) -> usize
+pub fn and_evidence(text: &mut [u8], at: usize, evidence: Option<f32>) -> usize
     ensures { Printed (32 ∷ evidence_word evidence) at result text.old text.new }
 {
     match evidence {
-        Evidence::Number(x) => and_hex8(text, at, floats::to_bits(x)),
-        Evidence::Absent => writer::put_all(text, at, b" none"),
+        Some(x) => and_hex8(text, at, floats::to_bits(x)),
+        None => writer::put_all(text, at, b" none"),
     }
 }

@@ -56,5 +56,5 @@ pub fn all_different(index: &[u32; 768], n: usize) -> bool
     }
     let mut words: [u64; 256] = [0; 256];
     put_points(&mut words, index, n);
-    sorting::all_different(&mut words, n)
+    sorting::all_different(&mut words[..n])
 }

@@ -8,31 +8,30 @@ use mathlib.Core.List.{List, [], ◌∷◌}
 use mathlib.Core.Option.{none, some}
 use lib.ListN.{get_elem?}
 use Rattle.ranking.specs.declared.Hypothesis.{Hypothesis}
-use Rattle.ranking.specs.declared.Choice.{Choice}
-use Rattle.ranking.specs.declared.Choice.TheVariants as choice
 use Rattle.ranking.specs.Greatest.{lies_below, over, first_greatest, rest, rest_over}
 use Rattle.ranking.specs.Rules.{FiniteEvidence, AllFinite, IsFirstGreatest, GreatestRule}
 use Rattle.ranking.proofs.Order.{below_self, not_below_trans, below_one_way}
 use Rattle.ranking.proofs.OnePass.{head_finite, tail_finite}
+use Rattle.std.specs.Prelude.{Option, Some, None}
 
 -- only the empty list has none
-pub empty : (hs : List Hypothesis) → first_greatest hs ≡ choice.Absent → hs ≡ []
+pub empty : (hs : List Hypothesis) → first_greatest hs ≡ None → hs ≡ []
 unfolding first_greatest
 empty [] e = refl
 empty (h ∷ hs) e = absurd (go (first_greatest hs) e)
   where
-    one : (t : Bool) (g h : Hypothesis) → cond t (choice.Placement g) (choice.Placement h) ≡ choice.Absent → ⊥
+    one : (t : Bool) (g h : Hypothesis) → cond t (Some g) (Some h) ≡ None → ⊥
     one true g h e = let z : ◌≡◌ {A = ℕ} 0 1 = cc in omega arith
     one false g h e = let z : ◌≡◌ {A = ℕ} 0 1 = cc in omega arith
 
-    go : (c : Choice) → over h c ≡ choice.Absent → ⊥
-    go choice.Absent e = let z : ◌≡◌ {A = ℕ} 0 1 = cc in omega arith
-    go (choice.Placement g) e = one (lies_below h.evidence g.evidence) g h e
+    go : (c : Option Hypothesis) → over h c ≡ None → ⊥
+    go None e = let z : ◌≡◌ {A = ℕ} 0 1 = cc in omega arith
+    go (Some g) e = one (lies_below h.evidence g.evidence) g h e
 
 same : {a b : Hypothesis} → some a ≡ some b → a ≡ b
 same e = cc
 
-placed : {a b : Hypothesis} → choice.Placement a ≡ choice.Placement b → a ≡ b
+placed : {a b : Hypothesis} → Some a ≡ Some b → a ≡ b
 placed e = cc
 
 no_element : {b : Hypothesis} → none ≡ some b → ⊥
@@ -53,11 +52,11 @@ module _ (h : Hypothesis) (hs : List Hypothesis) (f : AllFinite (h ∷ hs)) wher
       → IsFirstGreatest (h ∷ hs) h
   head_first q o = record { place = 0; there = refl; greatest = at_each h self q; first = λ k g l e. absurd (omega arith); others = o }
 
-  alone : first_greatest hs ≡ choice.Absent → IsFirstGreatest (h ∷ hs) h
+  alone : first_greatest hs ≡ None → IsFirstGreatest (h ∷ hs) h
   unfolding rest
   alone e = head_first (λ k g p. absurd (no_element (sym (ap (λ (l : List Hypothesis). get_elem? l k) (empty hs e)) ∙ p))) (ap (rest_over h hs (rest hs)) e)
 
-  module _ (g : Hypothesis) (e : first_greatest hs ≡ choice.Placement g) (r : IsFirstGreatest hs g) where
+  module _ (g : Hypothesis) (e : first_greatest hs ≡ Some g) (r : IsFirstGreatest hs g) where
     g₀ : FiniteEvidence g.evidence
     g₀ = tail_finite h hs f r.place g r.there
 
@@ -88,12 +87,12 @@ unfolding first_greatest
 greatest_rule [] b f e = absurd (let z : ◌≡◌ {A = ℕ} 0 1 = cc in omega arith)
 greatest_rule (h ∷ hs) b f e = go (first_greatest hs) refl (λ g p. greatest_rule hs g (tail_finite h hs f) p) e
   where
-    one : (t : Bool) (g : Hypothesis) → first_greatest hs ≡ choice.Placement g → lies_below h.evidence g.evidence ≡ t → IsFirstGreatest hs g
-        → cond t (choice.Placement g) (choice.Placement h) ≡ choice.Placement b → IsFirstGreatest (h ∷ hs) b
+    one : (t : Bool) (g : Hypothesis) → first_greatest hs ≡ Some g → lies_below h.evidence g.evidence ≡ t → IsFirstGreatest hs g
+        → cond t (Some g) (Some h) ≡ Some b → IsFirstGreatest (h ∷ hs) b
     one true g p t r q = rw (← placed q) (above h hs f g p r t)
     one false g p t r q = rw (← placed q) (not_above h hs f g p r t)
 
-    go : (c : Choice) → first_greatest hs ≡ c → ((g : Hypothesis) → first_greatest hs ≡ choice.Placement g → IsFirstGreatest hs g)
-        → over h c ≡ choice.Placement b → IsFirstGreatest (h ∷ hs) b
-    go choice.Absent p r q = rw (← placed q) (alone h hs f p)
-    go (choice.Placement g) p r q = one (lies_below h.evidence g.evidence) g p refl (r g p) q
+    go : (c : Option Hypothesis) → first_greatest hs ≡ c → ((g : Hypothesis) → first_greatest hs ≡ Some g → IsFirstGreatest hs g)
+        → over h c ≡ Some b → IsFirstGreatest (h ∷ hs) b
+    go None p r q = rw (← placed q) (alone h hs f p)
+    go (Some g) p r q = one (lies_below h.evidence g.evidence) g p refl (r g p) q

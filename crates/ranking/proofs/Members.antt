@@ -6,19 +6,18 @@ use mathlib.Core.Option.{some}
 use mathlib.Core.Bool.{Bool, true, false, cond}
 use lib.ListN.{get_elem?}
 use Rattle.ranking.specs.declared.Hypothesis.{Hypothesis}
-use Rattle.ranking.specs.declared.Choice.{Choice}
-use Rattle.ranking.specs.declared.Choice.TheVariants as choice
 use Rattle.ranking.specs.Greatest.{lies_below, over, first_greatest, rest_over, rest}
 use Rattle.ranking.specs.Rules.{AllFinite}
 use Rattle.ranking.proofs.Greatest.{greatest_rule}
+use Rattle.std.specs.Prelude.{Option, Some, None}
 
 unfoldable pub Every : (Hypothesis → Type 0) → List Hypothesis → Type 0
 Every P [] = Unit {0}
 Every P (h ∷ hs) = P h × Every P hs
 
-abbrev pub Of : (Hypothesis → Type 0) → Choice → Type 0
-Of P choice.Absent = Unit {0}
-Of P (choice.Placement h) = P h
+abbrev pub Of : (Hypothesis → Type 0) → Option Hypothesis → Type 0
+Of P None = Unit {0}
+Of P (Some h) = P h
 
 module _ (P : Hypothesis → Type 0) where
   pub every-at : (hs : List Hypothesis) → ((k : ℕ) (h : Hypothesis) → get_elem? hs k ≡ some h → P h) → Every P hs
@@ -26,11 +25,11 @@ module _ (P : Hypothesis → Type 0) where
   every-at [] f = tt
   every-at (h ∷ hs) f = (f 0 h refl, every-at hs (λ k. f (suc k)))
 
-  over-has : (h : Hypothesis) (c : Choice) → P h → Of P c → Of P (over h c)
-  over-has h choice.Absent p q = p
-  over-has h (choice.Placement g) p q = go (lies_below h.evidence g.evidence)
+  over-has : (h : Hypothesis) (c : Option Hypothesis) → P h → Of P c → Of P (over h c)
+  over-has h None p q = p
+  over-has h (Some g) p q = go (lies_below h.evidence g.evidence)
     where
-      go : (b : Bool) → Of P (cond b (choice.Placement g) (choice.Placement h))
+      go : (b : Bool) → Of P (cond b (Some g) (Some h))
       go true = q
       go false = p
 
@@ -48,12 +47,12 @@ module _ (P : Hypothesis → Type 0) where
       either others true = (a.0, others)
       either others false = a.1
 
-      without : Every P (rest hs) → (c : Choice) → Every P (rest_over h hs (rest hs) c)
-      without others choice.Absent = a.1
-      without others (choice.Placement g) = either others (lies_below h.evidence g.evidence)
+      without : Every P (rest hs) → (c : Option Hypothesis) → Every P (rest_over h hs (rest hs) c)
+      without others None = a.1
+      without others (Some g) = either others (lies_below h.evidence g.evidence)
 
 -- the runner_up_is is not above the best
-pub runner_up-not_above : (hs : List Hypothesis) (b : Hypothesis) → AllFinite hs → first_greatest hs ≡ choice.Placement b
+pub runner_up-not_above : (hs : List Hypothesis) (b : Hypothesis) → AllFinite hs → first_greatest hs ≡ Some b
     → Of (λ h. lies_below b.evidence h.evidence ≡ false) (first_greatest (rest hs))
 runner_up-not_above hs b f e =
     let P : Hypothesis → Type 0 = λ h. lies_below b.evidence h.evidence ≡ false in

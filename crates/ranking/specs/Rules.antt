@@ -1,18 +1,15 @@
 -- The laws of the first greatest and of the rest, proved in `proofs/`.
-use Rattle.std.specs.Prelude.{ℕ, suc, ◌<◌, ◌≡◌, true, false, List, ◌++◌, take, drop}
+use Rattle.std.specs.Prelude.{ℕ, suc, ◌<◌, ◌≡◌, true, false, List, ◌++◌, take, drop, Option, Some, None, Float}
 use Rattle.std.proofs.Math.Option.{some}
 use Rattle.std.proofs.Math.ListN.{get_elem?}
 use Rattle.floats.specs.Units.{Finite}
-use Rattle.ranking.specs.declared.Evidence.{Evidence}
-use Rattle.ranking.specs.declared.Evidence.TheVariants as evidence
 use Rattle.ranking.specs.declared.Hypothesis.{Hypothesis}
-use Rattle.ranking.specs.declared.Choice.TheVariants as choice
 use Rattle.ranking.specs.Greatest.{lies_below, first_greatest, rest}
 
 -- evidence is none or a finite number
-abbrev pub FiniteEvidence : Evidence → Type 0
-FiniteEvidence evidence.Absent = Unit {0}
-FiniteEvidence (evidence.Number x) = Finite x
+abbrev pub FiniteEvidence : Option Float → Type 0
+FiniteEvidence None = Unit {0}
+FiniteEvidence (Some x) = Finite x
 
 abbrev pub AllFinite : List Hypothesis → Type 0
 AllFinite hs = (k : ℕ) (h : Hypothesis) → get_elem? hs k ≡ some h → FiniteEvidence h.evidence
@@ -26,4 +23,4 @@ pub record IsFirstGreatest (hs : List Hypothesis) (b : Hypothesis) : Type 0 wher
   pub others : rest hs ≡ take place hs ++ drop (suc place) hs
 
 abbrev pub GreatestRule : Type 0
-GreatestRule = (hs : List Hypothesis) (b : Hypothesis) → AllFinite hs → first_greatest hs ≡ choice.Placement b → IsFirstGreatest hs b
+GreatestRule = (hs : List Hypothesis) (b : Hypothesis) → AllFinite hs → first_greatest hs ≡ Some b → IsFirstGreatest hs b

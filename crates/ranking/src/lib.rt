@@ -9,32 +9,20 @@ ghost use Rattle.ranking.specs.Ranking.{ranking_of, better as betterOf, ranked a
 
 use grid_alignment::GridAlignment;
 
-// The evidence of a placement. `Absent` (upstream's −∞) is below every number.
-#[derive(Clone, Copy)]
-pub enum Evidence {
-    Number(f32),
-    Absent,
-}
-
-// A placement (candidate grid alignment) with its evidence and its number of contributing cells, which does not affect the ranking.
+// A placement (candidate grid alignment) with its evidence, none where upstream's is −∞, and its number of contributing cells, which does not affect
+// the ranking.
 #[derive(Clone, Copy)]
 pub struct Hypothesis {
     pub alignment: GridAlignment,
-    pub evidence: Evidence,
+    pub evidence: Option<f32>,
     pub contributing_cells: usize,
-}
-
-#[derive(Clone, Copy)]
-pub enum Choice {
-    Placement(Hypothesis),
-    Absent,
 }
 
 // The best of the placements seen, the best of the others, and the number seen.
 #[derive(Clone, Copy)]
 pub struct Ranking {
-    pub best: Choice,
-    pub runner_up: Choice,
+    pub best: Option<Hypothesis>,
+    pub runner_up: Option<Hypothesis>,
     pub total: usize,
 }
 
@@ -42,40 +30,30 @@ pub fn no_ranking() -> Ranking
     ensures { result ≡ ranking_of [] }
 {
     Ranking {
-        best: Choice::Absent,
-        runner_up: Choice::Absent,
+        best: None,
+        runner_up: None,
         total: 0,
     }
 }
 
-// `Absent` is below every number.
-pub fn below(a: Evidence, b: Evidence) -> bool
+// No evidence is below every number.
+pub fn below(a: Option<f32>, b: Option<f32>) -> bool
     ensures { result ≡ lies-below a b }
 {
-    match b {
-        Evidence::Absent => false,
-        Evidence::Number(y) => match a {
-            Evidence::Absent => true,
-            Evidence::Number(x) => x < y,
-        },
+    match (a, b) {
+        (_, None) => false,
+        (None, Some(_)) => true,
+        (Some(x), Some(y)) => x < y,
     }
 }
 
 // The better of `held` and h; on a tie `held`, the earlier one.
-fn better(held: Choice, h: Hypothesis) -> Choice
+fn better(held: Option<Hypothesis>, h: Hypothesis) -> Option<Hypothesis>
     ensures { result ≡ betterOf held h }
 {
     match held {
-        Choice::Absent => Choice::Placement(h),
-        Choice::Placement(b) => {
-            let x = b.evidence;
-            let y = h.evidence;
-            if below(x, y) {
-                Choice::Placement(h)
-            } else {
-                Choice::Placement(b)
-            }
-        }
+        Some(b) if !below(b.evidence, h.evidence) => held,
+        _ => Some(h),
     }
 }
 
@@ -85,50 +63,33 @@ pub fn ranked(ranking: Ranking, h: Hypothesis) -> Ranking
     ensures { result ≡ rankedOf ranking h }
 {
     let total = ranking.total + 1;
-    let best = ranking.best;
-    let runner_up = ranking.runner_up;
-    match best {
-        Choice::Absent => Ranking {
-            best: Choice::Placement(h),
-            runner_up: Choice::Absent,
+    match ranking.best {
+        Some(b) if !below(b.evidence, h.evidence) => Ranking {
+            best: Some(b),
+            runner_up: better(ranking.runner_up, h),
             total,
         },
-        Choice::Placement(b) => {
-            let x = b.evidence;
-            let y = h.evidence;
-            if below(x, y) {
-                Ranking {
-                    best: Choice::Placement(h),
-                    runner_up: Choice::Placement(b),
-                    total,
-                }
-            } else {
-                Ranking {
-                    best: Choice::Placement(b),
-                    runner_up: better(runner_up, h),
-                    total,
-                }
-            }
-        }
+        best => Ranking {
+            best: Some(h),
+            runner_up: best,
+            total,
+        },
     }
 }
 
 // Is `held` a placement not below this evidence? Then one with this evidence does not replace it.
-fn keeps_place(held: Choice, evidence: Evidence) -> bool
+fn keeps_place(held: Option<Hypothesis>, evidence: Option<f32>) -> bool
     ensures { result ≡ keeps_place held evidence }
 {
     match held {
-        Choice::Absent => false,
-        Choice::Placement(h) => {
-            let x = h.evidence;
-            !below(x, evidence)
-        }
+        None => false,
+        Some(h) => !below(h.evidence, evidence),
     }
 }
 
 // Does a placement with this evidence leave best and runner-up unchanged?
 // To check the runner-up alone would do for finite evidence, which each caller would have to require.
-pub fn changes_nothing(best: Choice, runner_up: Choice, evidence: Evidence) -> bool
+pub fn changes_nothing(best: Option<Hypothesis>, runner_up: Option<Hypothesis>, evidence: Option<f32>) -> bool
     ensures { result ≡ changes_nothing best runner_up evidence }
 {
     keeps_place(runner_up, evidence) && keeps_place(best, evidence)
@@ -138,20 +99,19 @@ pub fn changes_nothing(best: Choice, runner_up: Choice, evidence: Evidence) -> b
 const EPSILON: f32 = 1.1920929e-7;
 
 // The gap to the runner-up, normalised by the best's capacity.
-pub fn margin(best: Evidence, best_capacity: f32, runner_up: Choice) -> f32
+pub fn margin(best: Option<f32>, best_capacity: f32, runner_up: Option<Hypothesis>) -> f32
     ensures { result ≡ margin_of best best_capacity runner_up }
 {
-    let Evidence::Number(x) = best else {
+    let Some(x) = best else {
         return 0.0;
     };
     if x <= 0.0 {
         return 0.0;
     }
-    let Choice::Placement(second) = runner_up else {
+    let Some(second) = runner_up else {
         return 1.0;
     };
-    let evidence = second.evidence;
-    let Evidence::Number(y) = evidence else {
+    let Some(y) = second.evidence else {
         return 1.0;
     };
     if best_capacity < EPSILON {

@@ -11,38 +11,39 @@ ghost use Rattle.std.specs.Prelude.{◌≡◌, ◌≤◌, length};
 ghost use Rattle.place_text.specs.Writing.{Printed};
 ghost use Rattle.refusal_values.specs.Values.{number_in, value_in, minimum_in, words_line, values_line};
 
-use board_match::Matched;
+use board_match::Match;
 use place_text::{words, writer};
-use shot_record::ReadHeader;
+use refusal::Refusal;
+use shot_record::Header;
 use standard_input::Input;
 
-fn number_in(answer: Matched) -> u32
+fn number_in(answer: Result<Match, Refusal>) -> u32
     ensures { result ≡ number_in answer }
 {
     match answer {
-        Matched::Placed(_) => 0,
-        Matched::Refused(refusal) => refusal.number(),
+        Ok(_) => 0,
+        Err(refusal) => refusal.number(),
     }
 }
 
-fn value_in(answer: Matched, k: usize) -> u32
+fn value_in(answer: Result<Match, Refusal>, k: usize) -> u32
     ensures { result ≡ value_in answer k }
 {
     match answer {
-        Matched::Placed(_) => 0,
-        Matched::Refused(refusal) => refusal.value(k),
+        Ok(_) => 0,
+        Err(refusal) => refusal.value(k),
     }
 }
 
-fn minimum_in(header: ReadHeader) -> u32
+fn minimum_in(header: Result<Header, Refusal>) -> u32
     ensures { result ≡ minimum_in header }
 {
     match header {
-        ReadHeader::Header(h) => {
+        Ok(h) => {
             let config = h.config;
             floats::to_bits(config.alignment_min_margin)
         }
-        ReadHeader::Refused(_) => 0,
+        Err(_) => 0,
     }
 }
 

@@ -1,7 +1,7 @@
 // Kind F: the text of a result that no record need have. The words are the 19 of a match, then those of its markers.
-use board_match::{Match, Matched};
+use board_match::Match;
 use grid_alignment::GridAlignment;
-use ranking::{Choice, Evidence, Hypothesis};
+use ranking::Hypothesis;
 use stored_rows::answers::{Answer, BEFORE};
 use stored_rows::{answers, lists, numbers};
 
@@ -13,11 +13,11 @@ fn alignment(turn: u64, tx: u64, ty: u64) -> GridAlignment {
     }
 }
 
-fn evidence(is_number: u64, bits: u64) -> Evidence {
+fn evidence(is_number: u64, bits: u64) -> Option<f32> {
     if is_number == 0 {
-        return Evidence::Absent;
+        return None;
     }
-    Evidence::Number(floats::from_bits(numbers::low(bits)))
+    Some(floats::from_bits(numbers::low(bits)))
 }
 
 // The five words of a placement from index `at` on, and its number of contributing cells at `count_at`.
@@ -37,11 +37,11 @@ fn hypothesis(words: &[u64], at: u8, count_at: u8) -> Hypothesis {
     }
 }
 
-fn runner_up(words: &[u64]) -> Choice {
+fn runner_up(words: &[u64]) -> Option<Hypothesis> {
     if lists::given(words, 5) == 0 {
-        return Choice::Absent;
+        return None;
     }
-    Choice::Placement(hypothesis(words, 6, 18))
+    Some(hypothesis(words, 6, 18))
 }
 
 fn match_of(words: &[u64]) -> Match {
@@ -61,7 +61,7 @@ fn match_of(words: &[u64]) -> Match {
 
 fn put_text(words: &[u64], text: &mut [u8]) -> usize {
     let markers = lists::short_words(words, 19);
-    place_text::format(Matched::Placed(match_of(words)), &markers, text)
+    place_text::format(Ok(match_of(words)), &markers, text)
 }
 
 fn text_in(words: &[u64], text: &mut [u8]) -> Answer {

@@ -7,9 +7,9 @@ use lib.ListN.{length, take, drop, length-drop}
 use lib.Seq.{take-add, take_at, drop_at, length-take-le}
 use Rattle.lent_list.specs.Front.{Put}
 use Rattle.lent_list.proofs.Front.{put_length}
-use Rattle.log_text.specs.declared.Highest.{Highest}
 use Rattle.log_text.specs.Rules.{Takes, Took}
 use Rattle.log_text.proofs.Laws.{took_nothing, took_more}
+use Rattle.std.specs.Prelude.{Option}
 
 -- the first bytes without some of them
 drop_of_take : (used left : ℕ) (bytes : List ℕ) → used ≤ left → left ≤ length bytes → take (left - used) (drop used bytes) ≡ drop used (take left bytes)
@@ -19,16 +19,16 @@ drop_of_take used left bytes u l =
     ∙ ap (drop used) (sym (take-add used (left - used) bytes))
     ∙ ap (λ (k : ℕ). drop used (take k bytes)) e
 
-pub record Printing (h : Highest) (bytes₀ : List ℕ) (count : ℕ) (bytes : List ℕ) (left : ℕ) (seen : Highest) : Type 0 where
+pub record Printing (h : Option ℕ) (bytes₀ : List ℕ) (count : ℕ) (bytes : List ℕ) (left : ℕ) (seen : Option ℕ) : Type 0 where
   pub size : length bytes ≡ length bytes₀
   pub within : left ≤ length bytes₀
   pub took : Took h (take count bytes₀) seen (take left bytes)
 
-pub none_printed : (h : Highest) (bytes : List ℕ) (count : ℕ) → count ≤ length bytes → Printing h bytes count bytes count h
+pub none_printed : (h : Option ℕ) (bytes : List ℕ) (count : ℕ) → count ≤ length bytes → Printing h bytes count bytes count h
 none_printed h bytes count l = record { size = refl; within = l; took = took_nothing h (take count bytes) }
 
-module _ {h : Highest} {bytes₀ : List ℕ} {count : ℕ} {bytes : List ℕ} {left : ℕ} {seen : Highest} (p : Printing h bytes₀ count bytes left seen) where
-  pub more_printed : (used : ℕ) (next : Highest) (lines : List ℕ) {r : ℕ} {after : List ℕ} → used ≤ length (take left bytes)
+module _ {h : (Option ℕ)} {bytes₀ : List ℕ} {count : ℕ} {bytes : List ℕ} {left : ℕ} {seen : (Option ℕ)} (p : Printing h bytes₀ count bytes left seen) where
+  pub more_printed : (used : ℕ) (next : Option ℕ) (lines : List ℕ) {r : ℕ} {after : List ℕ} → used ≤ length (take left bytes)
       → Takes seen (take left bytes) next (drop used (take left bytes)) lines → Put bytes after 0 r (take (left - used) (drop used bytes))
       → Printing h bytes₀ count after (left - used) next
   more_printed used next lines {r} {after} u t put =

@@ -6,13 +6,12 @@
 ghost use Rattle.std.specs.Prelude.{◌≤◌, length};
 ghost use Rattle.reread.specs.Printing.{Leaves};
 
-use log_text::Highest;
 use standard_input::{Input, Step};
 
 // After the lines of whole entries: the number of bytes left, less than an entry may have, and the highest number; or a failed write.
 #[derive(Clone, Copy)]
 enum AfterPrint {
-    Left { count: usize, highest: Highest },
+    Left { count: usize, highest: Option<u32> },
     Failed,
 }
 
@@ -29,7 +28,7 @@ fn print(rt: HostRuntime, text: &[u8]) -> bool {
 }
 
 // Prints the lines of the whole entries among the first `count` bytes, and moves the bytes after them to the start.
-fn print_whole(rt: HostRuntime, bytes: &mut [u8], count: usize, highest: Highest) -> AfterPrint
+fn print_whole(rt: HostRuntime, bytes: &mut [u8], count: usize, highest: Option<u32>) -> AfterPrint
     requires { count ≤ length bytes.old }
     ensures { Leaves highest bytes.old count bytes.new result }
 {
@@ -72,7 +71,7 @@ fn print_rest(rt: HostRuntime, bytes: &[u8]) {
 fn main(rt: HostRuntime) {
     let mut bytes: [u8; 65541] = [0; 65541];
     let mut count: usize = 0;
-    let mut highest = Highest::Absent;
+    let mut highest = None;
     let mut reads: u64 = 0xFFFF_FFFF_FFFF_FFFF;
     while 0 < reads {
         reads -= 1;

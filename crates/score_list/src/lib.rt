@@ -12,13 +12,12 @@ ghost use Rattle.score_matrix.specs.Rows.{Adds, Column, FourSources};
 ghost use Rattle.shot_record.specs.Shots.{shot};
 ghost use Rattle.hypothesis.specs.Placements.{cell_total};
 ghost use Rattle.hypothesis.specs.Evidence.{table_of};
-ghost use Rattle.hypothesis.specs.Inputs.{Ready, Loaded};
 ghost use Rattle.hypothesis.specs.ScoreList.{score_list, score_count};
-ghost use Rattle.score_list.specs.Filling.{adds_of, at_most_eight, LaneIn, lane_place, lane_sum, SpotIn, spot_place, spot_score};
+ghost use Rattle.score_list.specs.Filling.{adds_of, LaneIn, lane_place, lane_sum, SpotIn, spot_place, spot_score};
 
 use board::Board;
-use hypothesis::Inputs;
-use score_matrix::{BorderSample, cell, rows};
+use hypothesis::{Inputs, LoadedShot};
+use score_matrix::{cell, rows};
 use shot_record::index;
 
 // Question 24: has the array an element for each cell, marker and turn?
@@ -45,57 +44,37 @@ fn clear(adds: &mut [f32; 128])
 
 // What the bits of a code add to the scores of cell k: 0 if it is unsampled, so that its scores are 0. Writes to an array of the caller, so that none
 // is copied.
-fn cell_adds(
-    adds: &mut [f32; 128],
-    bytes: &[u8],
-    inputs: Inputs,
-    index: &[u32; 768],
-    table: &[f32; 511],
-    k: usize,
-)
-    requires { Ready bytes.now inputs index.now × (table.now ≡ table_of (shot bytes.now)) × (k < cell_total (shot bytes.now))
-        × (length adds.old ≡ 128) }
+fn cell_adds(adds: &mut [f32; 128], loaded: &LoadedShot<'_>, k: usize)
+    requires { (k < cell_total (shot loaded.now.bytes.now)) × (length adds.old ≡ 128) }
     ensures size { length adds.new ≡ 128 }
-    ensures holds { Adds (adds_of (shot bytes.now) k) (inputs.board.bits * inputs.board.bits) adds.new }
+    ensures holds { Adds (adds_of (shot loaded.now.bytes.now) k) (loaded.now.inputs.board.bits * loaded.now.inputs.board.bits)
+        adds.new }
 {
+    let inputs = loaded.inputs;
     let board = inputs.board;
-    let border = index::border(index, k);
-    match border {
-        BorderSample::Unsampled => {
-            clear(adds);
-        }
-        BorderSample::BlackFraction(_) => {
-            let grid = index::grid(bytes, inputs.grid_size, index, k);
-            let threshold = index::threshold(index, k);
-            cell::bit_likelihoods(adds, table, grid, threshold, board.bits, board.border_bits);
+    match index::border(loaded.index, k) {
+        None => clear(adds),
+        Some(_) => {
+            let grid = index::grid(loaded.bytes, inputs.grid_size, loaded.index, k);
+            let threshold = index::threshold(loaded.index, k);
+            cell::bit_likelihoods(adds, loaded.table, grid, threshold, board.bits, board.border_bits);
         }
     }
 }
 
 // The rows of up to eight cells from `first` on: each cell is a column.
-fn fill_rows(
-    rows: &mut [f32; 1024],
-    bytes: &[u8],
-    inputs: Inputs,
-    index: &[u32; 768],
-    table: &[f32; 511],
-    first: usize,
-    count: usize,
-)
-    requires { Ready bytes.now inputs index.now × (table.now ≡ table_of (shot bytes.now)) × (first + count ≤ cell_total (shot bytes.now))
-        × (count ≤ 8) × (length rows.old ≡ 1024) }
+fn fill_rows(rows: &mut [f32; 1024], loaded: &LoadedShot<'_>, first: usize, count: usize)
+    requires { (first + count ≤ cell_total (shot loaded.now.bytes.now)) × (count ≤ 8) × (length rows.old ≡ 1024) }
     ensures size { length rows.new ≡ 1024 }
-    ensures columns { (x : ℕ) → x < count → Column (adds_of (shot bytes.now) (first + x)) (inputs.board.bits * inputs.board.bits)
-        rows.new x }
+    ensures columns { (x : ℕ) → x < count → Column (adds_of (shot loaded.now.bytes.now) (first + x))
+        (loaded.now.inputs.board.bits * loaded.now.inputs.board.bits) rows.new x }
 {
-    let board = inputs.board;
+    let board = loaded.inputs.board;
     let n = (board.bits as usize) * (board.bits as usize);
     let mut adds: [f32; 128] = [0.0; 128];
-    let mut x = 0;
-    while x < count {
-        cell_adds(&mut adds, bytes, inputs, index, table, first + x);
+    for x in 0..count {
+        cell_adds(&mut adds, loaded, first + x);
         rows::put_column(rows, &adds, 2 * n, x);
-        x += 1;
     }
 }
 
@@ -155,36 +134,20 @@ fn fill_block(
     }
 }
 
-fn at_most_eight(n: usize) -> usize
-    ensures { result ≡ at_most_eight n }
-{
-    if 8 < n {
-        return 8;
-    }
-    n
-}
-
 // Writes the scores to the start of the array. Elements after them do not change.
-pub fn fill(
-    scores: &mut [f32],
-    bytes: &[u8],
-    inputs: Inputs,
-    index: &[u32; 768],
-    table: &[f32; 511],
-    codes: &[u64; 512],
-)
-    requires { Loaded bytes.now inputs index.now table.now codes.now × (score_count (shot bytes.now) ≤ length scores.old) }
-    ensures { scores.new ≡ in_front (score_list (shot bytes.now)) scores.old }
+pub fn fill(scores: &mut [f32], loaded: &LoadedShot<'_>)
+    requires { score_count (shot loaded.now.bytes.now) ≤ length scores.old }
+    ensures { scores.new ≡ in_front (score_list (shot loaded.now.bytes.now)) scores.old }
 {
-    let board = inputs.board;
-    let cells = inputs.cells;
+    let board = loaded.inputs.board;
+    let cells = loaded.inputs.cells;
     let sources = rows::four_sources(board.bits);
     let mut lanes: [f32; 1024] = [0.0; 1024];
     let mut first = 0;
     while first < cells {
-        let count = at_most_eight(cells - first);
-        fill_rows(&mut lanes, bytes, inputs, index, table, first, count);
-        fill_block(scores, &lanes, &sources, board, codes, first, count);
+        let count = 8.min(cells - first);
+        fill_rows(&mut lanes, loaded, first, count);
+        fill_block(scores, &lanes, &sources, board, loaded.codes, first, count);
         first += count;
     }
 }

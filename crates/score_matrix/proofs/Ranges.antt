@@ -18,9 +18,8 @@ use Rattle.score_matrix.specs.Table.{least_entry, entry_in_range, entries_in_ran
 use Rattle.score_matrix.specs.Scores.{ln2, null_score}
 use Rattle.score_matrix.specs.Accuracy.{WeightInRange, lowest_score}
 use Rattle.score_matrix.specs.declared.BoardMatchConfig.{BoardMatchConfig}
-use Rattle.score_matrix.specs.declared.BorderSample.{BorderSample}
-use Rattle.score_matrix.specs.declared.BorderSample.TheVariants as border
 use Rattle.score_matrix.specs.Weights.{uncut_weight, weight, FractionInRange, WeightRule}
+use Rattle.std.specs.Prelude.{Option, Some, None}
 
 -- ---- table entries: from the check of the whole table to each entry
 at : (xs : List Float) → T (entries_in_range xs) → (i : ℕ) → i < length xs → Between least_entry nought (get_or xs i nan)
@@ -48,8 +47,8 @@ uncut_range threshold fraction t₀ h = go (le threshold nought) (not_le→lt th
         (div_not_nan binary32 fraction threshold (between_finite nought unity fraction tt tt h) t₀ (f tt))
 
 pub weight-range : WeightRule
-weight-range config border.Unsampled t₀ h = unfold le lt eq in (tt, tt)
-weight-range config (border.BlackFraction fraction) t₀ h = go (lt w config.least_weight)
+weight-range config None t₀ h = unfold le lt eq in (tt, tt)
+weight-range config (Some fraction) t₀ h = go (lt w config.least_weight)
   where
     w : Float
     w = uncut_weight config.cell_weight_border_threshold fraction
@@ -65,14 +64,14 @@ uncut_fits threshold fraction =
     cond-fits binary32 (le threshold nought) unity (clamp01 q) tt
     (cond-fits binary32 (lt q nought) nought (cond (lt unity q) unity q) tt (cond-fits binary32 (lt unity q) unity q tt (div-fits binary32 fraction threshold)))
 
-weight-fits : (config : BoardMatchConfig) (b : BorderSample) → T (fits binary32 (weight config b))
+weight-fits : (config : BoardMatchConfig) (b : Option Float) → T (fits binary32 (weight config b))
 unfolding fits
-weight-fits config border.Unsampled = tt
-weight-fits config (border.BlackFraction fraction) =
+weight-fits config None = tt
+weight-fits config (Some fraction) =
     let w = uncut_weight config.cell_weight_border_threshold fraction in
     cond-fits binary32 (lt w config.least_weight) nought w tt (uncut_fits config.cell_weight_border_threshold fraction)
 
-pub is-weight : (config : BoardMatchConfig) (b : BorderSample) → Finite config.cell_weight_border_threshold → FractionInRange b
+pub is-weight : (config : BoardMatchConfig) (b : Option Float) → Finite config.cell_weight_border_threshold → FractionInRange b
     → WeightInRange (weight config b)
 is-weight config b t₀ h = record { float = weight-fits config b; range = weight-range config b t₀ h }
 

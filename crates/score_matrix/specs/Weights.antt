@@ -1,11 +1,9 @@
 -- The weight of a cell: document 01, "Scores", and the least weight of document 02, 2.8.
-use Rattle.std.specs.Prelude.{◌≡◌, not, cond, T, Float}
+use Rattle.std.specs.Prelude.{◌≡◌, not, cond, T, Float, Option, Some, None}
 use Rattle.std.specs.Float.{binary32}
 use Rattle.std.specs.Float.Ieee.{div, le, lt, eq}
 use Rattle.floats.specs.Units.{Finite, nought, unity, Between, clamp01}
 use Rattle.score_matrix.specs.declared.BoardMatchConfig.{BoardMatchConfig}
-use Rattle.score_matrix.specs.declared.BorderSample.{BorderSample}
-use Rattle.score_matrix.specs.declared.BorderSample.TheVariants as border
 
 -- of a sampled cell: "Weight is 1 if `cell_weight_border_threshold` ≤ 0, else fraction / threshold clamped to 0..1"
 abbrev pub uncut_weight : Float → Float → Float
@@ -16,19 +14,19 @@ abbrev pub cut : Float → Float → Float
 cut least w = cond (lt w least) nought w
 
 -- 0 for an unsampled cell
-abbrev pub weight : BoardMatchConfig → BorderSample → Float
-weight config (border.BlackFraction fraction) = cut config.least_weight (uncut_weight config.cell_weight_border_threshold fraction)
-weight config border.Unsampled = nought
+abbrev pub weight : BoardMatchConfig → Option Float → Float
+weight config (Some fraction) = cut config.least_weight (uncut_weight config.cell_weight_border_threshold fraction)
+weight config None = nought
 
 -- a fraction from 0 to 1, or none
-abbrev pub FractionInRange : BorderSample → Type 0
-FractionInRange (border.BlackFraction fraction) = Between nought unity fraction
-FractionInRange border.Unsampled = Unit {0}
+abbrev pub FractionInRange : Option Float → Type 0
+FractionInRange (Some fraction) = Between nought unity fraction
+FractionInRange None = Unit {0}
 
 -- a weight is from 0 to 1, for every finite border threshold and every fraction from 0 to 1
 abbrev pub WeightRule : Type 0
 WeightRule =
-    (config : BoardMatchConfig) (b : BorderSample) → Finite config.cell_weight_border_threshold → FractionInRange b
+    (config : BoardMatchConfig) (b : Option Float) → Finite config.cell_weight_border_threshold → FractionInRange b
     → Between nought unity (weight config b)
 
 -- settings c with another least weight
@@ -43,7 +41,7 @@ with_least least c =
 
 -- the weight of a sampled cell, and without the cut
 abbrev pub sampled_weight : BoardMatchConfig → Float → Float
-sampled_weight c fraction = weight c (border.BlackFraction fraction)
+sampled_weight c fraction = weight c (Some fraction)
 
 abbrev pub uncut_by : BoardMatchConfig → Float → Float
 uncut_by c fraction = uncut_weight c.cell_weight_border_threshold fraction

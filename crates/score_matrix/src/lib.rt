@@ -24,13 +24,6 @@ pub struct BoardMatchConfig {
     pub least_weight: f32,
 }
 
-// The black fraction of a cell's border; only sampled cells have one.
-#[derive(Clone, Copy)]
-pub enum BorderSample {
-    BlackFraction(f32),
-    Unsampled,
-}
-
 // The weight of a sampled cell by upstream's rule, which has no least weight.
 fn uncut_weight(threshold: f32, fraction: f32) -> f32
     ensures { result ≡ uncut_weight threshold fraction }
@@ -41,13 +34,13 @@ fn uncut_weight(threshold: f32, fraction: f32) -> f32
     floats::clamp01(fraction / threshold)
 }
 
-// The weight of a cell.
-pub fn cell_weight(config: BoardMatchConfig, border: BorderSample) -> f32
+// The weight of a cell, from the black fraction of its border; an unsampled cell has none.
+pub fn cell_weight(config: BoardMatchConfig, border: Option<f32>) -> f32
     ensures { result ≡ weight config border }
 {
     match border {
-        BorderSample::Unsampled => 0.0,
-        BorderSample::BlackFraction(fraction) => {
+        None => 0.0,
+        Some(fraction) => {
             let uncut = uncut_weight(config.cell_weight_border_threshold, fraction);
             if uncut < config.least_weight {
                 0.0

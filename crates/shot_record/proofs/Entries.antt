@@ -6,13 +6,12 @@ use mathlib.Core.List.{List}
 use lib.ListN.{get_or}
 use mir.Syntax.{w16}
 use mir.Val.{to_z}
-use Rattle.score_matrix.specs.declared.BorderSample.{BorderSample}
-use Rattle.score_matrix.specs.declared.BorderSample.TheVariants as border
 use Rattle.shot_record.specs.Fields.{byte, bits_of, border_of, grid_size, sampled, cell_at, Point, point_of, sample_place, threshold_from, grid_from}
 use Rattle.shot_record.specs.Shots.{setting, sample_at}
 use Rattle.shot_record.specs.Answers.{of_pattern, border_with, threshold_with}
 use Rattle.shot_record.specs.Index.{point_word, words_from, words_of, point_in, fraction_in, grid_in, Entry}
 use Rattle.shot_record.proofs.Reading.{Small, number-below, setting_set}
+use Rattle.std.specs.Prelude.{Option, Some, None, Float}
 
 -- ---- the words of one cell, sampled or not
 module _ (bytes : List ℕ) (s : Small bytes) (p : Point) (grid at : ℕ) where
@@ -20,8 +19,8 @@ module _ (bytes : List ℕ) (s : Small bytes) (p : Point) (grid at : ℕ) where
   point_word_lem zero = refl
   point_word_lem (suc b) = refl
 
-  abbrev border_by : ℕ → ℕ → BorderSample
-  border_by n x = setting n (border.BlackFraction (of_pattern x)) border.Unsampled
+  abbrev border_by : ℕ → ℕ → Option Float
+  border_by n x = setting n (Some (of_pattern x)) None
 
   border-word : (b : ℕ) → border_by (get_or (words_from p b at bytes) 2 0) (get_or (words_from p b at bytes) 1 0) ≡ border_with (sample_at b grid at bytes)
   border-word zero = refl

@@ -1,26 +1,19 @@
--- The results of the reader: each field of the shot, `Absent` after the last, refused if the record is not well-formed.
-use Rattle.std.specs.Prelude.{ℕ, ◌+◌, List, [], length, Float}
-use Rattle.std.proofs.Math.Option.{Option, none, some}
+-- The results of the reader: each field of the shot, none after the last, refused if the record is not well-formed.
+use Rattle.std.specs.Prelude.{ℕ, ◌+◌, List, [], length, Float, Option, Result, Some, None, Ok, Err}
+use Rattle.std.proofs.Math.Option.{Option as Maybe, none, some}
 use Rattle.std.proofs.Math.ListN.{get_elem?}
 use Rattle.std.specs.Float.{binary32}
 use Rattle.std.specs.Float.Ieee.{of_bits}
 use Rattle.board.specs.declared.CharucoBoardSpec.{CharucoBoardSpec}
 use Rattle.score_matrix.specs.declared.BoardMatchConfig.{BoardMatchConfig}
-use Rattle.score_matrix.specs.declared.BorderSample.{BorderSample}
-use Rattle.score_matrix.specs.declared.BorderSample.TheVariants as border
 use Rattle.refusal.specs.declared.Refusal.TheVariants as refusal
 use Rattle.shot_record.specs.declared.Header.{Header}
-use Rattle.shot_record.specs.declared.ReadHeader.{ReadHeader}
-use Rattle.shot_record.specs.declared.ReadHeader.TheVariants as header
-use Rattle.shot_record.specs.declared.ReadEntry.{ReadEntry}
-use Rattle.shot_record.specs.declared.ReadEntry.TheVariants as entry
-use Rattle.shot_record.specs.declared.ReadCode.{ReadCode}
-use Rattle.shot_record.specs.declared.ReadCode.TheVariants as code
 use Rattle.shot_record.specs.declared.ReadCell.{ReadCell}
-use Rattle.shot_record.specs.declared.ReadCell.TheVariants as cell
+use Rattle.shot_record.specs.declared.ReadSample.{ReadSample}
 use Rattle.shot_record.specs.declared.cells.Part.{Part}
 use Rattle.shot_record.specs.Fields.{map_byte, grid_size, sample_place, grid_from}
 use Rattle.shot_record.specs.Shots.{Sample, Cell, Shot, parse}
+use Rattle.refusal.specs.declared.Refusal.{Refusal}
 
 -- the f32 of a bit pattern
 abbrev pub of_pattern : ℕ → Float
@@ -51,72 +44,75 @@ abbrev pub header_of : ℕ → Shot → Header
 header_of map s =
     record { map = map; config = config_of s; spec = spec_of s; code_count = length s.codes; cell_count = length s.cells }
 
-abbrev pub header_read : ℕ → Option Shot → ReadHeader
-header_read map none = header.Refused refusal.InvalidRecord
-header_read map (some s) = header.Header (header_of map s)
+abbrev pub header_read : ℕ → Maybe Shot → Result Header Refusal
+header_read map none = Err refusal.InvalidRecord
+header_read map (some s) = Ok (header_of map s)
 
-abbrev pub header_answer : List ℕ → ReadHeader
+abbrev pub header_answer : List ℕ → Result Header Refusal
 header_answer bytes = header_read (map_byte bytes) (parse bytes)
 
-abbrev pub entry_read : Option ℕ → ReadEntry
-entry_read none = entry.Absent
-entry_read (some pattern) = entry.Entry (of_pattern pattern)
+abbrev pub entry_read : Maybe ℕ → Option Float
+entry_read none = None
+entry_read (some pattern) = Some (of_pattern pattern)
 
-abbrev pub entry_answer : Option Shot → ℕ → ReadEntry
-entry_answer none k = entry.Refused refusal.InvalidRecord
-entry_answer (some s) k = entry_read (get_elem? s.table k)
+abbrev pub entry_answer : Maybe Shot → ℕ → Result (Option Float) Refusal
+entry_answer none k = Err refusal.InvalidRecord
+entry_answer (some s) k = Ok (entry_read (get_elem? s.table k))
 
-abbrev pub code_read : Option ℕ → ReadCode
-code_read none = code.Absent
-code_read (some x) = code.Code x
+abbrev pub code_read : Maybe ℕ → Option ℕ
+code_read none = None
+code_read (some x) = Some x
 
-abbrev pub code_answer : Option Shot → ℕ → ReadCode
-code_answer none k = code.Refused refusal.InvalidRecord
-code_answer (some s) k = code_read (get_elem? s.codes k)
+abbrev pub code_answer : Maybe Shot → ℕ → Result (Option ℕ) Refusal
+code_answer none k = Err refusal.InvalidRecord
+code_answer (some s) k = Ok (code_read (get_elem? s.codes k))
 
-abbrev pub cell_with : Cell → Option Sample → ReadCell
-cell_with c none = cell.Unsampled c.u c.v
-cell_with c (some s) = cell.Sampled c.u c.v (of_pattern s.fraction) s.threshold
+abbrev pub sample_read : Maybe Sample → Option ReadSample
+sample_read none = None
+sample_read (some s) = Some (record { fraction = of_pattern s.fraction; threshold = s.threshold })
 
-abbrev pub cell_read : Option Cell → ReadCell
-cell_read none = cell.Absent
-cell_read (some c) = cell_with c c.sample
+abbrev pub cell_with : Cell → ReadCell
+cell_with c = record { u = c.u; v = c.v; sample = sample_read c.sample }
 
-abbrev pub cell_answer : Option Shot → ℕ → ReadCell
-cell_answer none k = cell.Refused refusal.InvalidRecord
-cell_answer (some s) k = cell_read (get_elem? s.cells k)
+abbrev pub cell_read : Maybe Cell → Option ReadCell
+cell_read none = None
+cell_read (some c) = Some (cell_with c)
+
+abbrev pub cell_answer : Maybe Shot → ℕ → Result (Option ReadCell) Refusal
+cell_answer none k = Err refusal.InvalidRecord
+cell_answer (some s) k = Ok (cell_read (get_elem? s.cells k))
 
 -- One cell's grid: empty for a refused record and for an unsampled or absent cell.
-abbrev pub grid_with : Option Sample → List ℕ
+abbrev pub grid_with : Maybe Sample → List ℕ
 grid_with none = []
 grid_with (some s) = s.grid
 
-abbrev pub grid_read : Option Cell → List ℕ
+abbrev pub grid_read : Maybe Cell → List ℕ
 grid_read none = []
 grid_read (some c) = grid_with c.sample
 
-abbrev pub grid_answer : Option Shot → ℕ → List ℕ
+abbrev pub grid_answer : Maybe Shot → ℕ → List ℕ
 grid_answer none k = []
 grid_answer (some s) k = grid_read (get_elem? s.cells k)
 
 -- The byte range of that grid in the record, for a cell whose sample starts at `place`: empty where there is no grid.
-abbrev pub part_with : ℕ → ℕ → Option Sample → Part
+abbrev pub part_with : ℕ → ℕ → Maybe Sample → Part
 part_with place size none = record { first = 0; end = 0 }
 part_with place size (some s) = record { first = grid_from place; end = grid_from place + size }
 
-abbrev pub part_read : ℕ → ℕ → Option Cell → Part
+abbrev pub part_read : ℕ → ℕ → Maybe Cell → Part
 part_read place size none = record { first = 0; end = 0 }
 part_read place size (some c) = part_with place size c.sample
 
-abbrev pub part_answer : List ℕ → Option Shot → ℕ → Part
+abbrev pub part_answer : List ℕ → Maybe Shot → ℕ → Part
 part_answer bytes none k = record { first = 0; end = 0 }
 part_answer bytes (some s) k = part_read (sample_place bytes k) (grid_size s.bits s.border) (get_elem? s.cells k)
 
 -- The border of a cell, sampled or not, and its threshold, 0 if unsampled.
-abbrev pub border_with : Option Sample → BorderSample
-border_with none = border.Unsampled
-border_with (some x) = border.BlackFraction (of_pattern x.fraction)
+abbrev pub border_with : Maybe Sample → Option Float
+border_with none = None
+border_with (some x) = Some (of_pattern x.fraction)
 
-abbrev pub threshold_with : Option Sample → ℕ
+abbrev pub threshold_with : Maybe Sample → ℕ
 threshold_with none = 0
 threshold_with (some x) = x.threshold

@@ -1,11 +1,9 @@
 -- The index of a record's cells: three 32-bit words for each of the first 256. The first is the cell's grid point, u in the low half and v in the
 -- high half, each in two's complement; the second the bit pattern of the fraction; the third 256 times the offset of the grid, plus the threshold. An
 -- unsampled cell has 0 in the second and the third.
-use Rattle.std.specs.Prelude.{◌≡◌, true, List, [], ◌∷◌, ℕ, zero, suc, ◌+◌, ◌*◌, ◌/◌, ◌%◌, ◌^◌, ◌<◌, get_or, set, ℤ}
+use Rattle.std.specs.Prelude.{◌≡◌, true, List, [], ◌∷◌, ℕ, zero, suc, ◌+◌, ◌*◌, ◌/◌, ◌%◌, ◌^◌, ◌<◌, get_or, set, ℤ, Option, Some, None, Float}
 use Rattle.std.specs.Int.{w16}
 use Rattle.std.proofs.Common.{to_z}
-use Rattle.score_matrix.specs.declared.BorderSample.{BorderSample}
-use Rattle.score_matrix.specs.declared.BorderSample.TheVariants as border
 use Rattle.shot_record.specs.declared.fields.Fields.{Fields}
 use Rattle.shot_record.specs.Fields.{byte, number, fields_of, cell_count, bits_of, border_of, grid_size, sampled, Point, point_of, sample_place}
 use Rattle.shot_record.specs.Fields.{threshold_from, grid_from}
@@ -43,8 +41,8 @@ u_in index k = to_z w16 (point_in index k % 65536)
 abbrev pub v_in : List ℕ → ℕ → ℤ
 v_in index k = to_z w16 (point_in index k / 65536 % 65536)
 
-abbrev pub border_in : List ℕ → ℕ → BorderSample
-border_in index k = setting (grid_in index k) (border.BlackFraction (of_pattern (fraction_in index k))) border.Unsampled
+abbrev pub border_in : List ℕ → ℕ → Option Float
+border_in index k = setting (grid_in index k) (Some (of_pattern (fraction_in index k))) None
 
 abbrev pub threshold_in : List ℕ → ℕ → ℕ
 threshold_in index k = grid_in index k % 256

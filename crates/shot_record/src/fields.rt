@@ -4,7 +4,7 @@ ghost use Rattle.shot_record.specs.Fields.{is_set, number, codes_at, grid_size, 
 ghost use Rattle.shot_record.specs.Shots.{setting as setting_of, shot};
 ghost use Rattle.shot_record.specs.Answers.{of_pattern, config_of, spec_of};
 
-use super::numbers;
+use super::{Record, numbers};
 use board::CharucoBoardSpec;
 use score_matrix::{BoardMatchConfig, table};
 
@@ -74,62 +74,65 @@ fn setting(bytes: &[u8], is_set: usize, at: usize, default: u32) -> f32
     numbers::float_at(bytes, at)
 }
 
-// The defaults are 60, 0.05, 0.5 and 0.
-pub fn config(bytes: &[u8], f: Fields) -> BoardMatchConfig
-    requires { f ≡ fields_of bytes.now }
-    ensures { result ≡ config_of (shot bytes.now) }
-{
-    BoardMatchConfig {
-        px_per_square: setting(bytes, numbers::bit(f.map, 2), f.px_at, 0x4270_0000),
-        alignment_min_margin: setting(bytes, numbers::bit(f.map, 0), 1, 0x3D4C_CCCD),
-        cell_weight_border_threshold: setting(
-            bytes,
-            numbers::bit(f.map, 1),
-            f.threshold_at,
-            0x3F00_0000,
-        ),
-        least_weight: setting(bytes, numbers::bit(f.map, 5), f.least_weight_at, 0),
+impl Record<'_> {
+    // The defaults are 60, 0.05, 0.5 and 0.
+    pub fn config(&self) -> BoardMatchConfig
+        ensures { result ≡ config_of (shot self.now.bytes.now) }
+    {
+        let bytes = self.bytes;
+        let f = self.fields;
+        BoardMatchConfig {
+            px_per_square: setting(bytes, numbers::bit(f.map, 2), f.px_at, 0x4270_0000),
+            alignment_min_margin: setting(bytes, numbers::bit(f.map, 0), 1, 0x3D4C_CCCD),
+            cell_weight_border_threshold: setting(
+                bytes,
+                numbers::bit(f.map, 1),
+                f.threshold_at,
+                0x3F00_0000,
+            ),
+            least_weight: setting(bytes, numbers::bit(f.map, 5), f.least_weight_at, 0),
+        }
     }
-}
 
-pub fn spec(bytes: &[u8], f: Fields) -> CharucoBoardSpec
-    requires { f ≡ fields_of bytes.now }
-    ensures { result ≡ spec_of (shot bytes.now) }
-{
-    let at = f.rows_at;
-    CharucoBoardSpec {
-        rows: numbers::byte_at(bytes, at) as u32,
-        cols: numbers::byte_at(bytes, at + 1) as u32,
-        bits: numbers::byte_at(bytes, at + 2) as u32,
-        border_bits: numbers::byte_at(bytes, at + 3) as u32,
-        legacy_pattern: numbers::bit(f.map, 4) != 0,
-        cell_size: numbers::float_at(bytes, at + 4),
-        marker_size_rel: numbers::float_at(bytes, at + 8),
+    pub fn spec(&self) -> CharucoBoardSpec
+        ensures { result ≡ spec_of (shot self.now.bytes.now) }
+    {
+        let bytes = self.bytes;
+        let at = self.fields.rows_at;
+        CharucoBoardSpec {
+            rows: numbers::byte_at(bytes, at) as u32,
+            cols: numbers::byte_at(bytes, at + 1) as u32,
+            bits: numbers::byte_at(bytes, at + 2) as u32,
+            border_bits: numbers::byte_at(bytes, at + 3) as u32,
+            legacy_pattern: numbers::bit(self.fields.map, 4) != 0,
+            cell_size: numbers::float_at(bytes, at + 4),
+            marker_size_rel: numbers::float_at(bytes, at + 8),
+        }
     }
-}
 
-// Does the record have its own table?
-pub fn sets_table(f: Fields) -> bool
-    ensures { result ≡ is_set f.map 3 }
-{
-    numbers::bit(f.map, 3) != 0
-}
-
-// An entry of the record's own table or of the built-in one.
-pub fn table_entry(bytes: &[u8], f: Fields, k: usize) -> f32
-    requires { (f ≡ fields_of bytes.now) × (k < 511) }
-    ensures { result ≡ of_pattern (get_or (shot bytes.now).table k 0) }
-{
-    if !sets_table(f) {
-        let entries = table::built_in_table();
-        return entries[k];
+    // Does the record have its own table?
+    pub fn sets_table(&self) -> bool
+        ensures { result ≡ is_set self.now.fields.map 3 }
+    {
+        numbers::bit(self.fields.map, 3) != 0
     }
-    numbers::float_at(bytes, f.table_at + 4 * k)
-}
 
-pub fn code(bytes: &[u8], f: Fields, k: usize) -> u64
-    requires { (f ≡ fields_of bytes.now) × (k < f.code_count) }
-    ensures { result ≡ number 8 (codes_at bytes.now + 8 * k) bytes.now }
-{
-    numbers::eight_at(bytes, f.rows_at + 14 + 8 * k)
+    // An entry of the record's own table or of the built-in one.
+    pub fn table_entry(&self, k: usize) -> f32
+        requires { k < 511 }
+        ensures { result ≡ of_pattern (get_or (shot self.now.bytes.now).table k 0) }
+    {
+        if !self.sets_table() {
+            let entries = table::built_in_table();
+            return entries[k];
+        }
+        numbers::float_at(self.bytes, self.fields.table_at + 4 * k)
+    }
+
+    pub fn code(&self, k: usize) -> u64
+        requires { k < self.now.fields.code_count }
+        ensures { result ≡ number 8 (codes_at self.now.bytes.now + 8 * k) self.now.bytes.now }
+    {
+        numbers::eight_at(self.bytes, self.fields.rows_at + 14 + 8 * k)
+    }
 }

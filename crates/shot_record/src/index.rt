@@ -2,31 +2,29 @@
 // One array of words, three for each cell: the prover covers no reference to a list of structs, and a function takes at most eight parameters.
 ghost use Rattle.std.specs.Prelude.{◌≡◌, true, ◌+◌, ◌-◌, ◌*◌, ◌≤◌, ◌<◌, length, take, drop};
 ghost use Rattle.lent_list.specs.Parts.{KeptFrom};
-ghost use Rattle.shot_record.specs.Fields.{fields_of, cell_count, AtCell};
+ghost use Rattle.shot_record.specs.Fields.{cell_count, AtCell};
 ghost use Rattle.shot_record.specs.Shots.{whole_record, cell_of};
 ghost use Rattle.shot_record.specs.Answers.{grid_with};
 ghost use Rattle.shot_record.specs.Index.{words_of, with_words, point_in, u_in, v_in, border_in, threshold_in, Index, HasGrid};
 
 use super::cells::{Cursor, Part};
-use super::fields::Fields;
-use super::{cells, numbers};
-use score_matrix::BorderSample;
+use super::{Record, numbers};
 
 // The words of one cell of a well-formed record.
-fn words(bytes: &[u8], f: Fields, c: Cursor) -> [u32; 3]
-    requires { AtCell bytes.now f c × (whole_record bytes.now ≡ true) }
-    ensures { result ≡ words_of bytes.now c.cell }
+fn words(record: &Record<'_>, c: Cursor) -> [u32; 3]
+    requires { AtCell record.now.bytes.now record.now.fields c × (whole_record record.now.bytes.now ≡ true) }
+    ensures { result ≡ words_of record.now.bytes.now c.cell }
 {
-    let point = cells::point(bytes, f, c);
-    if cells::sampled(bytes, f, c.cell) == 0 {
+    let point = record.point(c);
+    if record.sampled(c.cell) == 0 {
         return [point, 0, 0];
     }
-    let place = cells::sample_place(bytes, f, c);
+    let place = record.sample_place(c);
     let grid = (place + 5) as u32;
     [
         point,
-        numbers::four_at(bytes, place),
-        grid * 256 + numbers::byte_at(bytes, place + 4) as u32,
+        numbers::four_at(record.bytes, place),
+        grid * 256 + numbers::byte_at(record.bytes, place + 4) as u32,
     ]
 }
 
@@ -40,17 +38,17 @@ fn put(index: &mut [u32; 768], k: usize, words: &[u32; 3])
 }
 
 // Covers the first 256 cells of a record that passes question 21. Elements after their words do not change.
-pub fn fill(index: &mut [u32; 768], bytes: &[u8], f: Fields)
-    requires { (f ≡ fields_of bytes.now) × (whole_record bytes.now ≡ true) × (length index.old ≡ 768) }
-    ensures filled { Index bytes.now index.new }
-    ensures kept { KeptFrom 0 (3 * cell_count bytes.now) index.old index.new }
+pub fn fill(index: &mut [u32; 768], record: &Record<'_>)
+    requires { whole_record record.now.bytes.now ≡ true }
+    ensures filled { Index record.now.bytes.now index.new }
+    ensures kept { KeptFrom 0 (3 * cell_count record.now.bytes.now) index.old index.new }
 {
-    let count = numbers::at_most(f.cell_count, 256);
-    let mut c = cells::first(bytes, f);
+    let count = record.fields.cell_count.min(256);
+    let mut c = record.first();
     while c.cell < count {
-        let words = words(bytes, f, c);
+        let words = words(record, c);
         put(index, c.cell, &words);
-        c = cells::next(bytes, f, c);
+        c = record.next(c);
     }
 }
 
@@ -76,14 +74,14 @@ pub fn v(index: &[u32; 768], k: usize) -> i16
     numbers::coordinate(index[3 * k] / 0x1_0000 % 0x1_0000)
 }
 
-pub fn border(index: &[u32; 768], k: usize) -> BorderSample
+pub fn border(index: &[u32; 768], k: usize) -> Option<f32>
     requires { k < 256 }
     ensures { result ≡ border_in index.now k }
 {
     if index[3 * k + 2] == 0 {
-        return BorderSample::Unsampled;
+        return None;
     }
-    BorderSample::BlackFraction(floats::from_bits(index[3 * k + 1]))
+    Some(floats::from_bits(index[3 * k + 1]))
 }
 
 // 0 for an unsampled cell.

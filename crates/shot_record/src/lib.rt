@@ -15,6 +15,9 @@ pub mod index;
 mod maps;
 pub mod numbers;
 pub mod questions;
+mod record;
+
+pub use record::Record;
 
 use board::CharucoBoardSpec;
 use refusal::Refusal;
@@ -30,103 +33,66 @@ pub struct Header {
     pub cell_count: usize,
 }
 
+// The black fraction of a sampled cell's border, and its threshold.
 #[derive(Clone, Copy)]
-pub enum ReadHeader {
-    Header(Header),
-    Refused(Refusal),
+pub struct ReadSample {
+    pub fraction: f32,
+    pub threshold: u8,
 }
 
-// An entry of the record's own likelihood table or of the built-in one.
+// A cell's grid point and its sample, if it has one.
 #[derive(Clone, Copy)]
-pub enum ReadEntry {
-    Entry(f32),
-    Absent,
-    Refused(Refusal),
+pub struct ReadCell {
+    pub u: i16,
+    pub v: i16,
+    pub sample: Option<ReadSample>,
 }
 
-#[derive(Clone, Copy)]
-pub enum ReadCode {
-    Code(u64),
-    Absent,
-    Refused(Refusal),
-}
-
-#[derive(Clone, Copy)]
-pub enum ReadCell {
-    Sampled {
-        u: i16,
-        v: i16,
-        fraction: f32,
-        threshold: u8,
-    },
-    Unsampled {
-        u: i16,
-        v: i16,
-    },
-    Absent,
-    Refused(Refusal),
-}
-
-// The result of a converter of records: the number of bytes that it wrote.
-#[derive(Clone, Copy)]
-pub enum Converted {
-    Written(usize),
-    Refused(Refusal),
-}
-
-pub fn read_header(bytes: &[u8]) -> ReadHeader
+pub fn read_header(bytes: &[u8]) -> Result<Header, Refusal>
     ensures { result ≡ header_answer bytes.now }
 {
-    let f = fields::locate(bytes);
-    if !cells::is_whole(bytes, f) {
-        return ReadHeader::Refused(Refusal::InvalidRecord);
-    }
-    ReadHeader::Header(Header {
-        map: f.map,
-        config: fields::config(bytes, f),
-        spec: fields::spec(bytes, f),
-        code_count: f.code_count,
-        cell_count: f.cell_count,
+    let record = Record::parse(bytes)?;
+    Ok(Header {
+        map: record.fields.map,
+        config: record.config(),
+        spec: record.spec(),
+        code_count: record.fields.code_count,
+        cell_count: record.fields.cell_count,
     })
 }
 
-pub fn table_entry(bytes: &[u8], k: usize) -> ReadEntry
+// An entry of the record's own likelihood table or of the built-in one; none past the last.
+pub fn table_entry(bytes: &[u8], k: usize) -> Result<Option<f32>, Refusal>
     ensures { result ≡ entry_answer (parse bytes.now) k }
 {
-    let f = fields::locate(bytes);
-    if !cells::is_whole(bytes, f) {
-        return ReadEntry::Refused(Refusal::InvalidRecord);
-    }
+    let record = Record::parse(bytes)?;
     if 510 < k {
-        return ReadEntry::Absent;
+        return Ok(None);
     }
-    ReadEntry::Entry(fields::table_entry(bytes, f, k))
+    Ok(Some(record.table_entry(k)))
 }
 
-pub fn code(bytes: &[u8], k: usize) -> ReadCode
+// A marker's code; none past the last.
+pub fn code(bytes: &[u8], k: usize) -> Result<Option<u64>, Refusal>
     ensures { result ≡ code_answer (parse bytes.now) k }
 {
-    let f = fields::locate(bytes);
-    if !cells::is_whole(bytes, f) {
-        return ReadCode::Refused(Refusal::InvalidRecord);
+    let record = Record::parse(bytes)?;
+    if record.fields.code_count <= k {
+        return Ok(None);
     }
-    if f.code_count <= k {
-        return ReadCode::Absent;
-    }
-    ReadCode::Code(fields::code(bytes, f, k))
+    Ok(Some(record.code(k)))
 }
 
-pub fn cell(bytes: &[u8], k: usize) -> ReadCell
+// A cell; none past the last.
+pub fn cell(bytes: &[u8], k: usize) -> Result<Option<ReadCell>, Refusal>
     ensures { result ≡ cell_answer (parse bytes.now) k }
 {
-    let f = fields::locate(bytes);
-    if !cells::is_whole(bytes, f) {
-        return ReadCell::Refused(Refusal::InvalidRecord);
+    let record = Record::parse(bytes)?;
+    if record.fields.cell_count <= k {
+        return Ok(None);
     }
-    if f.cell_count <= k {
-        return ReadCell::Absent;
-    }
-    cells::cell(bytes, f, cells::seek(bytes, f, k))
+    let at = record.seek(k);
+    Ok(Some(record.cell(at)))
 }
 
 // One cell's grid, as a slice of the record: empty for a refused record and for an unsampled or absent cell.

@@ -9,10 +9,7 @@ ghost use Rattle.shot_record.specs.Answers.{of_pattern};
 pub fn byte_at(bytes: &[u8], at: usize) -> u8
     ensures { result ≡ byte at bytes.now }
 {
-    if at < bytes.len() {
-        return bytes[at];
-    }
-    0
+    bytes.get(at).copied().unwrap_or(0)
 }
 
 // n bytes, the highest first.
@@ -22,9 +19,7 @@ fn number_at(bytes: &[u8], at: usize, n: usize) -> u64
     ensures below { result < 2 ^ (8 * n) }
 {
     let mut x: u64 = 0;
-    let mut k = n;
-    while 0 < k {
-        k -= 1;
+    for k in (0..n).rev() {
         x = x * 256 + byte_at(bytes, at + k) as u64;
     }
     x
@@ -86,17 +81,6 @@ pub fn coordinate(x: u32) -> i16
         return x as i16;
     }
     !((0xFFFF - x) as i16)
-}
-
-// The minimum.
-pub fn at_most(n: usize, most: usize) -> usize
-    ensures least { (result ≤ n) × (result ≤ most) }
-    ensures all { (k : ℕ) → k < most → k < n → k < result }
-{
-    if n < most {
-        return n;
-    }
-    most
 }
 
 pub fn bit(x: u8, k: usize) -> usize

@@ -106,7 +106,7 @@ pub fn of_signed(list: &[i32]) -> u32 {
     let mut h: u32 = 0;
     let mut i = 0;
     while i < list.len() {
-        h = after(h, integers::word(list[i]));
+        h = after(h, list[i].cast_unsigned());
         i += 1;
     }
     h

@@ -24,15 +24,15 @@ fn turned_code(row: [u64; 32]) -> [u32; 19] {
 
 fn corner_translation(turn: u8, tx: i16, ty: i16) -> [u32; 19] {
     two(
-        integers::word(oracle_exports::oracle_corner_translation(turn, tx, ty, 0)),
-        integers::word(oracle_exports::oracle_corner_translation(turn, tx, ty, 1)),
+        oracle_exports::oracle_corner_translation(turn, tx, ty, 0).cast_unsigned(),
+        oracle_exports::oracle_corner_translation(turn, tx, ty, 1).cast_unsigned(),
     )
 }
 
 fn turned_point(turn: u8, u: i16, v: i16) -> [u32; 19] {
     two(
-        integers::word(oracle_exports::oracle_turned(turn, u, v, 0)),
-        integers::word(oracle_exports::oracle_turned(turn, u, v, 1)),
+        oracle_exports::oracle_turned(turn, u, v, 0).cast_unsigned(),
+        oracle_exports::oracle_turned(turn, u, v, 1).cast_unsigned(),
     )
 }
 

@@ -22,11 +22,11 @@ use Rattle.shot_record.specs.Shots.{Sample, Shot, list, whole_record, parse}
 use Rattle.shot_record.specs.Writing as writing
 use Rattle.shot_record.specs.Writing.{bytes_of}
 use Rattle.hypothesis.specs.Placements.{frame, with_turns_below, placements}
-use Rattle.board_match.specs.declared.Matched.TheVariants as matched
 use Rattle.board_match.specs.Questions.{asked_from9, asked_of_shot, asked_before15}
 use Rattle.board_match.specs.Match.{asked_from15, match_answer}
 use Rattle.board_match.proofs.Order.{shot_goes_on}
 use Rattle.worked_examples.specs.Table.{showing, too_wide}
+use Rattle.std.specs.Prelude.{Err}
 
 pub refused_5 : (s : Shot) (first second : Option Sample) → asked_from15 (showing s 5 first second) ≡ some refusal.TranslationWindow
 unfolding asked_from15 placements with_turns_below list frame least_to greatest_to sends
@@ -41,7 +41,7 @@ passes : (words : ℕ) → 36 ≤ words → asked_before15 too_wide words ≡ no
 unfolding asked_of_board asked_of_size any_below from_bits source parity_of count_passing asked_from9 every patterns of_bits le lt eq
 passes words room = rw (le-leb 36 words room) refl
 
-pub record_refused : (lent : List ℕ) → 36 ≤ length lent → match_answer (bytes_of 0 too_wide) lent ≡ matched.Refused refusal.TranslationWindow
+pub record_refused : (lent : List ℕ) → 36 ≤ length lent → match_answer (bytes_of 0 too_wide) lent ≡ Err refusal.TranslationWindow
 record_refused lent room =
     let n = length lent in
     let asked = rest_asked (asked_of_shot too_wide n) (shot_goes_on too_wide n) (asked_from15 too_wide) (passes n room) ∙ refused_5 too_wide none none in

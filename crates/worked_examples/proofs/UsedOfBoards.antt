@@ -21,8 +21,6 @@ use Rattle.grid_alignment.specs.Alignment.{point, sends, moved, lowest_point, ap
 use Rattle.grid_alignment.specs.Rules.{as_point}
 use Rattle.grid_alignment.proofs.Laws.{top_left_lands, turns_agree}
 use Rattle.board.specs.declared.CharucoBoardSpec.{CharucoBoardSpec}
-use Rattle.board.specs.declared.NewBoard.TheVariants as new
-use Rattle.board.specs.declared.Located.TheVariants as located
 use Rattle.board.specs.Numbering.{count_passing, search}
 use Rattle.board.specs.Layout.{holds_marker, odd_parity, parity_of, marker_count, square_of}
 use Rattle.board.specs.Questions.{asked_of_size, asked_of_board, board_of, new_board}
@@ -35,12 +33,13 @@ use Rattle.hypothesis.specs.Rules.{Fits, OnBoard, Precedes, PlacementsInOrder, c
 use Rattle.hypothesis.proofs.Placements.{placements_rule}
 use Rattle.worked_examples.specs.Table.{one_float, half, align, showing, board}
 use Rattle.worked_examples.specs.Uses.{two_codes, marked, OfBoards}
+use Rattle.std.specs.Prelude.{Some, Ok}
 
 -- ---- codes
 abbrev spec : CharucoBoardSpec
 spec = record { rows = 2; cols = 2; bits = 2; border_bits = 1; legacy_pattern = false; cell_size = one_float; marker_size_rel = half }
 
-made : new_board spec two_codes ≡ new.Made (board_of spec)
+made : new_board spec two_codes ≡ Ok (board_of spec)
 unfolding asked_of_board asked_of_size any_below from_bits source parity_of count_passing of_bits le lt eq
 made = refl
 
@@ -77,11 +76,11 @@ ten : marker_count odd_parity 4 5 ≡ 10
 unfolding count_passing
 ten = refl
 
-square_2 : square_of odd_parity 4 5 2 ≡ located.At 0 1
+square_2 : square_of odd_parity 4 5 2 ≡ Some 0 1
 unfolding search count_passing
 square_2 = refl
 
-square_3 : square_of odd_parity 4 5 3 ≡ located.At 2 1
+square_3 : square_of odd_parity 4 5 3 ≡ Some 2 1
 unfolding search count_passing
 square_3 = refl
 

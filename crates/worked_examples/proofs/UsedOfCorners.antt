@@ -11,8 +11,6 @@ use lib.ListN.{length, get_or, length-map, get_or-map}
 use lib.Ieee.{of_bits, to_bits, of_int, mul, le, lt, eq}
 use Rattle.grid_alignment.specs.declared.Coord.{Coord}
 use Rattle.grid_alignment.specs.Alignment.{point, sends, applied, corner}
-use Rattle.board.specs.declared.Numbered.TheVariants as numbered
-use Rattle.board.specs.declared.Surrounding.TheVariants as surrounding
 use Rattle.board.specs.Numbering.{count_passing, number_at, number_atℤ, search}
 use Rattle.board.specs.Layout.{parity_of, marker_on, surrounding_corners, corner_count}
 use Rattle.marker_sampling.specs.Cells.{held, index, holder, whole_cell, point_at}
@@ -24,6 +22,7 @@ use Rattle.corner_mapping.specs.Rules.{GreatestScore, along, Named, result_of}
 use Rattle.corner_mapping.proofs.Laws.{chosen_greatest, none_bears, results_in_order, board_corners_named, corners_of_marker}
 use Rattle.worked_examples.specs.Table.{one_float, align, board}
 use Rattle.worked_examples.specs.Uses.{six_corners, two_whole, four_inputs, result, OfCorners}
+use Rattle.std.specs.Prelude.{Some}
 
 -- ---- a list in order
 module _ {A : Type 0} (test : ℕ → Bool) (element : ℕ → A) (n : ℕ) (l : List A) (h : PassingInOrder test element n l) where
@@ -151,11 +150,11 @@ words = refl
 
 -- a turn maps cell (0, 0) to the square of marker 3
 on-marker : marker_on (board 4 5) (applied (align 1 (pos 2) (pos 1)) (point (pos 0) (pos 0))).u (applied (align 1 (pos 2) (pos 1)) (point (pos 0) (pos 0))).v
-    ≡ numbered.Id 3
+    ≡ Some 3
 unfolding sends parity_of number_atℤ number_at count_passing
 on-marker = refl
 
-its_corners : surrounding_corners (board 4 5) 3 ≡ surrounding.Corners 1 2 6 5
+its_corners : surrounding_corners (board 4 5) 3 ≡ Some 1 2 6 5
 unfolding parity_of search number_at count_passing
 its_corners = refl
 

@@ -24,7 +24,6 @@ use Rattle.matcher.specs.Codes.{from_bits, source}
 use Rattle.grid_alignment.specs.declared.GridAlignment.{GridAlignment}
 use Rattle.grid_alignment.specs.Alignment.{point, sends, applied, corner}
 use Rattle.lent_list.specs.Front.{up_to}
-use Rattle.board.specs.declared.Numbered.TheVariants as numbered
 use Rattle.board.specs.Numbering.{count_passing, number_at, number_atℤ}
 use Rattle.board.specs.Layout.{parity_of}
 use Rattle.board.specs.Questions.{asked_of_size, asked_of_board}
@@ -40,7 +39,6 @@ use Rattle.shot_record.proofs.Whole.{parsed, parses-whole}
 use Rattle.shot_record.proofs.Laws.{read_back, written_back, one_to_one}
 use Rattle.shot_record.proofs.Sections.{sections}
 use Rattle.shot_record.proofs.Unchanged.{unchanged}
-use Rattle.ranking.specs.declared.Choice.TheVariants as choice
 use Rattle.ranking.specs.Greatest.{first_greatest, rest}
 use Rattle.hypothesis.specs.Placements.{frame, with_turns_below, placements}
 use Rattle.hypothesis.specs.Evidence.{samples_of, expected, contributed, reported, capacity}
@@ -48,7 +46,6 @@ use Rattle.hypothesis.specs.Search.{hypothesis, best}
 use Rattle.hypothesis.specs.OwnBytes.{SampledCell, SameOwn}
 use Rattle.hypothesis.proofs.OwnBytes.{own_bytes}
 use Rattle.emit.specs.Markers.{emitted, markers}
-use Rattle.board_match.specs.declared.Matched.TheVariants as matched
 use Rattle.board_match.specs.Questions.{asked_from9, asked_of_shot, asked_before15}
 use Rattle.board_match.specs.Match.{margin_of, minimum, asked_from15, match_of, match_answer}
 use Rattle.board_match.specs.Accuracy.{Gate}
@@ -59,6 +56,7 @@ use Rattle.corner_mapping.specs.Corners.{id_at}
 use Rattle.charuco.proofs.Laws.{corners_of_match}
 use Rattle.worked_examples.specs.Table.{board}
 use Rattle.worked_examples.specs.Uses.{greys, two_by_two, unsampled, two_sampled, pair, demanding, elsewhere, pair_record, turned_once, OfRecords}
+use Rattle.std.specs.Prelude.{Some, Ok}
 
 -- ---- the records
 -- equal bytes from an offset on, below 256, where a test of them computes
@@ -237,7 +235,7 @@ demanding-passes : (words : ℕ) → 36 ≤ words → asked_before15 demanding w
 unfolding demanding asked_of_board asked_of_size any_below from_bits source parity_of count_passing asked_from9 every patterns of_bits le lt eq
 demanding-passes words room = rw (le-leb 36 words room) refl
 
-pair-best : best (pair 200) ≡ choice.Placement (hypothesis (pair 200) turned_once)
+pair-best : best (pair 200) ≡ Some (hypothesis (pair 200) turned_once)
 unfolding pair placements with_turns_below list frame least_to greatest_to sends first_greatest reported contributed expected up_to parity_of count_passing
     number_at number_atℤ from_bits source patterns sum_to of_bits of_int neg add sub mul div le lt eq
 pair-best = refl
@@ -251,7 +249,7 @@ two_markers : length (markers (pair 200) turned_once) ≡ 2
 unfolding pair emitted expected sends up_to parity_of count_passing number_at number_atℤ from_bits source patterns sum_to of_bits of_int neg add sub mul div le lt eq
 two_markers = refl
 
-pair-placed : (lent : List ℕ) → 36 ≤ length lent → match_answer (pair_record 200) lent ≡ matched.Placed (match_of (pair 200) (hypothesis (pair 200) turned_once))
+pair-placed : (lent : List ℕ) → 36 ≤ length lent → match_answer (pair_record 200) lent ≡ Ok (match_of (pair 200) (hypothesis (pair 200) turned_once))
 pair-placed lent room =
     let n = length lent in
     let asked = rest_asked (asked_of_shot (pair 200) n) (shot_goes_on (pair 200) n) (asked_from15 (pair 200)) (pair-passes n room) ∙ pair_asked in
@@ -289,7 +287,7 @@ unfolding demanding placements with_turns_below list frame least_to greatest_to 
 below = refl
 
 -- ---- the corner between the two cells
-between : id_at (board 2 2) (corner 5 (applied turned_once (point (pos 0) (pos 0)))) ≡ numbered.Id 0
+between : id_at (board 2 2) (corner 5 (applied turned_once (point (pos 0) (pos 0)))) ≡ Some 0
 unfolding corner sends number_atℤ number_at count_passing
 between = refl
 

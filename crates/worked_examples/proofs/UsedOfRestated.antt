@@ -21,7 +21,6 @@ use Rattle.grid_alignment.specs.declared.GridAlignment.{GridAlignment}
 use Rattle.grid_alignment.specs.Alignment.{sends, lowest_point}
 use Rattle.lent_list.specs.Front.{at_exit, up_to}
 use Rattle.lent_list.proofs.Front.{front_is}
-use Rattle.board.specs.declared.Numbered.TheVariants as numbered
 use Rattle.board.specs.Numbering.{count_passing, number_at, number_atℤ}
 use Rattle.board.specs.Layout.{inner, parity_of, corner_count, marker_total}
 use Rattle.board.specs.Questions.{asked_of_size, asked_of_board}
@@ -34,7 +33,6 @@ use Rattle.shot_record.specs.Answers.{spec_of}
 use Rattle.shot_record.specs.Writing.{little_endian, bytes_of}
 use Rattle.shot_record.proofs.LittleEndian.{all_bytes}
 use Rattle.ranking.specs.declared.Hypothesis.{Hypothesis}
-use Rattle.ranking.specs.declared.Choice.TheVariants as choice
 use Rattle.ranking.specs.Greatest.{lies_below, first_greatest, rest}
 use Rattle.hypothesis.specs.Placements.{frame, with_turns_below, placements}
 use Rattle.hypothesis.specs.Evidence.{board_in, expected, contributed, reported, exact, capacity}
@@ -42,7 +40,6 @@ use Rattle.hypothesis.specs.Search.{hypothesis, best, runner_up}
 use Rattle.hypothesis.specs.Accuracy.{Placement}
 use Rattle.emit.specs.Markers.{emitted, marker_words, id_in}
 use Rattle.board_match.specs.declared.Match.{Match}
-use Rattle.board_match.specs.declared.Matched.TheVariants as matched
 use Rattle.board_match.specs.Questions.{asked_from9, asked_of_shot, asked_before15}
 use Rattle.board_match.specs.Match.{markers_of, asked_from15, refused_by, match_of, match_answer, match_list}
 use Rattle.board_match.proofs.Order.{shot_goes_on}
@@ -62,6 +59,7 @@ use Rattle.half_turn.proofs.Answers.{restated_rule, list_rule, answers_rule}
 use Rattle.worked_examples.specs.Table.{align, showing}
 use Rattle.worked_examples.specs.Uses.{legacy_shot, current_shot, current_record, result, OfRestated}
 use Rattle.worked_examples.proofs.UsedOfRecords.{small_bytes}
+use Rattle.std.specs.Prelude.{Some, Ok}
 
 -- ---- the two records
 abbrev old : Shot
@@ -115,17 +113,17 @@ unfolding legacy_shot sends reported contributed expected up_to parity_of count_
     of_int neg add sub mul div le lt eq
 below_next = (refl, refl)
 
-best_is : best old ≡ choice.Placement (hypothesis old (align 0 (pos 0) (pos 0)))
+best_is : best old ≡ Some (hypothesis old (align 0 (pos 0) (pos 0)))
 unfolding legacy_shot placements with_turns_below list frame least_to greatest_to sends first_greatest reported contributed expected up_to parity_of count_passing
     number_at number_atℤ from_bits source patterns sum_to of_bits of_int neg add sub mul div le lt eq
 best_is = refl
 
-next_is : runner_up old ≡ choice.Placement (hypothesis old (align 2 (pos 2) (pos 0)))
+next_is : runner_up old ≡ Some (hypothesis old (align 2 (pos 2) (pos 0)))
 unfolding legacy_shot placements with_turns_below list frame least_to greatest_to sends first_greatest rest reported contributed expected up_to parity_of
     count_passing number_at number_atℤ from_bits source patterns sum_to of_bits of_int neg add sub mul div le lt eq
 next_is = refl
 
-placed : {a b : Hypothesis} → choice.Placement a ≡ choice.Placement b → a ≡ b
+placed : {a b : Hypothesis} → Some a ≡ Some b → a ≡ b
 placed e = cc
 
 no_ties : NoTies old
@@ -181,10 +179,10 @@ module _ (lent : List ℕ) (room : 36 ≤ length lent) where
   m : Match
   m = paired_match old (match_of old (hypothesis old (align 0 (pos 0) (pos 0))))
 
-  old_placed : match_answer (bytes_of 16 old) lent ≡ matched.Placed (match_of old (hypothesis old (align 0 (pos 0) (pos 0))))
+  old_placed : match_answer (bytes_of 16 old) lent ≡ Ok (match_of old (hypothesis old (align 0 (pos 0) (pos 0))))
   old_placed = rw (old_parses, not_refused (length lent) room, best_is) refl
 
-  new_match : match_answer current_record lent ≡ matched.Placed m
+  new_match : match_answer current_record lent ≡ Ok m
   unfolding m
   new_match = answers_rule (bytes_of 16 old) current_record lent old old_and_new no_ties ∙ ap (paired_answer old) old_placed
 
@@ -225,8 +223,8 @@ at_p3 : (s : Shot) (first second : Option Sample) (ms : List MappedCorner) → m
 unfolding count_passing
 at_p3 s first second ms e = rw e refl
 
-first-corner : (rows cols : ℕ) → 2 ≤ rows → 2 ≤ cols → number_at inner cols rows 1 1 ≡ numbered.Id 0
-first-corner rows cols r c = inner-corner rows cols 1 1 (lit< tt) (lit< tt) (omega (arith, c)) (omega (arith, r)) ∙ ap numbered.Id (omega arith)
+first-corner : (rows cols : ℕ) → 2 ≤ rows → 2 ≤ cols → number_at inner cols rows 1 1 ≡ Some 0
+first-corner rows cols r c = inner-corner rows cols 1 1 (lit< tt) (lit< tt) (omega (arith, c)) (omega (arith, r)) ∙ ap Some (omega arith)
 
 last_corner : (s : Shot) (index : ℕ) → 2 ≤ s.rows → 2 ≤ s.cols
     → take 4 (corner_words (board_in (restated s)) (result (corner_count s.rows s.cols - 1) index))

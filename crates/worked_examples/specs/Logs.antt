@@ -1,12 +1,9 @@
 -- Document 02, 2.9: the text of a small log, and uses of the laws of logs.
-use Rattle.std.specs.Prelude.{◌≡◌, true, false, List, [], ◌∷◌, ◌++◌, ◌⊎◌, ℕ, ◌≤◌, ◌<◌, length, get_or, drop}
+use Rattle.std.specs.Prelude.{◌≡◌, true, false, List, [], ◌∷◌, ◌++◌, ◌⊎◌, ℕ, ◌≤◌, ◌<◌, length, get_or, drop, Option, Some, None, Ok}
 use Rattle.shot_record.specs.Shots.{shot}
 use Rattle.shot_record.specs.Writing.{little_endian, Bytes}
 use Rattle.hypothesis.specs.Rules.{count_of}
 use Rattle.board_match.specs.declared.Match.{Match}
-use Rattle.board_match.specs.declared.Matched.TheVariants as matched
-use Rattle.log_text.specs.declared.Highest.{Highest}
-use Rattle.log_text.specs.declared.Highest.TheVariants as highest
 use Rattle.log_text.specs.Lines.{shot_answer, entry_lines}
 use Rattle.log_text.specs.Log.{entry_number, entry_end, is_whole, first_record, rest_text, log_text}
 use Rattle.log_text.specs.Rules.{Entry, FitEntry, row_bytes, highest_after, Takes}
@@ -37,16 +34,16 @@ small_text =
     ++ (114 ∷ 101 ∷ 102 ∷ 117 ∷ 115 ∷ 101 ∷ 100 ∷ 32 ∷ 50 ∷ 54 ∷ 32 ∷ 51 ∷ 10 ∷ [])
 
 pub record OfLogs : Type 0 where
-  pub small_log_lem : log_text highest.Absent small_log ≡ small_text
-  pub empty_log : log_text highest.Absent [] ≡ []
+  pub small_log_lem : log_text None small_log ≡ small_text
+  pub empty_log : log_text None [] ≡ []
   -- a log cut after two entries, and read in two parts
   pub cut_between :
       (e f : Entry) → FitEntry e → FitEntry f → (rest : List ℕ)
-      → log_text highest.Absent (row_bytes (e ∷ f ∷ []) ++ rest)
-      ≡ log_text highest.Absent (row_bytes (e ∷ f ∷ [])) ++ log_text (highest_after highest.Absent (e ∷ f ∷ [])) rest
+      → log_text None (row_bytes (e ∷ f ∷ []) ++ rest)
+      ≡ log_text None (row_bytes (e ∷ f ∷ [])) ++ log_text (highest_after None (e ∷ f ∷ [])) rest
   -- the number carried over is the greater of two
   pub greatest_before :
-      (e f : Entry) (n : ℕ) → highest_after highest.Absent (e ∷ f ∷ []) ≡ highest.Seen n
+      (e f : Entry) (n : ℕ) → highest_after None (e ∷ f ∷ []) ≡ Some n
       → (e.number ≤ n) × (f.number ≤ n) × ((n ≡ e.number) ⊎ (n ≡ f.number))
   -- bytes with a whole entry, field by field
   pub whole_written :
@@ -55,11 +52,11 @@ pub record OfLogs : Type 0 where
       ≡ (little_endian 4 (entry_number bytes) ++ (little_endian 2 (length (first_record bytes)) ++ first_record bytes)) ++ drop (entry_end bytes) bytes
   -- a program that reads two pieces, prints once, and has bytes without a whole entry left
   pub pieces_same :
-      (a b lines rest : List ℕ) (next : Highest) → Takes highest.Absent (a ++ b) next rest lines → is_whole rest ≡ false
-      → lines ++ rest_text rest ≡ log_text highest.Absent (a ++ b)
+      (a b lines rest : List ℕ) (next : Option ℕ) → Takes None (a ++ b) next rest lines → is_whole rest ≡ false
+      → lines ++ rest_text rest ≡ log_text None (a ++ b)
   pub lines_room :
       (h n : ℕ) (shot : List ℕ) → h < 4294967296 → n < 4294967296 → ((i : ℕ) → get_or shot i 0 < 256)
-      → length (entry_lines (highest.Seen h) n shot) ≤ 76
+      → length (entry_lines (Some h) n shot) ≤ 76
   -- of demand 3: the number of placements of a placed entry is that of document 01's formula
   pub demands_stand :
-      (bytes : List ℕ) → ((i : ℕ) → get_or bytes i 0 < 256) → (m : Match) → shot_answer bytes ≡ matched.Placed m → m.placements ≡ count_of (shot bytes)
+      (bytes : List ℕ) → ((i : ℕ) → get_or bytes i 0 < 256) → (m : Match) → shot_answer bytes ≡ Ok m → m.placements ≡ count_of (shot bytes)

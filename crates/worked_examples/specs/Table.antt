@@ -1,6 +1,6 @@
 -- Document 01, "Proved table": its rows P1 to P12, as statements about the definitions.
-use Rattle.std.specs.Prelude.{◌≡◌, ℕ, ◌≤◌, false, List, [], ◌∷◌, length, ℤ, pos, Float}
-use Rattle.std.proofs.Math.Option.{Option, none, some}
+use Rattle.std.specs.Prelude.{◌≡◌, ℕ, ◌≤◌, false, List, [], ◌∷◌, length, ℤ, pos, Float, Option, Some, None, Err}
+use Rattle.std.proofs.Math.Option.{Option as Maybe, none, some}
 use Rattle.std.specs.Float.{binary32}
 use Rattle.std.specs.Float.Ieee.{of_bits, to_bits}
 use Rattle.refusal.specs.declared.Refusal.TheVariants as refusal
@@ -9,25 +9,17 @@ use Rattle.matcher.specs.Codes.{turned}
 use Rattle.grid_alignment.specs.declared.GridAlignment.{GridAlignment}
 use Rattle.grid_alignment.specs.Alignment.{corner_alignment}
 use Rattle.board.specs.declared.Board.{Board}
-use Rattle.board.specs.declared.Numbered.TheVariants as numbered
-use Rattle.board.specs.declared.Located.TheVariants as located
-use Rattle.board.specs.declared.Surrounding.TheVariants as surrounding
-use Rattle.board.specs.Layout.{marker_square, corner_at, surrounding_corners}
+use Rattle.board.specs.Layout.{marker_square, corner_at, surrounding_corners, surrounding}
 use Rattle.score_matrix.specs.Scores.{null_score}
 use Rattle.score_matrix.specs.declared.BoardMatchConfig.{BoardMatchConfig}
-use Rattle.score_matrix.specs.declared.BorderSample.TheVariants as border
 use Rattle.score_matrix.specs.Weights.{weight}
 use Rattle.score_matrix.specs.Table.{patterns}
 use Rattle.shot_record.specs.Shots.{Sample, Cell, Shot, default_margin, default_threshold, default_px, default_least_weight}
 use Rattle.shot_record.specs.Writing.{bytes_of}
-use Rattle.ranking.specs.declared.Evidence.TheVariants as evidence
 use Rattle.ranking.specs.declared.Hypothesis.{Hypothesis}
-use Rattle.ranking.specs.declared.Choice.{Choice}
-use Rattle.ranking.specs.declared.Choice.TheVariants as choice
 use Rattle.ranking.specs.Margin.{margin}
 use Rattle.hypothesis.specs.Placements.{placements}
 use Rattle.hypothesis.specs.Rules.{count_of}
-use Rattle.board_match.specs.declared.Matched.TheVariants as matched
 use Rattle.board_match.specs.Match.{asked_from15, match_answer}
 use Rattle.link_check.specs.declared.LinkCheckMode.{LinkCheckMode}
 use Rattle.link_check.specs.declared.LinkCheckMode.TheVariants as mode
@@ -35,6 +27,7 @@ use Rattle.link_check.specs.declared.LinkViolationKind.{LinkViolationKind}
 use Rattle.link_check.specs.declared.LinkViolationKind.TheVariants as kind
 use Rattle.link_check.specs.Links.{link_count}
 use Rattle.link_check.specs.Violations.{Violation, expectation, violations}
+use Rattle.board.specs.Numbering.{position}
 
 abbrev pub align : ℕ → ℤ → ℤ → GridAlignment
 align turn tx ty = record { turn = turn; tx = tx; ty = ty }
@@ -76,13 +69,13 @@ over_threshold c threshold =
 
 -- a placement with its evidence, to which n cells contribute
 abbrev pub evident : GridAlignment → ℕ → Float → Hypothesis
-evident p n x = record { alignment = p; evidence = evidence.Number x; contributing_cells = n }
+evident p n x = record { alignment = p; evidence = Some x; contributing_cells = n }
 
 -- a shot s with P3's board and the cells (0, 0) and (u, 0), sampled or not
-abbrev pub two_cells : ℕ → Option Sample → Option Sample → List Cell
+abbrev pub two_cells : ℕ → Maybe Sample → Maybe Sample → List Cell
 two_cells u first second = record { u = pos 0; v = pos 0; sample = first } ∷ record { u = pos u; v = pos 0; sample = second } ∷ []
 
-abbrev pub showing : Shot → ℕ → Option Sample → Option Sample → Shot
+abbrev pub showing : Shot → ℕ → Maybe Sample → Maybe Sample → Shot
 showing s u first second =
     record {
       minimum_margin = s.minimum_margin;
@@ -131,7 +124,7 @@ abbrev pub links : List ℕ
 links = 3 ∷ 1 ∷ 3 ∷ 1 ∷ 3 ∷ 9 ∷ []
 
 -- a violation of marker 3, whose corners are P7's
-abbrev pub table_entry : LinkViolationKind → Option ℕ → List ℕ → Violation
+abbrev pub table_entry : LinkViolationKind → Maybe ℕ → List ℕ → Violation
 table_entry k reported missing =
     record { marker = 3; kind = k; reported = reported; expected = 1 ∷ 2 ∷ 6 ∷ 5 ∷ []; missing = missing }
 
@@ -140,15 +133,15 @@ violations_in m = violations links (link_count links) m (expectation (board 4 5)
 
 pub record Table : Type 0 where
   -- 2 by 2 board: marker 0 at (1, 0), 1 at (0, 1)
-  pub P1 : (marker_square (board 2 2) 0 ≡ located.At 1 0) × (marker_square (board 2 2) 1 ≡ located.At 0 1)
+  pub P1 : (marker_square (board 2 2) 0 ≡ Some (position 1 0)) × (marker_square (board 2 2) 1 ≡ Some (position 0 1))
   -- 3 by 3: (1, 0), (0, 1), (2, 1), (1, 2)
   pub P2 :
-      (marker_square (board 3 3) 0 ≡ located.At 1 0) × (marker_square (board 3 3) 1 ≡ located.At 0 1)
-      × (marker_square (board 3 3) 2 ≡ located.At 2 1) × (marker_square (board 3 3) 3 ≡ located.At 1 2)
+      (marker_square (board 3 3) 0 ≡ Some (position 1 0)) × (marker_square (board 3 3) 1 ≡ Some (position 0 1))
+      × (marker_square (board 3 3) 2 ≡ Some (position 2 1)) × (marker_square (board 3 3) 3 ≡ Some (position 1 2))
   -- 4 rows, 5 cols: corner (1, 1) is 0, (4, 3) is 11; (5, 3) and (0, 1) have none
   pub P3 :
-      (corner_at 4 5 (pos 1) (pos 1) ≡ numbered.Id 0) × (corner_at 4 5 (pos 4) (pos 3) ≡ numbered.Id 11)
-      × (corner_at 4 5 (pos 5) (pos 3) ≡ numbered.Absent) × (corner_at 4 5 (pos 0) (pos 1) ≡ numbered.Absent)
+      (corner_at 4 5 (pos 1) (pos 1) ≡ Some 0) × (corner_at 4 5 (pos 4) (pos 3) ≡ Some 11)
+      × (corner_at 4 5 (pos 5) (pos 3) ≡ None) × (corner_at 4 5 (pos 0) (pos 1) ≡ None)
   -- code 1, side 2, turns 0 to 3: 1, 2, 8, 4
   pub P4 : (turned 2 0 1 ≡ 1) × (turned 2 1 1 ≡ 2) × (turned 2 2 1 ≡ 8) × (turned 2 3 1 ≡ 4)
   -- code 2, side 3: 2, 32, 128, 8
@@ -159,9 +152,9 @@ pub record Table : Type 0 where
       × (corner_alignment (align 2 (pos 5) (pos 7)) ≡ align 2 (pos 6) (pos 8)) × (corner_alignment (align 3 (pos 5) (pos 7)) ≡ align 3 (pos 6) (pos 7))
   -- P3's board: marker 3 has corners 1, 2, 6, 5; marker 2 has no four; 10 is unknown
   pub P7 :
-      (surrounding_corners (board 4 5) 3 ≡ surrounding.Corners 1 2 6 5)
-      × (marker_square (board 4 5) 2 ≡ located.At 0 1) × (surrounding_corners (board 4 5) 2 ≡ surrounding.Absent)
-      × (marker_square (board 4 5) 10 ≡ located.Absent)
+      (surrounding_corners (board 4 5) 3 ≡ Some (surrounding 1 2 6 5))
+      × (marker_square (board 4 5) 2 ≡ Some (position 0 1)) × (surrounding_corners (board 4 5) 2 ≡ None)
+      × (marker_square (board 4 5) 10 ≡ None)
   -- there, links (3, 1), (3, 1), (3, 9): 9 not in neighbourhood, then 1 repeated; all_four_lem mode adds missing 2, 6, 5
   pub P8 :
       (violations_in mode.SubsetOk ≡ table_entry kind.CornerNotInNeighborhood (some 9) [] ∷ table_entry kind.DuplicateCorner (some 1) [] ∷ [])
@@ -169,22 +162,22 @@ pub record Table : Type 0 where
       ∷ table_entry kind.MissingCorners none (2 ∷ 6 ∷ 5 ∷ []) ∷ [])
   -- margins: best 0 gives 0; best 2 with runner_up_is absent gives 1; best 2, runner_up_is −6, capacity 4 gives 2
   pub P9 :
-      ((capacity : Float) (next : Choice) → margin (evidence.Number zero_float) capacity next ≡ zero_float)
-      × ((capacity : Float) → margin (evidence.Number two_float) capacity choice.Absent ≡ one_float)
-      × ((p : GridAlignment) (n : ℕ) → margin (evidence.Number two_float) four (choice.Placement (evident p n minus_six)) ≡ two_float)
+      ((capacity : Float) (next : Option Hypothesis) → margin (Some zero_float) capacity next ≡ zero_float)
+      × ((capacity : Float) → margin (Some two_float) capacity None ≡ one_float)
+      × ((p : GridAlignment) (n : ℕ) → margin (Some two_float) four (Some (evident p n minus_six)) ≡ two_float)
   -- null score, side 4: bits C1317218
   pub P10 : to_bits binary32 (null_score 4) ≡ 0xC1317218
   -- P3's board: cells (0, 0), (2, 0) give 44 placements, by the list and by the formula; (0, 0), (4, 0) give 8; (0, 0), (5, 0) is refused 15, as
   -- question 15 and as Match's result for a record
   pub P11 :
-      ((s : Shot) (first second : Option Sample) → (length (placements (showing s 2 first second)) ≡ 44) × (count_of (showing s 2 first second) ≡ 44))
-      × ((s : Shot) (first second : Option Sample) → (length (placements (showing s 4 first second)) ≡ 8) × (count_of (showing s 4 first second) ≡ 8))
-      × ((s : Shot) (first second : Option Sample) → asked_from15 (showing s 5 first second) ≡ some refusal.TranslationWindow)
-      × ((lent : List ℕ) → 36 ≤ length lent → match_answer (bytes_of 0 too_wide) lent ≡ matched.Refused refusal.TranslationWindow)
+      ((s : Shot) (first second : Maybe Sample) → (length (placements (showing s 2 first second)) ≡ 44) × (count_of (showing s 2 first second) ≡ 44))
+      × ((s : Shot) (first second : Maybe Sample) → (length (placements (showing s 4 first second)) ≡ 8) × (count_of (showing s 4 first second) ≡ 8))
+      × ((s : Shot) (first second : Maybe Sample) → asked_from15 (showing s 5 first second) ≡ some refusal.TranslationWindow)
+      × ((lent : List ℕ) → 36 ≤ length lent → match_answer (bytes_of 0 too_wide) lent ≡ Err refusal.TranslationWindow)
       × (number_of refusal.TranslationWindow ≡ 15)
   -- weights: fraction 0.25 over 0.5 is 0.5; 0.75 over 0.5 is 1; threshold 0 gives 1
   pub P12 :
       (c : BoardMatchConfig)
-      → (weight (over_threshold c half) (border.BlackFraction quarter) ≡ half)
-      × (weight (over_threshold c half) (border.BlackFraction three_quarters) ≡ one_float)
-      × ((fraction : Float) → weight (over_threshold c zero_float) (border.BlackFraction fraction) ≡ one_float)
+      → (weight (over_threshold c half) (Some quarter) ≡ half)
+      × (weight (over_threshold c half) (Some three_quarters) ≡ one_float)
+      × ((fraction : Float) → weight (over_threshold c zero_float) (Some fraction) ≡ one_float)

@@ -1,6 +1,6 @@
 -- Laws that no other proof cites, at concrete values: a consequence of each, as a statement about the definitions. A field has the name of the law
 -- that it follows from.
-use Rattle.std.specs.Prelude.{◌≡◌, ℕ, suc, ◌+◌, ◌-◌, ◌*◌, ◌≤◌, ◌<◌, Bool, true, false, not, List, [], ◌∷◌, ◌++◌, T, eqb, length, take, drop, get_or, ℤ, pos, negsuc, ◌-ℤ◌, Float}
+use Rattle.std.specs.Prelude.{◌≡◌, ℕ, suc, ◌+◌, ◌-◌, ◌*◌, ◌≤◌, ◌<◌, Bool, true, false, not, List, [], ◌∷◌, ◌++◌, T, eqb, length, take, drop, get_or, ℤ, pos, negsuc, ◌-ℤ◌, Float, Some, None, Ok}
 use Rattle.std.proofs.Math.Option.{Option, none, some}
 use Rattle.std.proofs.Math.ListN.{get_elem?}
 use Rattle.std.specs.Float.Ieee.{is_nan}
@@ -16,11 +16,8 @@ use Rattle.grid_alignment.specs.declared.Coord.{Coord}
 use Rattle.grid_alignment.specs.declared.GridAlignment.{GridAlignment}
 use Rattle.grid_alignment.specs.Alignment.{point, applied, corner, corner_alignment}
 use Rattle.board.specs.declared.Board.{Board}
-use Rattle.board.specs.declared.Numbered.TheVariants as numbered
-use Rattle.board.specs.declared.Located.TheVariants as located
-use Rattle.board.specs.declared.Surrounding.TheVariants as surrounding
-use Rattle.board.specs.Numbering.{number_at}
-use Rattle.board.specs.Layout.{holds_marker, odd_parity, parity_of, square_of, corner_at, corner_place, corner_count, four_corners}
+use Rattle.board.specs.Numbering.{number_at, position}
+use Rattle.board.specs.Layout.{holds_marker, odd_parity, parity_of, square_of, corner_at, corner_place, corner_count, four_corners, surrounding}
 use Rattle.score_matrix.specs.Scores.{score, read_code}
 use Rattle.score_matrix.specs.Table.{patterns}
 use Rattle.shot_record.specs.Fields.{byte, map_byte, sample_place, threshold_from, grid_from}
@@ -32,7 +29,6 @@ use Rattle.hypothesis.specs.Placements.{cell_total, cell, placements}
 use Rattle.hypothesis.specs.Evidence.{board_in, table_of, samples_of, expected, reported, exact}
 use Rattle.emit.specs.Markers.{id_in}
 use Rattle.board_match.specs.declared.Match.{Match}
-use Rattle.board_match.specs.declared.Matched.TheVariants as matched
 use Rattle.board_match.specs.Match.{margin_of, refused_by, match_answer, match_list}
 use Rattle.marker_sampling.specs.Cells.{Corners, corners_of, point_at, cells}
 use Rattle.corner_mapping.specs.Corners.{Input, MappedCorner, id_of, bears, chosen, mapped, corner_words}
@@ -167,7 +163,7 @@ pub record OfRecords : Type 0 where
   pub corners_of_match :
       (alignment_answer (corner_alignment turned_once) ≡ true)
       × ((p : Coord) → applied (corner_alignment turned_once) (corner 2 p) ≡ corner 5 (applied turned_once p))
-      × (id_of (board 2 2) (corner_alignment turned_once) (pos 1 ∷ pos 1 ∷ pos 1 ∷ []) 0 ≡ numbered.Id 0)
+      × (id_of (board 2 2) (corner_alignment turned_once) (pos 1 ∷ pos 1 ∷ pos 1 ∷ []) 0 ≡ Some 0)
 
 -- a legacy board with so many rows and cols, otherwise as `board`
 abbrev pub marked : ℕ → ℕ → Board
@@ -190,13 +186,13 @@ pub record OfBoards : Type 0 where
   pub top_left_lands : (p : Coord) → applied (align 1 (pos 5) (pos 8)) (corner 1 p) ≡ applied (align 1 (pos 5) (pos 7)) p
   -- P3's board has markers 0 to 9, numbered in row-major order
   pub markers :
-      ((i : ℕ) × (j : ℕ) × (number_at (holds_marker odd_parity) 5 4 i j ≡ numbered.Id 9))
-      × (square_of odd_parity 4 5 10 ≡ located.Absent)
-      × (number_at (holds_marker odd_parity) 5 4 2 1 ≡ numbered.Id 3)
-      × ((id next : ℕ) → number_at (holds_marker odd_parity) 5 4 4 1 ≡ numbered.Id id → number_at (holds_marker odd_parity) 5 4 1 2 ≡ numbered.Id next → id < next)
+      ((i : ℕ) × (j : ℕ) × (number_at (holds_marker odd_parity) 5 4 i j ≡ Some 9))
+      × (square_of odd_parity 4 5 10 ≡ None)
+      × (number_at (holds_marker odd_parity) 5 4 2 1 ≡ Some 3)
+      × ((id next : ℕ) → number_at (holds_marker odd_parity) 5 4 4 1 ≡ Some id → number_at (holds_marker odd_parity) 5 4 1 2 ≡ Some next → id < next)
   -- there marker 2, on the rim, has no four corners, and marker 3 has these
-  pub four_off_rim : (a b c d : ℕ) → four_corners odd_parity 4 5 2 ≡ surrounding.Corners a b c d → ⊥
-  pub off_rim_four : four_corners odd_parity 4 5 3 ≡ surrounding.Corners 1 2 6 5
+  pub four_off_rim : (a b c d : ℕ) → four_corners odd_parity 4 5 2 ≡ Some (surrounding a b c d) → ⊥
+  pub off_rim_four : four_corners odd_parity 4 5 3 ≡ Some (surrounding 1 2 6 5)
   -- with four rows the legacy flag moves a marker to the top left square, with five it changes nothing
   pub white_top_left : (cols : ℕ) → (holds_marker (parity_of (marked 4 cols)) 0 0 ≡ true) × (holds_marker (parity_of (board 4 cols)) 0 0 ≡ false)
   pub odd_rows : (cols : ℕ) → parity_of (marked 5 cols) ≡ parity_of (board 5 cols)
@@ -252,11 +248,11 @@ pub record OfCorners : Type 0 where
       × ((i j : ℕ) → i < j → j < length (mapped four_inputs) → (get_or (mapped four_inputs) i (result 0 2)).id < (get_or (mapped four_inputs) j (result 0 2)).id)
   -- the result with id 1 is board corner (2, 1)
   pub board_corners_named :
-      (corner_at 4 5 (pos 2) (pos 1) ≡ numbered.Id 1)
-      × (corner_place 4 5 1 ≡ located.At 2 1)
+      (corner_at 4 5 (pos 2) (pos 1) ≡ Some 1)
+      × (corner_place 4 5 1 ≡ Some (position 2 1))
       × (corner_words (board 4 5) (result 1 0) ≡ 1 ∷ 0 ∷ 2 ∷ 1 ∷ 0x40000000 ∷ 0x3F800000 ∷ [])
   -- cell (0, 0) is mapped to the square of marker 3, which has corners 1, 2, 6, 5, after one turn: the cell's lower right corner gets 2
-  pub corners_of_marker : id_of (board 4 5) (corner_alignment (align 1 (pos 2) (pos 1))) (pos 1 ∷ pos 1 ∷ pos 1 ∷ []) 0 ≡ numbered.Id 2
+  pub corners_of_marker : id_of (board 4 5) (corner_alignment (align 1 (pos 2) (pos 1))) (pos 1 ∷ pos 1 ∷ pos 1 ∷ []) 0 ≡ Some 2
 
 -- a shot of a board with two rows and three columns; the cells (0, 0) and (2, 0) read 1 and 3, and the other settings are defaults
 abbrev pub two_by_three : Bool → List ℕ → Shot
@@ -304,7 +300,7 @@ pub record OfRestated : Type 0 where
   -- the legacy record is placed at turn 0 and (0, 0), so the restated one at turn 2 and (2, 1), with that evidence; its two markers are 2 and 1
   pub answers_rule :
       (lent : List ℕ) → 36 ≤ length lent → (m : Match)
-      × (match_answer current_record lent ≡ matched.Placed m)
+      × (match_answer current_record lent ≡ Ok m)
       × (m.best.alignment ≡ align 2 (pos 2) (pos 1))
       × (m.best.evidence ≡ reported legacy_shot (align 0 (pos 0) (pos 0)))
       × (m.corners ≡ align 2 (pos 3) (pos 2))
@@ -314,8 +310,8 @@ pub record OfRestated : Type 0 where
   pub pair_rule :
       (tx ty : ℤ)
       → (exact current_shot (align 3 (pos 2 -ℤ tx) (pos 1 -ℤ ty)) ≡ exact legacy_shot (align 1 tx ty))
-      × ((k : ℕ) → expected legacy_shot (align 1 tx ty) k ≡ numbered.Id 0
-      → expected current_shot (align 3 (pos 2 -ℤ tx) (pos 1 -ℤ ty)) k ≡ numbered.Id 2)
+      × ((k : ℕ) → expected legacy_shot (align 1 tx ty) k ≡ Some 0
+      → expected current_shot (align 3 (pos 2 -ℤ tx) (pos 1 -ℤ ty)) k ≡ Some 2)
   -- the corners 0 and 1 of P3's board become 11 and 10, whatever the input corners
   pub mapped_rule :
       (s : Shot) (first second : Option Sample) (scores : List Float) (grid : List ℤ)

@@ -10,8 +10,6 @@ use Rattle.shot_record.proofs.Reading.{Small}
 use Rattle.shot_record.proofs.Whole.{passed}
 use Rattle.hypothesis.specs.declared.Inputs.{Inputs}
 use Rattle.hypothesis.specs.Inputs.{Loaded}
-use Rattle.board_match.specs.declared.Matched.{Matched}
-use Rattle.board_match.specs.declared.Matched.TheVariants as matched
 use Rattle.board_match.specs.Questions.{asked_before15}
 use Rattle.board_match.specs.Scores.{GivesScored, scored_answer, scored_list, scores_left}
 use Rattle.board_match.specs.Accuracy.{Accuracy}
@@ -19,9 +17,12 @@ use Rattle.board_match.proofs.Answered.{told-passed, told-refused}
 use Rattle.board_match.proofs.Engines.{refused_scored, scored_accurate}
 use Rattle.board_match.proofs.match_board_with_scores.Goals as goal
 use Rattle.board_match.proofs.match_board_with_scores.Goals.{After-load-asked, In-Passed, Start}
+use Rattle.std.specs.Prelude.{Result, Err}
+use Rattle.board_match.specs.declared.Match.{Match}
+use Rattle.refusal.specs.declared.Refusal.{Refusal}
 
 -- the four contracts, from the result and the output arrays
-promised : (bytes : List ℕ) (scores : List Float) (lent : List ℕ) (r : Matched) (filled : List Float) (exit : List ℕ) → Small bytes
+promised : (bytes : List ℕ) (scores : List Float) (lent : List ℕ) (r : Result Match Refusal) (filled : List Float) (exit : List ℕ) → Small bytes
     → GivesScored bytes scores lent r filled exit → (r ≡ scored_answer bytes scores lent)
     × ((exit ≡ scored_list bytes scores lent) × ((filled ≡ scores_left bytes scores lent) × Accuracy bytes r))
 promised bytes scores lent r filled exit small g =
@@ -46,36 +47,36 @@ load-asked-requires c = (c.built_in_table-table.ensures, refl, refl)
 -- a record that passes
 module _ (c : In-Passed) where
   abbrev inputs : Inputs
-  inputs = c.in-Passed.inputs
+  inputs = c.in-Ok.inputs
 
   loaded : Loaded c.args.bytes.now inputs c.load-asked.new.index c.load-asked.new.table c.load-asked.new.codes
-  loaded = c.load-asked.ensures.loaded inputs c.in-Passed.is
+  loaded = c.load-asked.ensures.loaded inputs c.in-Ok.is
 
   asked : asked_before15 (shot c.args.bytes.now) (length c.args.markers.now) ≡ none
   asked =
-      (told-passed c.args.bytes.now (length c.args.markers.now) (passed c.args.bytes.now loaded.ready.whole) inputs (sym c.in-Passed.is ∙ c.load-asked.ensures.answer)).0
+      (told-passed c.args.bytes.now (length c.args.markers.now) (passed c.args.bytes.now loaded.ready.whole) inputs (sym c.in-Ok.is ∙ c.load-asked.ensures.answer)).0
 
 pub match_scored-requires : goal.match_scored-requires
 match_scored-requires c = (loaded (goal.at.match_scored-requires c).In-Passed, asked (goal.at.match_scored-requires c).In-Passed)
 
-pub returns-in-Refused : goal.returns-in-Refused
-returns-in-Refused c =
-    let r = c.in-Refused.refusal in record {
-      answer = (promised c.args.bytes.now c.args.scores.now c.args.markers.now (matched.Refused r) c.args.scores.now c.args.markers.now (small (goal.at.returns-in-Refused c).After-load-asked)
-          (refused_scored c.args.bytes.now c.args.scores.now c.args.markers.now r (told-refused c.args.bytes.now (length c.args.markers.now) r (sym c.in-Refused.is ∙ c.load-asked.ensures.answer)))).0;
-      list = (promised c.args.bytes.now c.args.scores.now c.args.markers.now (matched.Refused r) c.args.scores.now c.args.markers.now (small (goal.at.returns-in-Refused c).After-load-asked)
-          (refused_scored c.args.bytes.now c.args.scores.now c.args.markers.now r (told-refused c.args.bytes.now (length c.args.markers.now) r (sym c.in-Refused.is ∙ c.load-asked.ensures.answer)))).1.0;
-      scores = (promised c.args.bytes.now c.args.scores.now c.args.markers.now (matched.Refused r) c.args.scores.now c.args.markers.now (small (goal.at.returns-in-Refused c).After-load-asked)
-          (refused_scored c.args.bytes.now c.args.scores.now c.args.markers.now r (told-refused c.args.bytes.now (length c.args.markers.now) r (sym c.in-Refused.is ∙ c.load-asked.ensures.answer)))).1.1.0;
-      accuracy = (promised c.args.bytes.now c.args.scores.now c.args.markers.now (matched.Refused r) c.args.scores.now c.args.markers.now (small (goal.at.returns-in-Refused c).After-load-asked)
-          (refused_scored c.args.bytes.now c.args.scores.now c.args.markers.now r (told-refused c.args.bytes.now (length c.args.markers.now) r (sym c.in-Refused.is ∙ c.load-asked.ensures.answer)))).1.1.1;
+pub returns-in-Err : goal.returns-in-Err
+returns-in-Err c =
+    let r = c.in-Err.refusal in record {
+      answer = (promised c.args.bytes.now c.args.scores.now c.args.markers.now (Err r) c.args.scores.now c.args.markers.now (small (goal.at.returns-in-Err c).After-load-asked)
+          (refused_scored c.args.bytes.now c.args.scores.now c.args.markers.now r (told-refused c.args.bytes.now (length c.args.markers.now) r (sym c.in-Err.is ∙ c.load-asked.ensures.answer)))).0;
+      list = (promised c.args.bytes.now c.args.scores.now c.args.markers.now (Err r) c.args.scores.now c.args.markers.now (small (goal.at.returns-in-Err c).After-load-asked)
+          (refused_scored c.args.bytes.now c.args.scores.now c.args.markers.now r (told-refused c.args.bytes.now (length c.args.markers.now) r (sym c.in-Err.is ∙ c.load-asked.ensures.answer)))).1.0;
+      scores = (promised c.args.bytes.now c.args.scores.now c.args.markers.now (Err r) c.args.scores.now c.args.markers.now (small (goal.at.returns-in-Err c).After-load-asked)
+          (refused_scored c.args.bytes.now c.args.scores.now c.args.markers.now r (told-refused c.args.bytes.now (length c.args.markers.now) r (sym c.in-Err.is ∙ c.load-asked.ensures.answer)))).1.1.0;
+      accuracy = (promised c.args.bytes.now c.args.scores.now c.args.markers.now (Err r) c.args.scores.now c.args.markers.now (small (goal.at.returns-in-Err c).After-load-asked)
+          (refused_scored c.args.bytes.now c.args.scores.now c.args.markers.now r (told-refused c.args.bytes.now (length c.args.markers.now) r (sym c.in-Err.is ∙ c.load-asked.ensures.answer)))).1.1.1;
     }
 
-pub returns-in-Passed : goal.returns-in-Passed
-returns-in-Passed c =
+pub returns-in-Ok : goal.returns-in-Ok
+returns-in-Ok c =
     let done = c.match_scored in record {
-      answer = (promised c.args.bytes.now c.args.scores.now c.args.markers.now done.result done.new.scores done.new.markers (small (goal.at.returns-in-Passed c).After-load-asked) done.ensures).0;
-      list = (promised c.args.bytes.now c.args.scores.now c.args.markers.now done.result done.new.scores done.new.markers (small (goal.at.returns-in-Passed c).After-load-asked) done.ensures).1.0;
-      scores = (promised c.args.bytes.now c.args.scores.now c.args.markers.now done.result done.new.scores done.new.markers (small (goal.at.returns-in-Passed c).After-load-asked) done.ensures).1.1.0;
-      accuracy = (promised c.args.bytes.now c.args.scores.now c.args.markers.now done.result done.new.scores done.new.markers (small (goal.at.returns-in-Passed c).After-load-asked) done.ensures).1.1.1;
+      answer = (promised c.args.bytes.now c.args.scores.now c.args.markers.now done.result done.new.scores done.new.markers (small (goal.at.returns-in-Ok c).After-load-asked) done.ensures).0;
+      list = (promised c.args.bytes.now c.args.scores.now c.args.markers.now done.result done.new.scores done.new.markers (small (goal.at.returns-in-Ok c).After-load-asked) done.ensures).1.0;
+      scores = (promised c.args.bytes.now c.args.scores.now c.args.markers.now done.result done.new.scores done.new.markers (small (goal.at.returns-in-Ok c).After-load-asked) done.ensures).1.1.0;
+      accuracy = (promised c.args.bytes.now c.args.scores.now c.args.markers.now done.result done.new.scores done.new.markers (small (goal.at.returns-in-Ok c).After-load-asked) done.ensures).1.1.1;
     }

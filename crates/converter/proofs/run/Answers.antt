@@ -10,4 +10,4 @@ slice_bounds-convert-end c =
     sym (length-take-le end.result c.read_all-input.new.bytes (omega (arith, end.ensures)))
 
 pub put_sheet-requires : goal.put_sheet-requires
-put_sheet-requires c = c.convert-answer.ensures.room c.in-Written.count c.in-Written.is
+put_sheet-requires c = c.convert-answer.ensures.room c.in-Ok.count c.in-Ok.is

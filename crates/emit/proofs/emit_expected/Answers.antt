@@ -15,35 +15,34 @@ use Rattle.hypothesis.specs.Placements.{no_cell, cell}
 use Rattle.hypothesis.specs.Evidence.{board_in}
 use Rattle.hypothesis.proofs.IndexedCells.{board-is, config_is, has-grid, few_bits}
 use Rattle.emit.specs.declared.candidates.Candidate.{Candidate}
-use Rattle.emit.specs.declared.candidates.Expected.{Expected}
-use Rattle.emit.specs.declared.candidates.Expected.TheVariants as expectation
 use Rattle.emit.specs.Markers.{Marker, marker_words}
 use Rattle.emit.specs.Candidates.{OfCell, emitted_from, emitted_for}
 use Rattle.emit.proofs.emit_expected.Goals as goal
 use Rattle.emit.proofs.emit_expected.Goals.{After-grid-grid}
+use Rattle.std.specs.Prelude.{Option, Some}
 
 pub returns-in_default : goal.returns-in_default
 unfolding flat_map
 returns-in_default c =
     let x = c.args in
-    put_as (ap (λ (e : Expected). flat_map marker_words (emitted_for (shot x.bytes.now) e)) (sym c.in_default.is))
+    put_as (ap (λ (e : Option Candidate). flat_map marker_words (emitted_for (shot x.bytes.now) e)) (sym c.in_default.is))
     (nothing_put x.markers.now x.at)
 
 -- a candidate is of a sampled cell
-its_cell : (s : Shot) (e : Expected) (d : Candidate) → e ≡ expectation.Marker d → OfCell s e → OfCell s (expectation.Marker d)
+its_cell : (s : Shot) (e : Option Candidate) (d : Candidate) → e ≡ Some d → OfCell s e → OfCell s (Some d)
 its_cell s e d is h = subst (OfCell s) is h
 
 pub grid-grid-requires : goal.grid-grid-requires
 grid-grid-requires c =
-    has-grid c.args.bytes.now c.args.inputs c.args.index.now c.requires.ready.0 c.in-Marker.c.cell
-    (its_cell (shot c.args.bytes.now) c.args.expected c.in-Marker.c c.in-Marker.is c.requires.ready.2).0
+    has-grid c.args.bytes.now c.args.inputs c.args.index.now c.requires.ready.0 c.in-Some.c.cell
+    (its_cell (shot c.args.bytes.now) c.args.expected c.in-Some.c c.in-Some.is c.requires.ready.2).0
 
 -- the grid is that of the cell, and has side² bytes
 module _ (c : After-grid-grid) where
-  of : OfCell (shot c.args.bytes.now) (expectation.Marker c.in-Marker.c)
-  of = its_cell (shot c.args.bytes.now) c.args.expected c.in-Marker.c c.in-Marker.is c.requires.ready.2
+  of : OfCell (shot c.args.bytes.now) (Some c.in-Some.c)
+  of = its_cell (shot c.args.bytes.now) c.args.expected c.in-Some.c c.in-Some.is c.requires.ready.2
 
-  inside : c.in-Marker.c.cell < cell_count c.args.bytes.now
+  inside : c.in-Some.c.cell < cell_count c.args.bytes.now
   inside = omega (arith, of.0, cell_count_is c.args.bytes.now)
 
   abbrev board : Board
@@ -52,31 +51,31 @@ module _ (c : After-grid-grid) where
   its_board : board ≡ board_in (shot c.args.bytes.now)
   its_board = board-is (shot c.args.bytes.now) c.args.inputs c.requires.ready.0.is
 
-  grid-is : c.grid-grid.result.now ≡ grid_with (cell (shot c.args.bytes.now) c.in-Marker.c.cell).sample
+  grid-is : c.grid-grid.result.now ≡ grid_with (cell (shot c.args.bytes.now) c.in-Some.c.cell).sample
   grid-is =
       c.grid-grid.ensures
-      ∙ sym (ap (λ (x : Cell). grid_with x.sample) (cell-is c.args.bytes.now c.in-Marker.c.cell no_cell inside))
+      ∙ sym (ap (λ (x : Cell). grid_with x.sample) (cell-is c.args.bytes.now c.in-Some.c.cell no_cell inside))
 
   whole_grid_lem : length c.grid-grid.result.now ≡ grid_size board.bits board.border_bits
   whole_grid_lem =
       let o = of.1 in
       ap length (grid-is ∙ ap grid_with o.1)
-      ∙ c.requires.ready.0.passed.grids c.in-Marker.c.cell o.0 o.1
+      ∙ c.requires.ready.0.passed.grids c.in-Some.c.cell o.0 o.1
       ∙ sym (ap (λ (b : Board). grid_size b.bits b.border_bits) its_board)
 
   abbrev emitted_here : List Marker
   emitted_here =
       let x = c.args in
-      let d = c.in-Marker.c in
+      let d = c.in-Some.c in
       emitted_from x.inputs.config x.table.now (samples board.bits board.border_bits d.threshold c.grid-grid.result.now) d
 
   same : emitted_here ≡ emitted_for (shot c.args.bytes.now) c.args.expected
   same =
       let h = c.requires.ready in
-      let d = c.in-Marker.c in
+      let d = c.in-Some.c in
       (λ i. emitted_from (config_is (shot c.args.bytes.now) c.args.inputs h.0.is i) (h.1 i)
       (samples (its_board i).bits (its_board i).border_bits d.threshold (grid-is i)) d)
-      ∙ ap (emitted_for (shot c.args.bytes.now)) (sym c.in-Marker.is)
+      ∙ ap (emitted_for (shot c.args.bytes.now)) (sym c.in-Some.is)
 
 pub emit_marker-requires : goal.emit_marker-requires
 emit_marker-requires c =

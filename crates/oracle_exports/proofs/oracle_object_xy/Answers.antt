@@ -2,14 +2,14 @@
 use mathlib.Core.Path.{◌≡◌, refl, sym, ap, ◌∙◌}
 use Prim.Native.Nat.{ℕ, zero, suc}
 use lib.Ieee.{Float, div, round, of_bits, of_fields, odd}
-use Rattle.board.specs.declared.ObjectPoint.{ObjectPoint}
-use Rattle.board.specs.declared.ObjectPoint.TheVariants as object
 use Rattle.board.specs.Layout.{object_point}
 use Rattle.oracle_exports.specs.Words.{axis_of_point}
 use Rattle.oracle_exports.proofs.oracle_object_xy.Goals as goal
 use Rattle.oracle_exports.proofs.oracle_object_xy.Goals.{After-charuco_object_xy-point}
+use Rattle.std.specs.Prelude.{Option, Some}
+use Rattle.board.specs.declared.ObjectPoint.{ObjectPoint}
 
-second : (axis : ℕ) (x y : Float) → (axis ≡ 0 → ⊥) → y ≡ axis_of_point (object.At x y) axis
+second : (axis : ℕ) (x y : Float) → (axis ≡ 0 → ⊥) → y ≡ axis_of_point (Some x y) axis
 second zero x y h = absurd (h refl)
 second (suc k) x y h = refl
 
@@ -21,17 +21,17 @@ point-is c =
 pub returns-then-axis-eq0 : goal.returns-then-axis-eq0
 returns-then-axis-eq0 c =
     let axis = c.args.axis in
-    ap (axis_of_point (object.At c.in-At.x c.in-At.y)) (sym c.if-axis-eq0.true)
-    ∙ ap (λ (o : ObjectPoint). axis_of_point o axis) (sym c.in-At.is ∙ point-is (goal.at.returns-then-axis-eq0 c).After-charuco_object_xy-point)
+    ap (axis_of_point (Some c.in-Some.x c.in-Some.y)) (sym c.if-axis-eq0.true)
+    ∙ ap (λ (o : Option ObjectPoint). axis_of_point o axis) (sym c.in-Some.is ∙ point-is (goal.at.returns-then-axis-eq0 c).After-charuco_object_xy-point)
 
 pub returns-else-axis-eq0 : goal.returns-else-axis-eq0
 returns-else-axis-eq0 c =
     let axis = c.args.axis in
-    second axis c.in-At.x c.in-At.y c.if-axis-eq0.false
-    ∙ ap (λ (o : ObjectPoint). axis_of_point o axis) (sym c.in-At.is ∙ point-is (goal.at.returns-else-axis-eq0 c).After-charuco_object_xy-point)
+    second axis c.in-Some.x c.in-Some.y c.if-axis-eq0.false
+    ∙ ap (λ (o : Option ObjectPoint). axis_of_point o axis) (sym c.in-Some.is ∙ point-is (goal.at.returns-else-axis-eq0 c).After-charuco_object_xy-point)
 
-pub returns-in-Absent : goal.returns-in-Absent
+pub returns-in-None : goal.returns-in-None
 unfolding div round of_bits of_fields odd
-returns-in-Absent c =
-    ap (λ (o : ObjectPoint). axis_of_point o c.args.axis)
-    (sym c.in-Absent.is ∙ point-is (goal.at.returns-in-Absent c).After-charuco_object_xy-point)
+returns-in-None c =
+    ap (λ (o : Option ObjectPoint). axis_of_point o c.args.axis)
+    (sym c.in-None.is ∙ point-is (goal.at.returns-in-None c).After-charuco_object_xy-point)

@@ -3,31 +3,28 @@ use mathlib.Core.Path.{◌≡◌}
 use mathlib.Core.Bool.{true, false}
 use lib.Ieee.{Float, binary32, of_bits, of_fields, odd, sub, div, lt, le}
 use Rattle.floats.specs.Units.{nought, unity}
-use Rattle.ranking.specs.declared.Evidence.{Evidence}
-use Rattle.ranking.specs.declared.Evidence.TheVariants as evidence
 use Rattle.ranking.specs.declared.Hypothesis.{Hypothesis}
-use Rattle.ranking.specs.declared.Choice.{Choice}
-use Rattle.ranking.specs.declared.Choice.TheVariants as choice
 use Rattle.ranking.specs.Margin.{epsilon, margin}
 use Rattle.ranking.proofs.margin.Goals as goal
+use Rattle.std.specs.Prelude.{Option, Some, None}
 
-module _ (best : Evidence) (cap : Float) (next : Choice) where
-  none_given : best ≡ evidence.Absent → nought ≡ margin best cap next
+module _ (best : Option Float) (cap : Float) (next : Option Hypothesis) where
+  none_given : best ≡ None → nought ≡ margin best cap next
   none_given e = rw e
 
-  module _ (x : Float) (e : best ≡ evidence.Number x) where
+  module _ (x : Float) (e : best ≡ Some x) where
     at_most : le x nought ≡ true → nought ≡ margin best cap next
     at_most t = rw (e, t)
 
     module _ (t : le x nought ≡ false) where
-      alone : next ≡ choice.Absent → unity ≡ margin best cap next
+      alone : next ≡ None → unity ≡ margin best cap next
       alone n = rw (e, t, n)
 
-      module _ (g : Hypothesis) (n : next ≡ choice.Placement g) where
-        next_none : g.evidence ≡ evidence.Absent → unity ≡ margin best cap next
+      module _ (g : Hypothesis) (n : next ≡ Some g) where
+        next_none : g.evidence ≡ None → unity ≡ margin best cap next
         next_none k = rw (e, t, n, k)
 
-        module _ (y : Float) (k : g.evidence ≡ evidence.Number y) where
+        module _ (y : Float) (k : g.evidence ≡ Some y) where
           little : lt cap epsilon ≡ true → div binary32 (sub binary32 x y) epsilon ≡ margin best cap next
           little l = rw (e, t, n, k, l)
 
@@ -42,31 +39,31 @@ pub returns-then-x : goal.returns-then-x
 unfolding of_bits of_fields odd
 returns-then-x c =
     let a = c.args in
-    at_most a.best a.best_capacity a.runner_up c.in-Number.x c.in-Number.is c.if-x.true
+    at_most a.best a.best_capacity a.runner_up c.in-Some.x c.in-Some.is c.if-x.true
 
 pub returns-in_default-runner_up : goal.returns-in_default-runner_up
 unfolding of_bits of_fields odd
 returns-in_default-runner_up c =
     let a = c.args in
-    alone a.best a.best_capacity a.runner_up c.in-Number.x c.in-Number.is c.if-x.false c.in_default-runner_up.is
+    alone a.best a.best_capacity a.runner_up c.in-Some.x c.in-Some.is c.if-x.false c.in_default-runner_up.is
 
 pub returns-in_default-evidence : goal.returns-in_default-evidence
 unfolding of_bits of_fields odd
 returns-in_default-evidence c =
     let a = c.args in
-    next_none a.best a.best_capacity a.runner_up c.in-Number.x c.in-Number.is c.if-x.false c.in-Placement.second c.in-Placement.is
+    next_none a.best a.best_capacity a.runner_up c.in-Some.x c.in-Some.is c.if-x.false c.in-Some.second c.in-Some.is
     c.in_default-evidence.is
 
 pub returns-then-best_capacity : goal.returns-then-best_capacity
 unfolding of_bits of_fields odd
 returns-then-best_capacity c =
     let a = c.args in
-    little a.best a.best_capacity a.runner_up c.in-Number.x c.in-Number.is c.if-x.false
-    c.in-Placement.second c.in-Placement.is c.in-Number-evidence.y c.in-Number-evidence.is c.if-best_capacity.true
+    little a.best a.best_capacity a.runner_up c.in-Some.x c.in-Some.is c.if-x.false
+    c.in-Some.second c.in-Some.is c.in-Some-evidence.y c.in-Some-evidence.is c.if-best_capacity.true
 
 pub returns-else-best_capacity : goal.returns-else-best_capacity
 unfolding of_bits of_fields odd
 returns-else-best_capacity c =
     let a = c.args in
-    enough a.best a.best_capacity a.runner_up c.in-Number.x c.in-Number.is c.if-x.false
-    c.in-Placement.second c.in-Placement.is c.in-Number-evidence.y c.in-Number-evidence.is c.if-best_capacity.false
+    enough a.best a.best_capacity a.runner_up c.in-Some.x c.in-Some.is c.if-x.false
+    c.in-Some.second c.in-Some.is c.in-Some-evidence.y c.in-Some-evidence.is c.if-best_capacity.false

@@ -3,34 +3,33 @@ use mathlib.Core.Path.{◌≡◌, sym, ◌∙◌}
 use Prim.Native.Nat.{◌+◌}
 use mathlib.Core.Bool.{true, false}
 use Rattle.ranking.specs.declared.Hypothesis.{Hypothesis}
-use Rattle.ranking.specs.declared.Choice.{Choice}
-use Rattle.ranking.specs.declared.Choice.TheVariants as choice
 use Rattle.ranking.specs.declared.Ranking.{Ranking}
 use Rattle.ranking.specs.Greatest.{lies_below}
 use Rattle.ranking.specs.Ranking.{ranking, better, ranked}
 use Rattle.ranking.proofs.ranked.Goals as goal
+use Rattle.std.specs.Prelude.{Option, Some, None}
 
 module _ (k : Ranking) (h : Hypothesis) where
-  first : k.best ≡ choice.Absent → ranking (choice.Placement h) choice.Absent (k.total + 1) ≡ ranked k h
+  first : k.best ≡ None → ranking (Some h) None (k.total + 1) ≡ ranked k h
   first p = rw p
 
-  module _ (b : Hypothesis) (p : k.best ≡ choice.Placement b) where
-    above : lies_below b.evidence h.evidence ≡ true → ranking (choice.Placement h) (choice.Placement b) (k.total + 1) ≡ ranked k h
+  module _ (b : Hypothesis) (p : k.best ≡ Some b) where
+    above : lies_below b.evidence h.evidence ≡ true → ranking (Some h) (Some b) (k.total + 1) ≡ ranked k h
     above t = rw (p, t)
 
-    not_above : (x : Choice) → lies_below b.evidence h.evidence ≡ false → x ≡ better k.runner_up h
-        → ranking (choice.Placement b) x (k.total + 1) ≡ ranked k h
+    not_above : (x : Option Hypothesis) → lies_below b.evidence h.evidence ≡ false → x ≡ better k.runner_up h
+        → ranking (Some b) x (k.total + 1) ≡ ranked k h
     not_above x t e = rw (p, t, e)
 
-pub returns-in-Absent : goal.returns-in-Absent
-returns-in-Absent c = let a = c.args in first a.ranking a.h c.in-Absent.is
+pub returns-in-None : goal.returns-in-None
+returns-in-None c = let a = c.args in first a.ranking a.h c.in-None.is
 
 pub returns-then-below : goal.returns-then-below
 returns-then-below c =
     let a = c.args in
-    above a.ranking a.h c.in-Placement.b c.in-Placement.is (sym c.below.ensures ∙ c.if-below.true)
+    above a.ranking a.h c.in-Some.b c.in-Some.is (sym c.below.ensures ∙ c.if-below.true)
 
 pub returns-else-below : goal.returns-else-below
 returns-else-below c =
     let a = c.args in
-    not_above a.ranking a.h c.in-Placement.b c.in-Placement.is c.better.result (sym c.below.ensures ∙ c.if-below.false) c.better.ensures
+    not_above a.ranking a.h c.in-Some.b c.in-Some.is c.better.result (sym c.below.ensures ∙ c.if-below.false) c.better.ensures

@@ -3,17 +3,19 @@ use mathlib.Core.Path.{◌≡◌, ap₂, subst, ◌∙◌}
 use mathlib.Core.List.{List}
 use Prim.Native.Nat.{ℕ, ◌≤◌}
 use lib.ListN.{length}
-use Rattle.shot_record.specs.declared.ReadHeader.{ReadHeader}
-use Rattle.board_match.specs.declared.Matched.{Matched}
 use Rattle.place_text.proofs.Printing.{said}
 use Rattle.refusal_values.specs.Values.{number_in, value_in, minimum_in, words_line}
 use Rattle.refusal_values.proofs.put_values.Goals as goal
+use Rattle.std.specs.Prelude.{Result}
+use Rattle.board_match.specs.declared.Match.{Match}
+use Rattle.refusal.specs.declared.Refusal.{Refusal}
+use Rattle.shot_record.specs.declared.Header.{Header}
 
 -- the line for a result and a header
-abbrev line_of : Matched → ReadHeader → List ℕ
+abbrev line_of : Result Match Refusal → Result Header Refusal → List ℕ
 line_of a h = words_line (number_in a) (value_in a 0) (value_in a 1) (minimum_in h)
 
-words : {k x y z : ℕ} (a : Matched) (h : ReadHeader) → k ≡ number_in a → x ≡ value_in a 0 → y ≡ value_in a 1 → z ≡ minimum_in h
+words : {k x y z : ℕ} (a : Result Match Refusal) (h : Result Header Refusal) → k ≡ number_in a → x ≡ value_in a 0 → y ≡ value_in a 1 → z ≡ minimum_in h
     → words_line k x y z ≡ line_of a h
 words a h ek ex ey ez = λ i. words_line (ek i) (ex i) (ey i) (ez i)
 

@@ -1,12 +1,12 @@
 -- `reread::print_whole` meets its contract: each turn prints entries and moves the bytes after them. Assumes nothing.
 use Rattle.std.proofs.Common.{◌≡◌, sym, subst, ℕ, ◌≤◌, List, length, take, arith, rules, length-take-le}
-use Rattle.log_text.specs.declared.Highest.{Highest}
 use Rattle.log_text.specs.Rules.{Took}
 use Rattle.log_text.proofs.Laws.{empty_not_whole}
 use Rattle.reread.proofs.Rests.{Printing, none_printed, more_printed}
 use Rattle.reread.proofs.print_whole.Goals as goal
+use Rattle.std.specs.Prelude.{Option}
 
-module _ {h : Highest} {bytes₀ : List ℕ} {count : ℕ} {bytes : List ℕ} {left : ℕ} {seen : Highest} (p : Printing h bytes₀ count bytes left seen) where
+module _ {h : (Option ℕ)} {bytes₀ : List ℕ} {count : ℕ} {bytes : List ℕ} {left : ℕ} {seen : (Option ℕ)} (p : Printing h bytes₀ count bytes left seen) where
   left_within : left ≤ length bytes
   left_within = omega (arith, p.size, p.within)
 

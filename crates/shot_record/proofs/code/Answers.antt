@@ -3,13 +3,13 @@ use mathlib.Core.Path.{◌≡◌, refl, ap}
 use Prim.Native.Nat.{ℕ, ◌+◌, ◌*◌}
 use native.Mathlib.Omega.{arith}
 use mathlib.Core.List.{List}
-use Rattle.shot_record.specs.declared.ReadCode.TheVariants as code
 use Rattle.shot_record.specs.Fields.{number, codes_at, code_count}
 use Rattle.shot_record.proofs.Lists.{get_elem?_list, get_elem?_list_past}
 use Rattle.shot_record.proofs.Reading.{found}
 use Rattle.shot_record.proofs.Whole.{Whole, whole_if, refused_if, parse-whole}
 use Rattle.shot_record.proofs.code.Goals as goal
 use Rattle.shot_record.proofs.code.Goals.{Else-not-is_whole}
+use Rattle.std.specs.Prelude.{Some, Ok}
 
 is_whole : (c : Else-not-is_whole) → Whole c.args.bytes.now
 is_whole c = let w = c.is_whole in whole_if _ w.result w.ensures c.if-not-is_whole.false-raw
@@ -36,4 +36,4 @@ returns c =
     let bytes = c.args.bytes.now in
     let k = c.args.k in
     rw (parse-whole _ (is_whole (goal.at.returns c).Else-not-is_whole), get_elem?_list (code_of bytes) (code_count bytes) k (omega (arith, count (goal.at.returns c).Else-not-is_whole, c.if-f-k.false)))
-    (ap code.Code c.code.ensures)
+    (ap (λ x. Ok (Some x)) c.code.ensures)

@@ -1,13 +1,13 @@
 -- `shot_record::table_entry` meets its contract. Assumes nothing.
 use mathlib.Core.Path.{refl, ap}
 use native.Mathlib.Omega.{arith}
-use Rattle.shot_record.specs.declared.ReadEntry.TheVariants as entry
 use Rattle.shot_record.specs.Shots.{shot}
 use Rattle.shot_record.proofs.Lists.{get_elem?_inside, get_elem?_past}
 use Rattle.shot_record.proofs.Reading.{table_size}
 use Rattle.shot_record.proofs.Whole.{Whole, whole_if, refused_if, parse-whole}
 use Rattle.shot_record.proofs.table_entry.Goals as goal
 use Rattle.shot_record.proofs.table_entry.Goals.{Else-not-is_whole}
+use Rattle.std.specs.Prelude.{Some, Ok}
 
 is_whole : (c : Else-not-is_whole) → Whole c.args.bytes.now
 is_whole c = let w = c.is_whole in whole_if _ w.result w.ensures c.if-not-is_whole.false-raw
@@ -24,4 +24,4 @@ pub returns : goal.returns
 returns c =
     let x = c.args in
     rw (parse-whole _ (is_whole (goal.at.returns c).Else-not-is_whole), get_elem?_inside (shot x.bytes.now).table x.k 0 (omega (arith, table_size x.bytes.now, c.if-k-gt510.false)))
-    (ap entry.Entry c.table_entry.ensures)
+    (ap (λ x. Ok (Some x)) c.table_entry.ensures)

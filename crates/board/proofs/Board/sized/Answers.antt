@@ -6,12 +6,12 @@ use native.Mathlib.Omega.{arith}
 use lib.Dec.{leb, ltb}
 use borrow.Author.Tests.{not-true, not-false, lt-leb, le-leb, lt-ltb, le-ltb}
 use Rattle.refusal.specs.declared.Refusal.TheVariants as refusal
-use Rattle.board.specs.declared.NewBoard.TheVariants as new
 use Rattle.board.specs.Layout.{marker_total}
 use Rattle.board.specs.Questions.{size_answer, cell_size_answer, marker_size_answer, range_answer, board_of, asked_of_size}
 use Rattle.board.proofs.Asked.{InRange, in_range}
 use Rattle.board.proofs.Board.sized.Goals as goal
 use Rattle.board.proofs.Board.sized.Goals.{After-marker_count-needed, Else-count-eq0, Else-not-cell_size, Else-not-marker_size_rel, Else-not-range, Else-not-size, Else-spec-lt1, Start}
+use Rattle.std.specs.Prelude.{Ok, Err}
 
 -- ---- the questions that passed
 yes1 : (c : Else-not-size) → size_answer c.args.spec.rows c.args.spec.cols ≡ true
@@ -104,7 +104,7 @@ returns-then-available-needed c =
     let n = needed (goal.at.returns-then-available-needed c).After-marker_count-needed in
     let e = at6 (goal.at.returns-then-available-needed c).Else-not-range in
     let f = at4 e.before in
-    ap (λ (k : ℕ). new.Refused (refusal.NotEnoughDictionaryCodes k c.args.count)) n
+    ap (λ (k : ℕ). Err (refusal.NotEnoughDictionaryCodes k c.args.count)) n
     ∙ rw
     (yes1 (at2 (at3 f)), yes2 (at3 f), yes3 f, yes4 e.before, yes5 e, yes6 (goal.at.returns-then-available-needed c).Else-not-range, lt-leb (count (goal.at.returns-then-available-needed c).After-marker_count-needed) c.args.count (omega (arith, n, c.if-available-needed.true)))
 
@@ -113,6 +113,6 @@ unfolding asked_of_size
 returns c =
     let e = at6 (goal.at.returns c).Else-not-range in
     let f = at4 e.before in
-    ap new.Made c.board_of-board.ensures
+    ap Ok c.board_of-board.ensures
     ∙ rw
     (yes1 (at2 (at3 f)), yes2 (at3 f), yes3 f, yes4 e.before, yes5 e, yes6 (goal.at.returns c).Else-not-range, le-leb (count (goal.at.returns c).After-marker_count-needed) c.args.count (omega (arith, needed (goal.at.returns c).After-marker_count-needed, c.if-available-needed.false)))

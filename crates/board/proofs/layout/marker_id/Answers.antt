@@ -4,7 +4,6 @@ use mathlib.Core.Bool.{Bool, true, false}
 use Prim.Native.Nat.{ℕ, ◌+◌, ◌*◌, ◌/◌}
 use native.Mathlib.Omega.{arith}
 use borrow.Author.Tests.{not-true, not-false}
-use Rattle.board.specs.declared.Numbered.TheVariants as numbered
 use Rattle.board.specs.Numbering.{number_if, number_at}
 use Rattle.board.specs.Layout.{holds_marker}
 use Rattle.board.proofs.Places.{unnumbered}
@@ -12,6 +11,7 @@ use Rattle.board.proofs.Formulas.{area_small}
 use Rattle.board.proofs.Markers.{number-on}
 use Rattle.board.proofs.layout.marker_id.Goals as goal
 use Rattle.board.proofs.layout.marker_id.Goals.{After-holds_marker, Start}
+use Rattle.std.specs.Prelude.{Some}
 
 abbrev start : After-holds_marker → Start
 start c = c.before.before.before
@@ -46,4 +46,4 @@ overflow_cast-result c =
     omega (arith, c.id_on.ensures, c.if-cols-x.false, f.cols.fits, area)
 
 pub returns : goal.returns
-returns c = ap numbered.Id c.id_on.ensures ∙ sym (on c.before.before true (not-false _ c.if-not-holds_marker.false-raw))
+returns c = ap Some c.id_on.ensures ∙ sym (on c.before.before true (not-false _ c.if-not-holds_marker.false-raw))

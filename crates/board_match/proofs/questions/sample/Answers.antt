@@ -3,5 +3,5 @@ use mathlib.Core.Path.{sym, ap, ◌∙◌}
 use Rattle.board_match.specs.Entries.{border_answer}
 use Rattle.board_match.proofs.questions.sample.Goals as goal
 
-pub returns-in-BlackFraction : goal.returns-in-BlackFraction
-returns-in-BlackFraction c = c.in_unit_interval.ensures ∙ ap border_answer (sym c.in-BlackFraction.is)
+pub returns-in-Some : goal.returns-in-Some
+returns-in-Some c = c.in_unit_interval.ensures ∙ ap border_answer (sym c.in-Some.is)

@@ -3,5 +3,5 @@ use mathlib.Core.Path.{sym, ap}
 use Rattle.charuco.specs.Entries.{contributing_to}
 use Rattle.charuco.proofs.matches.contributing_to.Goals as goal
 
-pub returns-in-Placement : goal.returns-in-Placement
-returns-in-Placement c = sym (ap contributing_to c.in-Placement.is)
+pub returns-in-Some : goal.returns-in-Some
+returns-in-Some c = sym (ap contributing_to c.in-Some.is)

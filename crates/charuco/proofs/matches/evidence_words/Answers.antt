@@ -4,5 +4,5 @@ use mathlib.Core.List.{[], ◌∷◌}
 use Rattle.charuco.specs.Entries.{evidence_words}
 use Rattle.charuco.proofs.matches.evidence_words.Goals as goal
 
-pub returns-in-Number : goal.returns-in-Number
-returns-in-Number c = (λ i. 1 ∷ c.to_bits.ensures i ∷ []) ∙ sym (ap evidence_words c.in-Number.is)
+pub returns-in-Some : goal.returns-in-Some
+returns-in-Some c = (λ i. 1 ∷ c.to_bits.ensures i ∷ []) ∙ sym (ap evidence_words c.in-Some.is)

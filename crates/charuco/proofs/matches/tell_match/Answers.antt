@@ -5,9 +5,9 @@ use Rattle.charuco.specs.Answers.{worked}
 use Rattle.charuco.proofs.Giving.{telling}
 use Rattle.charuco.proofs.matches.tell_match.Goals as goal
 
-pub returns-in-Placed : goal.returns-in-Placed
-returns-in-Placed c =
-    telling (ap worked c.match_words-words.ensures ∙ sym (ap match_told c.in-Placed.is)) c.worked.ensures
+pub returns-in-Ok : goal.returns-in-Ok
+returns-in-Ok c =
+    telling (ap worked c.match_words-words.ensures ∙ sym (ap match_told c.in-Ok.is)) c.worked.ensures
 
-pub returns-in-Refused : goal.returns-in-Refused
-returns-in-Refused c = telling (sym (ap match_told c.in-Refused.is)) c.refused.ensures
+pub returns-in-Err : goal.returns-in-Err
+returns-in-Err c = telling (sym (ap match_told c.in-Err.is)) c.refused.ensures

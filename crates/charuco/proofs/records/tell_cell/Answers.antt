@@ -22,22 +22,22 @@ returns-in-Sampled c =
     ∙ sym (ap cell_told c.in-Sampled.is))
     c.worked.ensures
 
-pub returns-in-Unsampled : goal.returns-in-Unsampled
-returns-in-Unsampled c =
+pub returns-in-None : goal.returns-in-None
+returns-in-None c =
     telling
     ((λ i.
     worked
     (1
-    ∷ (c.coordinate_word-in-Unsampled.ensures ∙ coordinate_is c.in-Unsampled.u (search rules)) i
-    ∷ (c.coordinate_word-in-Unsampled-2.ensures ∙ coordinate_is c.in-Unsampled.v (search rules)) i
+    ∷ (c.coordinate_word-in-None.ensures ∙ coordinate_is c.in-None.u (search rules)) i
+    ∷ (c.coordinate_word-in-None-2.ensures ∙ coordinate_is c.in-None.v (search rules)) i
     ∷ 0
     ∷ 0
     ∷ []))
-    ∙ sym (ap cell_told c.in-Unsampled.is))
-    c.worked-in-Unsampled.ensures
+    ∙ sym (ap cell_told c.in-None.is))
+    c.worked-in-None.ensures
 
-pub returns-in-Absent : goal.returns-in-Absent
-returns-in-Absent c = telling (sym (ap cell_told c.in-Absent.is)) c.worked-in-Absent.ensures
+pub returns-in-None : goal.returns-in-None
+returns-in-None c = telling (sym (ap cell_told c.in-None.is)) c.worked-in-None.ensures
 
-pub returns-in-Refused : goal.returns-in-Refused
-returns-in-Refused c = telling (sym (ap cell_told c.in-Refused.is)) c.refused.ensures
+pub returns-in-Err : goal.returns-in-Err
+returns-in-Err c = telling (sym (ap cell_told c.in-Err.is)) c.refused.ensures

@@ -7,8 +7,8 @@ use Rattle.charuco.proofs.records.tell_code.Goals as goal
 pub returns-in-Code : goal.returns-in-Code
 returns-in-Code c = telling (sym (ap code_told c.in-Code.is)) c.worked.ensures
 
-pub returns-in-Absent : goal.returns-in-Absent
-returns-in-Absent c = telling (sym (ap code_told c.in-Absent.is)) c.worked-in-Absent.ensures
+pub returns-in-None : goal.returns-in-None
+returns-in-None c = telling (sym (ap code_told c.in-None.is)) c.worked-in-None.ensures
 
-pub returns-in-Refused : goal.returns-in-Refused
-returns-in-Refused c = telling (sym (ap code_told c.in-Refused.is)) c.refused.ensures
+pub returns-in-Err : goal.returns-in-Err
+returns-in-Err c = telling (sym (ap code_told c.in-Err.is)) c.refused.ensures

@@ -10,8 +10,8 @@ pub returns-in-Entry : goal.returns-in-Entry
 returns-in-Entry c =
     telling ((λ i. worked (1 ∷ c.to_bits.ensures i ∷ [])) ∙ sym (ap entry_told c.in-Entry.is)) c.worked.ensures
 
-pub returns-in-Absent : goal.returns-in-Absent
-returns-in-Absent c = telling (sym (ap entry_told c.in-Absent.is)) c.worked-in-Absent.ensures
+pub returns-in-None : goal.returns-in-None
+returns-in-None c = telling (sym (ap entry_told c.in-None.is)) c.worked-in-None.ensures
 
-pub returns-in-Refused : goal.returns-in-Refused
-returns-in-Refused c = telling (sym (ap entry_told c.in-Refused.is)) c.refused.ensures
+pub returns-in-Err : goal.returns-in-Err
+returns-in-Err c = telling (sym (ap entry_told c.in-Err.is)) c.refused.ensures

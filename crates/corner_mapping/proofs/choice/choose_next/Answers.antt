@@ -4,7 +4,6 @@ use mathlib.Core.List.{List}
 use Prim.Native.Nat.{ℕ, ◌≤◌, ◌<◌}
 use native.Mathlib.Omega.{arith}
 use lib.ListN.{length, get_or}
-use Rattle.board.specs.declared.Numbered.TheVariants as numbered
 use Rattle.marker_sampling.specs.Entry.{corners}
 use Rattle.marker_sampling.proofs.Placing.{both_within}
 use Rattle.corner_mapping.specs.Corners.{Input, id_of}
@@ -14,13 +13,14 @@ use Rattle.corner_mapping.proofs.Ids.{id_below, few-corners}
 use Rattle.corner_mapping.proofs.Choices.{stored-below, chosen-same, chosen_more}
 use Rattle.corner_mapping.proofs.choice.choose_next.Goals as goal
 use Rattle.corner_mapping.proofs.choice.choose_next.Goals.{In-Id, Start}
+use Rattle.std.specs.Prelude.{Some}
 
 -- the preconditions of the calls
 module _ (x : Input) (r : InputInRange x) (k : ℕ) (l : k < length x.scores) where
   near : NearCorner x.grid k
   near e = both_within 4096 (corners x.scores x.grid) (length x.scores) k l r.all_placed e
 
-  small : (id : ℕ) → id_of x.board x.alignment x.grid k ≡ numbered.Id id → id < 1024
+  small : (id : ℕ) → id_of x.board x.alignment x.grid k ≡ Some id → id < 1024
   small id e = omega (arith, id_below x.board x.alignment x.grid k id e, few-corners x.board.rows x.board.cols r.rows r.cols)
 
   earlier : (choices : List ℕ) (id : ℕ) → ChoicesHeld x k choices → id < 1024 → get_or choices id 0 ≤ k
@@ -40,10 +40,10 @@ id_of-found-requires c =
 -- corner k has an id
 module _ (c : In-Id) where
   abbrev id : ℕ
-  id = c.in-Id.id
+  id = c.in-Some.id
 
-  id-is : id_of c.args.board c.args.alignment c.args.grid.now c.args.k ≡ numbered.Id id
-  id-is = sym c.id_of-found.ensures ∙ c.in-Id.is
+  id-is : id_of c.args.board c.args.alignment c.args.grid.now c.args.k ≡ Some id
+  id-is = sym c.id_of-found.ensures ∙ c.in-Some.is
 
   id-small : id < 1024
   id-small = small (input c.args.board c.args.alignment c.args.scores.now c.args.grid.now) c.requires.0 c.args.k c.requires.1 id id-is
@@ -51,18 +51,18 @@ module _ (c : In-Id) where
 pub better-requires : goal.better-requires
 better-requires c =
     let p = c.requires in
-    (omega (arith, p.1, p.0.few), p.1, earlier (from (goal.at.better-requires c).Start) p.0 c.args.k p.1 c.args.choices.now c.in-Id.id p.2 (id-small (goal.at.better-requires c).In-Id))
+    (omega (arith, p.1, p.0.few), p.1, earlier (from (goal.at.better-requires c).Start) p.0 c.args.k p.1 c.args.choices.now c.in-Some.id p.2 (id-small (goal.at.better-requires c).In-Id))
 
-pub returns-in-Id : goal.returns-in-Id
-returns-in-Id c =
-    chosen_more (from (goal.at.returns-in-Id c).Start) c.args.k c.args.choices.now c.requires.2 c.in-Id.id c.better.result (id-is (goal.at.returns-in-Id c).In-Id) (id-small (goal.at.returns-in-Id c).In-Id) c.better.ensures
+pub returns-in-Some : goal.returns-in-Some
+returns-in-Some c =
+    chosen_more (from (goal.at.returns-in-Some c).Start) c.args.k c.args.choices.now c.requires.2 c.in-Some.id c.better.result (id-is (goal.at.returns-in-Some c).In-Id) (id-small (goal.at.returns-in-Some c).In-Id) c.better.ensures
 
-pub returns-in-Absent : goal.returns-in-Absent
-returns-in-Absent c =
-    chosen-same (from (goal.at.returns-in-Absent c).Start) c.args.k c.args.choices.now c.requires.2 (sym c.id_of-found.ensures ∙ c.in-Absent.is)
+pub returns-in-None : goal.returns-in-None
+returns-in-None c =
+    chosen-same (from (goal.at.returns-in-None c).Start) c.args.k c.args.choices.now c.requires.2 (sym c.id_of-found.ensures ∙ c.in-None.is)
 
 pub bounds-choices-at : goal.bounds-choices-at
 bounds-choices-at c = id-small (goal.at.bounds-choices-at c).In-Id
 
-pub bounds-choices-at-in-Id : goal.bounds-choices-at-in-Id
-bounds-choices-at-in-Id c = id-small (goal.at.bounds-choices-at-in-Id c).In-Id
+pub bounds-choices-at-in-Some : goal.bounds-choices-at-in-Some
+bounds-choices-at-in-Some c = id-small (goal.at.bounds-choices-at-in-Some c).In-Id

@@ -2,29 +2,28 @@
 use mathlib.Core.Path.{sym, ap, ap₂, ◌∙◌}
 use mathlib.Core.List.{[], ◌∷◌}
 use Prim.Native.Nat.{ℕ}
-use Rattle.board.specs.declared.Located.TheVariants as located
-use Rattle.board.specs.declared.ObjectPoint.TheVariants as object
 use Rattle.board.specs.Layout.{scaled_point}
 use Rattle.corner_mapping.proofs.Writing.{words_are}
 use Rattle.corner_mapping.proofs.words.corner_words.Goals as goal
+use Rattle.std.specs.Prelude.{Some, None}
 
-pub returns-in-At-target : goal.returns-in-At-target
-returns-in-At-target c =
+pub returns-in-Some-target : goal.returns-in-Some-target
+returns-in-Some-target c =
     let x = c.args in
-    let i = c.in-At.i in
-    let j = c.in-At.j in
-    ap₂ (λ (u v : ℕ). x.id ∷ x.index ∷ i ∷ j ∷ u ∷ v ∷ []) c.to_bits.ensures c.to_bits-in-At-target.ensures
-    ∙ words_are x.board x.id x.index (located.At i j) (object.At c.in-At-target.x c.in-At-target.y)
-    (sym c.in-At.is ∙ c.board_corner-place.ensures) (sym c.in-At-target.is ∙ c.charuco_object_xy-target.ensures)
+    let i = c.in-Some.i in
+    let j = c.in-Some.j in
+    ap₂ (λ (u v : ℕ). x.id ∷ x.index ∷ i ∷ j ∷ u ∷ v ∷ []) c.to_bits.ensures c.to_bits-in-Some-target.ensures
+    ∙ words_are x.board x.id x.index (Some i j) (Some c.in-Some-target.x c.in-Some-target.y)
+    (sym c.in-Some.is ∙ c.board_corner-place.ensures) (sym c.in-Some-target.is ∙ c.charuco_object_xy-target.ensures)
 
-pub returns-in-Absent-target : goal.returns-in-Absent-target
-returns-in-Absent-target c =
+pub returns-in-None-target : goal.returns-in-None-target
+returns-in-None-target c =
     let x = c.args in
-    words_are x.board x.id x.index (located.At c.in-At.i c.in-At.j) object.Absent
-    (sym c.in-At.is ∙ c.board_corner-place.ensures) (sym c.in-Absent-target.is ∙ c.charuco_object_xy-target.ensures)
+    words_are x.board x.id x.index (Some c.in-Some.i c.in-Some.j) None
+    (sym c.in-Some.is ∙ c.board_corner-place.ensures) (sym c.in-None-target.is ∙ c.charuco_object_xy-target.ensures)
 
-pub returns-in-Absent : goal.returns-in-Absent
-returns-in-Absent c =
+pub returns-in-None : goal.returns-in-None
+returns-in-None c =
     let x = c.args in
-    let none = sym c.in-Absent.is ∙ c.board_corner-place.ensures in
-    words_are x.board x.id x.index located.Absent object.Absent none (ap (scaled_point x.board.cell_size) none)
+    let none = sym c.in-None.is ∙ c.board_corner-place.ensures in
+    words_are x.board x.id x.index None None none (ap (scaled_point x.board.cell_size) none)

@@ -11,8 +11,6 @@ use mir.ValLaws.{to_z-of_z}
 use Rattle.grid_alignment.specs.declared.Coord.{Coord}
 use Rattle.grid_alignment.specs.Alignment.{point, applied}
 use Rattle.board.specs.declared.Board.{Board}
-use Rattle.board.specs.declared.Numbered.{Numbered}
-use Rattle.board.specs.declared.Numbered.TheVariants as numbered
 use Rattle.board.specs.Layout.{marker_on}
 use Rattle.board.specs.Questions.{board_of}
 use Rattle.board.proofs.Laws.{id-small}
@@ -22,10 +20,10 @@ use Rattle.shot_record.specs.Index.{threshold_in}
 use Rattle.hypothesis.specs.Placements.{cell}
 use Rattle.hypothesis.specs.Inputs.{SearchCell, SearchInput}
 use Rattle.hypothesis.proofs.IndexedCells.{board-is, few, threshold-is, search-input}
-use Rattle.emit.specs.declared.candidates.Expected.TheVariants as expectation
 use Rattle.emit.proofs.Reading.{Sampled, sampled, unsampled, code_is, made, no_sample, by_expected, with_marker_lem}
 use Rattle.emit.proofs.candidates.expected_in.Goals as goal
 use Rattle.emit.proofs.candidates.expected_in.Goals.{After-marker_id_at-found, Start}
+use Rattle.std.specs.Prelude.{Option, Some, None}
 
 module _ (s : Start) where
   abbrev bytes : List ℕ
@@ -63,7 +61,7 @@ module _ (m : After-marker_id_at-found) where
   v = m.v-v.result
 
   abbrev fraction : Float
-  fraction = m.in-BlackFraction.fraction
+  fraction = m.in-Some.fraction
 
   entry : SearchCell s m.args.index.now m.args.k
   entry = (search-input m.args.bytes.now m.args.inputs m.args.index.now m.requires.0).cells m.args.k m.requires.3
@@ -74,7 +72,7 @@ module _ (m : After-marker_id_at-found) where
         let i = m.args.inputs in
         let h = m.requires in
         sampled (cell s m.args.k) u v fraction threshold (m.u-u.ensures ∙ entry.u) (m.v-v.ensures ∙ entry.v)
-        (sym m.in-BlackFraction.is ∙ m.border-border.ensures ∙ entry.border)
+        (sym m.in-Some.is ∙ m.border-border.ensures ∙ entry.border)
         (t ∙ threshold-is m.args.bytes.now i m.args.index.now h.0 m.args.k h.3)
 
   u_back : to_z w16 (of_z w16 u) ≡ u
@@ -86,7 +84,7 @@ module _ (m : After-marker_id_at-found) where
   square : m.apply-square.result ≡ applied m.args.alignment (point u v)
   square = m.apply-square.ensures ∙ ap₂ (λ (a b : ℤ). applied m.args.alignment (point a b)) u_back v_back
 
-  abbrev looked : Numbered
+  abbrev looked : Option ℕ
   looked =
       let q = applied m.args.alignment (point u v) in
       marker_on (board_of (spec_of s)) q.u q.v
@@ -100,8 +98,8 @@ module _ (m : After-marker_id_at-found) where
       m.marker_id_at-found.ensures ∙ (λ i. marker_on (eb i) (eu i) (ev i))
 
   -- a marker is expected
-  module _ (id : ℕ) (e : m.marker_id_at-found.result ≡ numbered.Id id) where
-    is-expected : numbered.Id id ≡ looked
+  module _ (id : ℕ) (e : m.marker_id_at-found.result ≡ Some id) where
+    is-expected : Some id ≡ looked
     is-expected = sym e ∙ found_marker
 
     small : id < 512
@@ -115,7 +113,7 @@ module _ (m : After-marker_id_at-found) where
 pub returns-in_default-found : goal.returns-in_default-found
 returns-in_default-found c =
     let m = (goal.at.returns-in_default-found c).After-marker_id_at-found in
-    by_expected (s m) c.args.alignment c.args.k c.u-u.result c.v-v.result c.in-BlackFraction.fraction _ (was m _ refl) numbered.Absent
+    by_expected (s m) c.args.alignment c.args.k c.u-u.result c.v-v.result c.in-Some.fraction _ (was m _ refl) None
     (sym c.in_default-found.is ∙ found_marker m)
 
 pub returns : goal.returns
@@ -125,12 +123,12 @@ returns c =
     let a = c.args in
     let p = a.alignment in
     let h = c.requires in
-    let id = c.in-Id.id in
+    let id = c.in-Some.id in
     let turned = code_is c.args.bytes.now a.codes.now id a.inputs.board.bits p.turn code.result h.0.passed.checked.small (bits_are m)
-    h.1 (small m id c.in-Id.is) code.ensures in
-    ap₂ (λ (y z : ℤ). expectation.Marker (made a.k id y z p.turn code.result c.in-BlackFraction.fraction c.threshold.result)) (u_back m) (v_back m)
-    ∙ with_marker_lem (s m) p a.k c.u-u.result c.v-v.result c.in-BlackFraction.fraction c.threshold.result (was m c.threshold.result c.threshold.ensures) id code.result
-    (is-expected m id c.in-Id.is) turned
+    h.1 (small m id c.in-Some.is) code.ensures in
+    ap₂ (λ (y z : ℤ). Some (made a.k id y z p.turn code.result c.in-Some.fraction c.threshold.result)) (u_back m) (v_back m)
+    ∙ with_marker_lem (s m) p a.k c.u-u.result c.v-v.result c.in-Some.fraction c.threshold.result (was m c.threshold.result c.threshold.ensures) id code.result
+    (is-expected m id c.in-Some.is) turned
 
 pub border-border-requires : goal.border-border-requires
 border-border-requires c = early (goal.at.border-border-requires c).Start
@@ -145,7 +143,7 @@ pub overflow_cast-result : goal.overflow_cast-result
 overflow_cast-result c = record { fits = omega (arith, early (goal.at.overflow_cast-result c).Start) }
 
 pub turned_code-requires : goal.turned_code-requires
-turned_code-requires c = small (goal.at.turned_code-requires c).After-marker_id_at-found c.in-Id.id c.in-Id.is
+turned_code-requires c = small (goal.at.turned_code-requires c).After-marker_id_at-found c.in-Some.id c.in-Some.is
 
 pub threshold-requires : goal.threshold-requires
 threshold-requires c = omega (arith, early (goal.at.threshold-requires c).Start)

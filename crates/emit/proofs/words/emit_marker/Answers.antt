@@ -9,7 +9,6 @@ use lib.Ieee.{Float, binary32, of_bits, of_fields, odd, of_int, sub, div, lt}
 use Rattle.floats.specs.Units.{nought}
 use Rattle.lent_list.proofs.Front.{nothing_put, put_as}
 use Rattle.score_matrix.specs.Scores.{Samples, score, evidence, null_score, read_code}
-use Rattle.score_matrix.specs.declared.BorderSample.TheVariants as border
 use Rattle.score_matrix.specs.Weights.{weight}
 use Rattle.hypothesis.specs.declared.Inputs.{Inputs}
 use Rattle.emit.specs.declared.candidates.Candidate.{Candidate}
@@ -17,6 +16,7 @@ use Rattle.emit.specs.Markers.{Marker, quotient, marker_words}
 use Rattle.emit.specs.Candidates.{marker_from, samples_in, emitted_from}
 use Rattle.emit.proofs.words.emit_marker.Goals as goal
 use Rattle.emit.proofs.words.emit_marker.Goals.{After-marker_words-marker}
+use Rattle.std.specs.Prelude.{Some}
 
 -- the words of what is emitted, by cases of the two tests
 abbrev told_by : Bool → Bool → Marker → List ℕ
@@ -39,7 +39,7 @@ module _ (i : Inputs) (c : Candidate) (grid : List ℕ) (table : List Float) whe
   marker = marker_from c (read_code sampled) (quotient table sampled c.code) i.config.px_per_square
 
   abbrev heavy : Bool
-  heavy = lt nought (weight i.config (border.BlackFraction c.fraction))
+  heavy = lt nought (weight i.config (Some c.fraction))
 
   abbrev evident : Bool
   evident = lt nought (evidence table sampled c.code)

@@ -4,12 +4,11 @@ use mathlib.Core.Bool.{true, false}
 use Prim.Native.Nat.{ℕ}
 use lib.Ieee.{Float, binary32, of_bits, of_fields, odd, add, mul, lt}
 use Rattle.floats.specs.Units.{nought}
-use Rattle.board.specs.declared.Numbered.{Numbered}
-use Rattle.board.specs.declared.Numbered.TheVariants as numbered
 use Rattle.hypothesis.specs.Capacity.{with_marker}
 use Rattle.hypothesis.proofs.capacity.with_marker.Goals as goal
+use Rattle.std.specs.Prelude.{Option, Some}
 
-module _ (total most weight : Float) (marker : Numbered) (m : ℕ) (e : marker ≡ numbered.Id m) where
+module _ (total most weight : Float) (marker : Option ℕ) (m : ℕ) (e : marker ≡ Some m) where
   counts : lt nought weight ≡ true → add binary32 total (mul binary32 weight most) ≡ with_marker total most weight marker
   counts t = rw (e, t)
 
@@ -20,10 +19,10 @@ pub returns-then-weight : goal.returns-then-weight
 unfolding of_bits of_fields odd
 returns-then-weight c =
     let a = c.args in
-    counts a.total a.most a.weight a.marker c.in-Id.field-0 c.in-Id.is c.if-weight.true
+    counts a.total a.most a.weight a.marker c.in-Some.field-0 c.in-Some.is c.if-weight.true
 
 pub returns-else-weight : goal.returns-else-weight
 unfolding of_bits of_fields odd
 returns-else-weight c =
     let a = c.args in
-    counts_not a.total a.most a.weight a.marker c.in-Id.field-0 c.in-Id.is c.if-weight.false
+    counts_not a.total a.most a.weight a.marker c.in-Some.field-0 c.in-Some.is c.if-weight.false

@@ -3,5 +3,5 @@ use mathlib.Core.Path.{sym, ap}
 use Rattle.link_check.specs.Violations.{of_corners}
 use Rattle.link_check.proofs.expected.of_corners.Goals as goal
 
-pub returns-in-Corners : goal.returns-in-Corners
-returns-in-Corners c = ap of_corners (sym c.in-Corners.is)
+pub returns-in-Some : goal.returns-in-Some
+returns-in-Some c = ap of_corners (sym c.in-Some.is)

@@ -4,10 +4,10 @@ use Rattle.place_text.specs.Text.{answer_line}
 use Rattle.place_text.proofs.Printing.{said}
 use Rattle.log_text.proofs.lines.put_answer.Goals as goal
 
-pub returns-in-Placed : goal.returns-in-Placed
-returns-in-Placed c =
-    said (ap answer_line (sym c.in-Placed.is)) c.put_hypothesis.ensures
+pub returns-in-Ok : goal.returns-in-Ok
+returns-in-Ok c =
+    said (ap answer_line (sym c.in-Ok.is)) c.put_hypothesis.ensures
 
-pub returns-in-Refused : goal.returns-in-Refused
-returns-in-Refused c =
-    said (ap answer_line (sym c.in-Refused.is)) c.put_refusal.ensures
+pub returns-in-Err : goal.returns-in-Err
+returns-in-Err c =
+    said (ap answer_line (sym c.in-Err.is)) c.put_refusal.ensures

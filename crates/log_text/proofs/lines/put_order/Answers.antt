@@ -4,22 +4,22 @@ use Prim.Native.Nat.{◌≤◌}
 use native.Mathlib.Omega.{arith}
 use lib.ListN.{length}
 use Rattle.place_text.proofs.Printing.{said, nothing}
-use Rattle.log_text.specs.declared.Highest.{Highest}
 use Rattle.log_text.specs.Lines.{order_line}
 use Rattle.log_text.proofs.lines.put_order.Goals as goal
+use Rattle.std.specs.Prelude.{Option, ℕ}
 
-pub returns-in-Absent : goal.returns-in-Absent
-returns-in-Absent c =
+pub returns-in-None : goal.returns-in-None
+returns-in-None c =
     let n = c.args.n in
-    let e = sym c.in-Absent.is in record {
-      line = said (ap (λ (h : Highest). order_line h n) e) (nothing c.least.ensures);
-      room = subst (λ (h : Highest). length (order_line h n) ≤ 26) e (omega arith);
+    let e = sym c.in-None.is in record {
+      line = said (ap (λ (h : Option ℕ). order_line h n) e) (nothing c.least.ensures);
+      room = subst (λ (h : Option ℕ). length (order_line h n) ≤ 26) e (omega arith);
     }
 
-pub returns-in-Seen : goal.returns-in-Seen
-returns-in-Seen c =
+pub returns-in-Some : goal.returns-in-Some
+returns-in-Some c =
     let n = c.args.n in
-    let e = sym c.in-Seen.is in record {
-      line = said (ap (λ (h : Highest). order_line h n) e) c.put_step.ensures.line;
-      room = subst (λ (h : Highest). length (order_line h n) ≤ 26) e c.put_step.ensures.room;
+    let e = sym c.in-Some.is in record {
+      line = said (ap (λ (h : Option ℕ). order_line h n) e) c.put_step.ensures.line;
+      room = subst (λ (h : Option ℕ). length (order_line h n) ≤ 26) e c.put_step.ensures.room;
     }

@@ -4,10 +4,10 @@ use Rattle.place_text.specs.Text.{next_line}
 use Rattle.place_text.proofs.Printing.{said}
 use Rattle.place_text.proofs.lines.put_next.Goals as goal
 
-pub returns-in-Placement : goal.returns-in-Placement
-returns-in-Placement c =
-    said (ap next_line (sym c.in-Placement.is)) c.put_hypothesis.ensures
+pub returns-in-Some : goal.returns-in-Some
+returns-in-Some c =
+    said (ap next_line (sym c.in-Some.is)) c.put_hypothesis.ensures
 
-pub returns-in-Absent : goal.returns-in-Absent
-returns-in-Absent c =
-    said (ap next_line (sym c.in-Absent.is)) c.put_all.ensures
+pub returns-in-None : goal.returns-in-None
+returns-in-None c =
+    said (ap next_line (sym c.in-None.is)) c.put_all.ensures
