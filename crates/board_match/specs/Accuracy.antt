@@ -29,7 +29,7 @@ pub record PlacedAccurately (s : Shot) (m : Match) : Type 0 where
   pub best_count : m.best.contributing_cells ≡ contributing_cells s m.best.alignment
   pub number : Float
   pub best_number : m.best.evidence ≡ Some number
-  -- the runner_up_is, where there is one
+  -- the runner-up, where there is one
   pub runner_up_is : (g : Hypothesis) → m.runner_up ≡ Some g → RunsUp s m.best g
   -- the number of placements, by document 01's formula
   pub count : m.placements ≡ count_of s

@@ -63,7 +63,7 @@ asked_from15 s =
 abbrev pub refused_by : Shot → ℕ → Maybe Refusal
 refused_by s marker_words = asked_of_shot s marker_words (asked_from15 s)
 
--- a placed shot: best, runner_up_is, margin, number of placements, the corner alignment and the number of markers
+-- a placed shot: best, runner-up, margin, number of placements, the corner alignment and the number of markers
 abbrev pub match_of : Shot → Hypothesis → Match
 match_of s b =
     record {

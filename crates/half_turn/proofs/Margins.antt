@@ -1,4 +1,4 @@
--- The margin of a shot is that of the shot restated, with ties too: where the bests do not pair, best and runner_up_is tie, and the margin is 0. Assumes
+-- The margin of a shot is that of the shot restated, with ties too: where the bests do not pair, best and runner-up tie, and the margin is 0. Assumes
 -- nothing.
 use mathlib.Core.Path.{◌≡◌, refl, sym, ap, ap₂, ◌∙◌, subst}
 use mathlib.Core.Logic.{◌⊎◌, inl, inr}
@@ -56,7 +56,7 @@ TiedNext (Some g) (Some h) = TiedEvidence g.evidence h.evidence × Small g.evide
 TiedNext None (Some h) = ⊥
 TiedNext (Some g) None = ⊥
 
--- x ties with the evidence of a runner_up_is
+-- x ties with the evidence of a runner-up
 abbrev pub TiedWith : Option Float → Option Hypothesis → Type 0
 TiedWith x None = ⊥
 TiedWith x (Some g) = TiedEvidence x g.evidence

@@ -1,4 +1,4 @@
--- The best and the runner_up_is of a shot among its placements: none is above the best, and only the best may be above the runner_up_is. Assumes nothing.
+-- The best and the runner-up of a shot among its placements: none is above the best, and only the best may be above the runner-up. Assumes nothing.
 use mathlib.Core.Path.{◌≡◌, refl, sym, ap, ◌∙◌}
 use mathlib.Core.Logic.{◌⊎◌, inl, inr}
 use mathlib.Core.Bool.{false}
@@ -61,7 +61,7 @@ pub record IsNext (s : Shot) (b g : Hypothesis) : Type 0 where
   pub is : hypothesis s g.alignment ≡ g
   pub most : (q : GridAlignment) → Placement s q → (q ≡ b.alignment → ⊥) → lies_below g.evidence (reported s q) ≡ false
 
--- without a best there is no placement, so no runner_up_is
+-- without a best there is no placement, so no runner-up
 pub none_next : (s : Shot) → best s ≡ None → runner_up s ≡ None
 unfolding first_greatest rest
 none_next s e = ap (λ (l : List Hypothesis). first_greatest (rest l)) (empty (hypotheses s) e)
@@ -117,7 +117,7 @@ module _ (s : Shot) (c : Checked s) where
         let P : Hypothesis → Type 0 = λ h. FiniteEvidence h.evidence in
         at_every P (rest (hypotheses s)) (rest_has P (hypotheses s) (every-at P (hypotheses s) (all_finite s c (placements s))))
 
-    -- none of the rest is above the runner_up_is
+    -- none of the rest is above the runner-up
     pub rest-most : (g : Hypothesis) → runner_up s ≡ Some g → (k : ℕ) (q : GridAlignment) → get_elem? (rest (hypotheses s)) k ≡ some (hypothesis s q)
         → lies_below g.evidence (reported s q) ≡ false
     rest-most g next k q at = (greatest_rule (rest (hypotheses s)) g rest_finite next).greatest k (hypothesis s q) at

@@ -1,4 +1,4 @@
--- Best and runner_up_is of a shot and of the shot restated: without ties they pair, and with ties too the margin is the same. Assumes nothing.
+-- Best and runner-up of a shot and of the shot restated: without ties they pair, and with ties too the margin is the same. Assumes nothing.
 use mathlib.Core.Path.{◌≡◌, refl, sym, ap, ◌∙◌, subst}
 use mathlib.Core.Logic.{◌⊎◌, inl, inr}
 use mathlib.Core.Option.{some}
@@ -169,7 +169,7 @@ module _ (s : Shot) (m : TurnedByHalf s) (c : Checked s) (first : 0 < cell_total
           (next_as_high s (restated s) (paired s) forth c d b b' is is' g g' e e')
           (next_as_high (restated s) s (paired s) back d c b' b is' is g' g e' e))
 
-      -- without a best there is no placement, and no runner_up_is
+      -- without a best there is no placement, and no runner-up
       by_best : (o o' : Option Hypothesis) → best s ≡ o → best (restated s) ≡ o' → runner_up (restated s) ≡ paired_choice s (runner_up s)
       by_best None None e e' =
           none_next (restated s) e' ∙ ap (paired_choice s) (sym (none_next s e))
@@ -192,7 +192,7 @@ module _ (s : Shot) (m : TurnedByHalf s) (c : Checked s) (first : 0 < cell_total
       small-evidence (restated s) d g' (next_is (restated s) d b' is' g' e').is,
     )
 
-    -- the bests pair, or the best ties with the runner_up_is
+    -- the bests pair, or the best ties with the runner-up
     pair_or_tie : (o : Option Hypothesis) → runner_up s ≡ o → (capacity s b.alignment ≡ capacity (restated s) b'.alignment) ⊎ TiedWith b.evidence o
     pair_or_tie o e = by_next o e (best_or_rest s c b is q placed)
       where

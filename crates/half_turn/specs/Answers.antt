@@ -21,7 +21,7 @@ use Rattle.half_turn.specs.Markers.{paired_marker}
 use Rattle.half_turn.specs.Corners.{paired_corners}
 use Rattle.half_turn.specs.Ties.{paired_hypothesis, paired_choice, BestUntied, NoTies}
 
--- best, runner_up_is and corner alignment pair; margin and the numbers of placements and markers are the same
+-- best, runner-up and corner alignment pair; margin and the numbers of placements and markers are the same
 abbrev pub paired_match : Shot → Match → Match
 paired_match s m =
     record {

@@ -1,4 +1,4 @@
--- Document 02, 2.7: best and runner_up_is of a legacy shot and of the shot restated. "Ties may choose another best": they pair where no other placement
+-- Document 02, 2.7: best and runner-up of a legacy shot and of the shot restated. "Ties may choose another best": they pair where no other placement
 -- ties with one of the two.
 use Rattle.std.specs.Prelude.{◌≡◌, false, ◌<◌, Option, Some, None}
 use Rattle.grid_alignment.specs.declared.GridAlignment.{GridAlignment}

@@ -1,4 +1,4 @@
--- Best and runner_up_is are two of the shot's placements, with their evidence and small translations; and what the result of the search states of the
+-- Best and runner-up are two of the shot's placements, with their evidence and small translations; and what the result of the search states of the
 -- best and of the number of placements. Assumes nothing.
 use mathlib.Core.Path.{◌≡◌, refl, sym, ap, ◌∙◌}
 use Prim.Native.Nat.{ℕ, zero, suc, ◌/◌, ◌%◌, ◌≤◌, ◌<◌}
@@ -73,7 +73,7 @@ module _ (s : Shot) (p : PassedShot s) where
       let m = mapped s (placements s) g.place b g.there in
       record { placement = (g.place, m.0); small = small_placement b.alignment (g.place, m.0); evidence_is = m.1; count_is = m.2 }
 
--- ---- the runner_up_is
+-- ---- the runner-up
 -- an element of a list without index p is in the list, at another index
 without : {A : Type 0} (xs : List A) (p k : ℕ) (x : A) → get_elem? (take p xs ++ drop (suc p) xs) k ≡ some x → (j : ℕ) × (j ≡ p → ⊥) × (get_elem? xs j ≡ some x)
 without [] zero k x e = absurd (none-ne-some x e)

@@ -39,7 +39,7 @@ module _ (s : Shot) (c : Checked s) where
   small_next b None h k = tt
   small_next b (Some g) h k = (small g h, k)
 
-  -- best and runner_up_is are among the placements, and the runner_up_is does not rank above the best: so the margin is at least 0, and a number
+  -- best and runner-up are among the placements, and the runner-up does not rank above the best: so the margin is at least 0, and a number
   module _ (b : Hypothesis) (is : best s ≡ Some b) where
     pub margin_at-least_0 : T (le nought (margin b.evidence (capacity s b.alignment) (runner_up s)))
     margin_at-least_0 =

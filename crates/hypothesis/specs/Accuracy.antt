@@ -42,7 +42,7 @@ pub record AccurateEvidence (s : Shot) : Type 0 where
       → ((q : GridAlignment) → Placement s q → (q ≡ b.alignment → ⊥) → Leads s x q)
       → (q : GridAlignment) → Placement s q → (q ≡ b.alignment → ⊥) → (z : ℤ) → exact s q ≡ some z → z <ℤ e
 
--- g is a runner_up_is of b: another placement, with its reported evidence and count, that does not rank above b
+-- g is a runner-up of b: another placement, with its reported evidence and count, that does not rank above b
 pub record RunsUp (s : Shot) (b g : Hypothesis) : Type 0 where
   pub placed : Placement s g.alignment
   pub other : g.alignment ≡ b.alignment → ⊥

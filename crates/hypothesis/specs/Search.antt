@@ -1,4 +1,4 @@
--- Document 01, Search: the best placement, the runner_up_is and the margin.
+-- Document 01, Search: the best placement, the runner-up and the margin.
 use Rattle.std.specs.Prelude.{List, map, length, Option, Some, None}
 use Rattle.grid_alignment.specs.declared.GridAlignment.{GridAlignment}
 use Rattle.shot_record.specs.Shots.{Shot}
@@ -16,7 +16,7 @@ hypothesis s p = record { alignment = p; evidence = reported s p; contributing_c
 abbrev pub hypotheses : Shot → List Hypothesis
 hypotheses s = map (hypothesis s) (placements s)
 
--- Best is the first maximum of evidence, the runner_up_is the first maximum of the rest.
+-- Best is the first maximum of evidence, the runner-up the first maximum of the rest.
 abbrev pub best : Shot → Option Hypothesis
 best s = first_greatest (hypotheses s)
 

@@ -77,7 +77,7 @@ hypothesis_line first h =
     ∷ decimal h.contributing_cells
     ∷ [])
 
--- `next absent` without a runner_up_is
+-- `next absent` without a runner-up
 abbrev pub next_line : Option Hypothesis → List ℕ
 next_line (Some h) = hypothesis_line the_next h
 next_line None = line the_next (the_absent ∷ [])

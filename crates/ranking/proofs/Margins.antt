@@ -1,4 +1,4 @@
--- The margin is at least 0, and so not NaN, if evidence is small, the runner_up_is is not above the best and the capacity is finite: the
+-- The margin is at least 0, and so not NaN, if evidence is small, the runner-up is not above the best and the capacity is finite: the
 -- divisor is at least 2⁻²³. Assumes nothing.
 use Prim.Native.Nat.{◌^◌}
 use native.Mathlib.Nat.{le_trans, add-le-add}
@@ -40,7 +40,7 @@ abbrev pub Small : Option Float → Type 0
 Small None = Unit {0}
 Small (Some x) = Item binary32 (2 ^ 166) x
 
--- a runner_up_is that is small and not above the best
+-- a runner-up that is small and not above the best
 abbrev pub SmallNext : Option Float → Option Hypothesis → Type 0
 SmallNext b None = Unit {0}
 SmallNext b (Some g) = Small g.evidence × (lies_below b g.evidence ≡ false)

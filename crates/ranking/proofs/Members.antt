@@ -51,7 +51,7 @@ module _ (P : Hypothesis → Type 0) where
       without others None = a.1
       without others (Some g) = either others (lies_below h.evidence g.evidence)
 
--- the runner_up_is is not above the best
+-- the runner-up is not above the best
 pub runner_up-not_above : (hs : List Hypothesis) (b : Hypothesis) → AllFinite hs → first_greatest hs ≡ Some b
     → Of (λ h. lies_below b.evidence h.evidence ≡ false) (first_greatest (rest hs))
 runner_up-not_above hs b f e =

@@ -1,4 +1,4 @@
--- Best and runner_up_is of a list in one pass: the effect of one more placement, if all evidence is finite. Assumes nothing.
+-- Best and runner-up of a list in one pass: the effect of one more placement, if all evidence is finite. Assumes nothing.
 use mathlib.Core.Path.{◌≡◌, refl, ap, ◌∙◌}
 use Prim.Native.Nat.{suc}
 use mathlib.Core.Bool.{Bool, true, false, cond}
@@ -37,7 +37,7 @@ unfolding first_greatest
 best_finite [] f = tt
 best_finite (h ∷ hs) f = over_finite h (first_greatest hs) (head_finite h hs f) (best_finite hs (tail_finite h hs f))
 
--- the runner_up_is of a head and a tail, from the left
+-- the runner-up of a head and a tail, from the left
 abbrev next_over : Hypothesis → Option Hypothesis → Option Hypothesis → Option Hypothesis
 next_over h None next = None
 next_over h (Some g) next = cond (lies_below h.evidence g.evidence) (over h next) (Some g)

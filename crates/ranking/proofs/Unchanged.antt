@@ -1,5 +1,5 @@
--- A placement that replaces neither best nor runner_up_is changes only the count, so a loop may skip it for best and
--- runner_up_is. Assumes nothing.
+-- A placement that replaces neither best nor runner-up changes only the count, so a loop may skip it for best and
+-- runner-up. Assumes nothing.
 use mathlib.Core.Path.{◌≡◌, refl, sym, ap, ◌∙◌}
 use Prim.Native.Nat.{ℕ, ◌+◌}
 use native.Mathlib.Omega.{arith}

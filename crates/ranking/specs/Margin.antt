@@ -1,4 +1,4 @@
--- Document 01, Search: the margin, from the evidence and the capacity of the best placement and from the runner_up_is.
+-- Document 01, Search: the margin, from the evidence and the capacity of the best placement and from the runner-up.
 use Rattle.std.specs.Prelude.{cond, Float, Option, Some, None}
 use Rattle.std.specs.Float.{binary32}
 use Rattle.std.specs.Float.Ieee.{of_bits, sub, div, lt, le}
@@ -12,7 +12,7 @@ epsilon = of_bits binary32 0x34000000
 abbrev pub at_least : Float → Float → Float
 at_least low x = cond (lt x low) low x
 
--- The gap to the runner_up_is, normalised by the best's capacity: 1 if the runner_up_is or its evidence is absent.
+-- The gap to the runner-up, normalised by the best's capacity: 1 if the runner-up or its evidence is absent.
 abbrev pub share : Float → Float → Option Float → Float
 share x cap None = unity
 share x cap (Some y) = div binary32 (sub binary32 x y) (at_least epsilon cap)

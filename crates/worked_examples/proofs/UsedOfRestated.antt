@@ -100,7 +100,7 @@ among P a b c d q (k, at) = go k (ap (λ (ps : List GridAlignment). get_elem? ps
 abbrev ranks_below : GridAlignment → GridAlignment → Bool
 ranks_below p q = lies_below (reported old p) (reported old q)
 
--- in order: the best, one with no evidence, the runner_up_is, one with no evidence
+-- in order: the best, one with no evidence, the runner-up, one with no evidence
 below-best : (ranks_below (align 0 (pos 0) (pos 1)) (align 0 (pos 0) (pos 0)) ≡ true)
     × (ranks_below (align 2 (pos 2) (pos 0)) (align 0 (pos 0) (pos 0)) ≡ true)
     × (ranks_below (align 2 (pos 2) (pos 1)) (align 0 (pos 0) (pos 0)) ≡ true)

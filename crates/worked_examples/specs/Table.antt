@@ -160,7 +160,7 @@ pub record Table : Type 0 where
       (violations_in mode.SubsetOk ≡ table_entry kind.CornerNotInNeighborhood (some 9) [] ∷ table_entry kind.DuplicateCorner (some 1) [] ∷ [])
       × (violations_in mode.MustMatchAll4 ≡ table_entry kind.CornerNotInNeighborhood (some 9) [] ∷ table_entry kind.DuplicateCorner (some 1) []
       ∷ table_entry kind.MissingCorners none (2 ∷ 6 ∷ 5 ∷ []) ∷ [])
-  -- margins: best 0 gives 0; best 2 with runner_up_is absent gives 1; best 2, runner_up_is −6, capacity 4 gives 2
+  -- margins: best 0 gives 0; best 2 with runner-up absent gives 1; best 2, runner-up −6, capacity 4 gives 2
   pub P9 :
       ((capacity : Float) (next : Option Hypothesis) → margin (Some zero_float) capacity next ≡ zero_float)
       × ((capacity : Float) → margin (Some two_float) capacity None ≡ one_float)

@@ -1,4 +1,4 @@
--- `hypothesis::turns::rank_column` meets its contract. The loop's invariant: `held` has best and runner_up_is of the ranking of the placements above row
+-- `hypothesis::turns::rank_column` meets its contract. The loop's invariant: `held` has best and runner-up of the ranking of the placements above row
 -- `b`. Assumes nothing.
 use Prim.Native.Nat.{◌+◌, ◌-◌, ◌≤◌}
 use Rattle.ranking.specs.Ranking.{Held}

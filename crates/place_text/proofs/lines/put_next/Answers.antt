@@ -1,4 +1,4 @@
--- `place_text::lines::put_next` meets its contract: by cases of the runner_up_is. Assumes nothing.
+-- `place_text::lines::put_next` meets its contract: by cases of the runner-up. Assumes nothing.
 use mathlib.Core.Path.{sym, ap}
 use Rattle.place_text.specs.Text.{next_line}
 use Rattle.place_text.proofs.Printing.{said}
