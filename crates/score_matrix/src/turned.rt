@@ -39,9 +39,9 @@ fn chosen(half: u32, one: u32, clear: f32, set: f32) -> f32
 }
 
 // Adds bit s to all eight scores; `from` is the first lane of the halves that have it. Each score selects by itself, so that the
-// compiler adds four by one instruction. `lanes` is a slice because only for slices is the range of elements known.
-fn add_bit(sums: &mut [f32; 8], lanes: &[u32], s: u8, clear: f32, set: f32)
-    requires { (s < 64) × (length lanes.now ≡ 16) }
+// compiler adds four by one instruction.
+fn add_bit(sums: &mut [f32; 8], lanes: &[u32; 16], s: u8, clear: f32, set: f32)
+    requires { s < 64 }
     ensures { (x : ℕ) → x < 8 → get_or sums.new x nan
         ≡ add binary32 (get_or sums.old x nan) (by_bit (bit (lane_code lanes.now x) s) clear set) }
 {

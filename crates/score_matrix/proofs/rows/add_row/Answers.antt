@@ -17,11 +17,11 @@ loop-x-preserved c =
     let a = c.args in
     let from = 8 * a.turn in
     let r : Float = in_row a.rows.now l.x a.row in
-    wrote_next (add binary32 (get_or l.sums (from + l.x) nan) r) l.invariant (λ j h e. absurd (omega (arith, h, e))) ?
+    wrote_next (add binary32 (get_or l.sums (from + l.x) nan) r) l.invariant (λ j h e. absurd (omega (arith, h, e))) (omega arith)
     (ap (λ (y : Float). add binary32 y r) (l.invariant.kept (from + l.x) (λ j h e. absurd (omega (arith, h, e)))))
 
 pub returns : goal.returns
 returns c =
     let l = c.loop-x in
-    let e : l.x ≡ 8 = ? in
+    let e : l.x ≡ 8 = omega arith in
     rw e at l.invariant

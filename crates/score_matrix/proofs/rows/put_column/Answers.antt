@@ -13,10 +13,10 @@ pub loop-i-preserved : goal.loop-i-preserved
 loop-i-preserved c =
     let l = c.loop-i in
     let a = c.args in
-    wrote_next (get_or a.adds.now l.i nan) l.invariant (λ j h e. absurd (omega (arith, h, e))) ? refl
+    wrote_next (get_or a.adds.now l.i nan) l.invariant (λ j h e. absurd (omega (arith, h, e))) (omega arith) refl
 
 pub returns : goal.returns
 returns c =
     let l = c.loop-i in
-    let e : l.i ≡ c.args.count = ? in
+    let e : l.i ≡ c.args.count = omega arith in
     rw e at l.invariant
