@@ -1,8 +1,6 @@
 -- `score_matrix::cell::bit_likelihoods` meets its contract. The loop's invariant: the array holds the log-likelihoods of the first y rows,
 -- and is unchanged past them. Assumes nothing.
-use mathlib.Core.Path.{◌≡◌}
-use Prim.Native.Nat.{◌*◌, ◌≤◌}
-use lib.ListN.{length}
+use Prim.Native.Nat.{◌*◌}
 use lib.Ieee.{nan}
 use Rattle.score_matrix.specs.Scores.{samples}
 use Rattle.lent_list.specs.Parts.{KeptFrom}

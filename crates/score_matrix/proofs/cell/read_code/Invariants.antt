@@ -1,7 +1,6 @@
 -- `score_matrix::cell::read_code` meets its contract. The loop's invariant: `code` has the first k bits. Assumes nothing.
 use mathlib.Core.Path.{◌≡◌}
-use Prim.Native.Nat.{◌*◌, ◌≤◌}
-use Rattle.matcher.specs.Codes.{from_bits, bit_place}
+use Rattle.matcher.specs.Codes.{from_bits}
 use Rattle.score_matrix.specs.Scores.{samples, read_bit}
 use Rattle.score_matrix.proofs.cell.read_code.Given as goal
 

@@ -2,7 +2,7 @@
 -- of the row, and is unchanged past them.
 -- Assumes nothing.
 use mathlib.Core.Path.{◌≡◌}
-use Prim.Native.Nat.{◌+◌, ◌*◌, ◌≤◌}
+use Prim.Native.Nat.{◌+◌, ◌*◌}
 use lib.ListN.{length}
 use lib.Ieee.{nan}
 use Rattle.score_matrix.specs.Scores.{samples}

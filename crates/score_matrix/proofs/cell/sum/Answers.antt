@@ -1,12 +1,10 @@
 -- `score_matrix::cell::sum` meets its contract. The loop's invariant: `total` is the sum of the first k terms.
 -- Assumes nothing.
-use mathlib.Core.Path.{◌≡◌, refl, sym, ap, ap₂, ◌∙◌}
-use Prim.Native.Nat.{ℕ, ◌+◌, ◌*◌, ◌/◌, ◌%◌, ◌^◌, ◌<◌}
-use native.Mathlib.Nat.{div-one, div-div-eq-div-mul, pow-suc}
+use mathlib.Core.Path.{◌≡◌, refl, sym, ap, ◌∙◌}
+use Prim.Native.Nat.{◌*◌, ◌<◌}
 use native.Mathlib.Numerals.{add-one}
 use native.Mathlib.Omega.{arith}
-use lib.ListN.{get_or}
-use lib.Ieee.{Float, nan, binary32, add, of_bits, of_fields, odd}
+use lib.Ieee.{Float, binary32, add, of_bits, of_fields, odd}
 use Rattle.floats.specs.Units.{sum_to}
 use Rattle.score_matrix.specs.Likelihoods.{picked}
 use Rattle.score_matrix.proofs.Places.{area}

@@ -1,7 +1,6 @@
 -- `score_matrix::cell::sum` meets its contract. The loop's invariant: `total` is the sum of the first k terms.
 -- Assumes nothing.
 use mathlib.Core.Path.{◌≡◌}
-use Prim.Native.Nat.{◌/◌, ◌^◌, ◌≤◌}
 use Rattle.floats.specs.Units.{sum_to}
 use Rattle.score_matrix.specs.Likelihoods.{picked}
 use Rattle.score_matrix.proofs.cell.sum.Given as goal

@@ -1,8 +1,7 @@
 -- `score_matrix::rows::add_row` meets its contract. The loop's invariant: the row is added to the first x sums of the turn. Assumes nothing.
-use mathlib.Core.Path.{◌≡◌}
 use mathlib.Core.List.{List}
-use Prim.Native.Nat.{ℕ, ◌+◌, ◌*◌, ◌≤◌, ◌<◌}
-use lib.ListN.{length, get_or}
+use Prim.Native.Nat.{ℕ, ◌+◌, ◌*◌, ◌<◌}
+use lib.ListN.{get_or}
 use Rattle.lent_list.specs.Scattered.{Wrote}
 use lib.Ieee.{Float, nan, binary32, add}
 use Rattle.score_matrix.specs.Rows.{in_row}

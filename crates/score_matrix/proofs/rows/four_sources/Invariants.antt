@@ -1,7 +1,7 @@
 -- `score_matrix::rows::four_sources` meets its contract. The loop's invariant: the bit positions of the first turns are written. Assumes nothing.
 use mathlib.Core.Path.{◌≡◌}
-use Prim.Native.Nat.{ℕ, ◌+◌, ◌*◌, ◌≤◌, ◌<◌}
-use lib.ListN.{length, get_or}
+use Prim.Native.Nat.{ℕ, ◌+◌, ◌*◌, ◌<◌}
+use lib.ListN.{get_or}
 use Rattle.matcher.specs.Codes.{source_bit}
 use Rattle.score_matrix.proofs.rows.four_sources.Given as goal
 

@@ -1,5 +1,5 @@
 -- `score_matrix::rows::put_column` meets its contract. The loop's invariant: the first i rows have the column. Assumes nothing.
-use mathlib.Core.Path.{◌≡◌, refl, ◌∙◌}
+use mathlib.Core.Path.{◌≡◌, refl}
 use native.Mathlib.Omega.{arith}
 use lib.ListN.{get_or}
 use Rattle.lent_list.proofs.Scattered.{wrote_none, wrote_next}

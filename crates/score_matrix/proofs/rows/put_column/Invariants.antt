@@ -1,7 +1,6 @@
 -- `score_matrix::rows::put_column` meets its contract. The loop's invariant: the first i rows have the column. Assumes nothing.
-use mathlib.Core.Path.{◌≡◌}
-use Prim.Native.Nat.{ℕ, ◌+◌, ◌*◌, ◌≤◌, ◌<◌}
-use lib.ListN.{length, get_or}
+use Prim.Native.Nat.{ℕ, ◌+◌, ◌*◌, ◌<◌}
+use lib.ListN.{get_or}
 use Rattle.lent_list.specs.Scattered.{Wrote}
 use lib.Ieee.{nan}
 use Rattle.score_matrix.proofs.rows.put_column.Given as goal

@@ -1,7 +1,7 @@
 -- `score_matrix::rows::sum_turns` meets its contract. The loop's invariant: each sum is that of the first k bits' parts. Assumes nothing.
 use mathlib.Core.Path.{◌≡◌}
-use Prim.Native.Nat.{ℕ, ◌+◌, ◌*◌, ◌≤◌, ◌<◌}
-use lib.ListN.{length, get_or}
+use Prim.Native.Nat.{ℕ, ◌+◌, ◌*◌, ◌<◌}
+use lib.ListN.{get_or}
 use lib.Ieee.{nan}
 use Rattle.floats.specs.Units.{sum_to}
 use Rattle.score_matrix.specs.Rows.{picked_row}

@@ -1,7 +1,6 @@
 -- `score_matrix::turned::source_bits` meets its contract. The loop's invariant: the array holds the sources of the first k bits.
 -- Assumes nothing.
 use mathlib.Core.Path.{◌≡◌, refl, ap, ◌∙◌}
-use Prim.Native.Nat.{ℕ}
 use native.Mathlib.Omega.{arith}
 use lib.ListN.{get_or, set, length-set}
 use lib.Seq.{get_or-set_same, get_or-set_other}

@@ -1,9 +1,7 @@
 -- `score_matrix::turned::source_bits` meets its contract. The loop's invariant: the array holds the sources of the first k bits.
 -- Assumes nothing.
 use mathlib.Core.Path.{◌≡◌}
-use Prim.Native.Nat.{◌≤◌}
 use lib.ListN.{length}
-use Rattle.matcher.specs.Codes.{bit_place}
 use Rattle.score_matrix.specs.Likelihoods.{Sources}
 use Rattle.score_matrix.proofs.turned.source_bits.Given as goal
 

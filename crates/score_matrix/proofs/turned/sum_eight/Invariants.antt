@@ -1,8 +1,8 @@
 -- `score_matrix::turned::sum_eight` meets its contract. The loop's invariant: each score is the sum of the first k terms of its code.
 -- Assumes nothing.
 use mathlib.Core.Path.{◌≡◌}
-use Prim.Native.Nat.{ℕ, ◌≤◌, ◌<◌}
-use lib.ListN.{length, get_or}
+use Prim.Native.Nat.{ℕ, ◌<◌}
+use lib.ListN.{get_or}
 use lib.Ieee.{nan}
 use Rattle.floats.specs.Units.{sum_to}
 use Rattle.score_matrix.specs.Likelihoods.{picked_from, lane_code}
