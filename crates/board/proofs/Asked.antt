@@ -5,9 +5,11 @@ use mathlib.Core.List.{List, [], ◌∷◌}
 use mathlib.Core.Option.{Option, none, some}
 use Prim.Native.Nat.{ℕ, zero, suc, ◌+◌, ◌*◌, ◌^◌, ◌≤◌, ◌<◌, min}
 use native.Mathlib.Nat.{le_of_suc-le-suc, mul-le-mul, min-eq_left}
+use native.Mathlib.Numerals.{add-one}
 use native.Mathlib.Omega.{arith}
 use lib.Dec.{leb, ltb, ltb→lt}
-use lib.ListN.{length, get_or}
+use lib.ListN.{length, get_or, drop}
+use lib.Seq.{drop-cons}
 use borrow.Author.Tests.{leb-true, not-true, lt-ltb}
 use Rattle.std.specs.Bool.{MatchBool}
 use Rattle.std.specs.List.{AllWithin, HoldsAt}
@@ -138,6 +140,10 @@ pub sized_count : (s : CharucoBoardSpec) (count : ℕ) (b : Board) → sized_boa
 sized_count s count b e = min-eq_left (sized_few s count b e)
 
 -- ---- questions 8 and 22
+pub codes_step : (bits : ℕ) (codes : List ℕ) (k : ℕ) (c : Bool) → k < length codes → code_in_range bits (get_or codes k 0) ≡ c
+    → codes_answer bits (drop k codes) ≡ (c && codes_answer bits (drop (k + 1) codes))
+codes_step bits codes k c l e = rw (drop-cons codes k 0 l, add-one, e)
+
 codes-below : (bits : ℕ) (codes : List ℕ) → codes_answer bits codes ≡ true → (k : ℕ) → k < length codes → get_or codes k 0 < 2 ^ (bits * bits)
 codes-below bits [] e k h = absurd (omega arith)
 codes-below bits (c ∷ cs) e zero h = ltb→lt c (2 ^ (bits * bits)) (rw (both (code_in_range bits c) (codes_answer bits cs) e).0 tt)

@@ -11,6 +11,7 @@ use mir.ValLaws.{to_z-of_z}
 use Rattle.std.specs.Prelude.{Result, Ok, Err}
 use Rattle.std.specs.Result.{OkIff, result_unwrap_or}
 use Rattle.std.specs.Int.{FitsUnsignedBits}
+use Rattle.std.proofs.lemmas.Bool.Decides.{nat_tests}
 use Rattle.board.specs.Numbering.{clipped}
 use Rattle.board.proofs.layout.clip.Goals as goal
 

@@ -25,7 +25,7 @@ module _ (code n : ℕ) where
   shifted : (o : Option ℕ) → code < 2 ^ 64 → SomeIff o (n < 64) (code / 2 ^ n) → eqb (unwrap_or o 0) 0 ≡ ltb code (2 ^ n)
   shifted (Some q) f h = ap (λ (k : ℕ). eqb k 0) h.1 ∙ high_bits
   shifted None f h =
-      let past : 2 ^ 64 ≤ 2 ^ n = pow-le-pow_right (lit< tt) (omega arith) in
+      let past : 2 ^ 64 ≤ 2 ^ n = pow-le-pow_right {n = 2} (lit< tt) {i = 64} {j = n} (omega arith) in
       sym (lt-ltb code (2 ^ n) (omega arith))
 
 pub returns : goal.returns
