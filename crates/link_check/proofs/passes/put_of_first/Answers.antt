@@ -20,16 +20,16 @@ module _ (s : Start) where
   expected = expectation s.args.standard.board
 
   abbrev of_marker_lem : ℕ → MarkerExpectation → List Violation
-  of_marker_lem = of_marker s.args.links.now s.args.n s.args.standard.mode
+  of_marker_lem = of_marker s.args.links.words.now s.args.links.count s.args.standard.mode
 
   abbrev entries : List Violation
-  entries = of_first s.args.links.now s.args.n s.args.standard.mode expected s.args.k
+  entries = of_first s.args.links.words.now s.args.links.count s.args.standard.mode expected s.args.k
 
   none : entries ≡ [] → Put s.args.violations.now s.args.violations.now s.args.at s.args.at (words_of_violations entries)
   unfolding flat_map
   none e = put_as (sym (ap words_of_violations e)) (nothing_put s.args.violations.now s.args.at)
 
-  at_first : (m : ℕ) (e : MarkerExpectation) → first s.args.links.now s.args.k ≡ true → m ≡ link_marker s.args.links.now s.args.k
+  at_first : (m : ℕ) (e : MarkerExpectation) → first s.args.links.words.now s.args.k ≡ true → m ≡ link_marker s.args.links.words.now s.args.k
       → expected m ≡ e → entries ≡ of_marker_lem m e
   at_first m e f same told = rw f (ap₂ of_marker_lem (sym same) (ap expected (sym same) ∙ told))
 

@@ -6,22 +6,21 @@ use native.Mathlib.Omega.{arith}
 use lib.ListN.{length, length-append}
 use Rattle.lent_list.specs.Front.{up_to}
 use Rattle.lent_list.proofs.Front.{put_as, put_more, put_length, flat_map_append}
-use Rattle.link_check.specs.Violations.{Violation, repeat_at, missing_of, violation_words, words_of_violations}
-use Rattle.link_check.specs.Missing.{four_of}
+use Rattle.link_check.specs.Violations.{four_of, Violation, repeat_at, missing_of, violation_words, words_of_violations}
 use Rattle.link_check.proofs.passes.put_of_four.Goals as goal
 use Rattle.link_check.proofs.passes.put_of_four.Goals.{After-put_repeats-end, Start}
 
 module _ (s : Start) where
   abbrev repeats : List Violation
-  repeats = up_to (repeat_at s.args.links.now s.args.expected.marker (four_of s.args.expected)) s.args.n
+  repeats = up_to (repeat_at s.args.links.words.now s.args.expected.marker (four_of s.args.expected.corners)) s.args.links.count
 
   abbrev missing : List Violation
-  missing = missing_of s.args.links.now s.args.n s.args.mode s.args.expected.marker (four_of s.args.expected)
+  missing = missing_of s.args.links.words.now s.args.links.count s.args.mode s.args.expected.marker (four_of s.args.expected.corners)
 
   room : s.args.at + (length (words_of_violations repeats) + length (words_of_violations missing)) ≤ length s.args.violations.now
   room =
       omega
-      (arith, s.requires.expected_in_bounds, ap length (flat_map_append violation_words repeats missing), length-append (words_of_violations repeats) (words_of_violations missing))
+      (arith, s.requires, ap length (flat_map_append violation_words repeats missing), length-append (words_of_violations repeats) (words_of_violations missing))
 
 pub put_repeats-end-requires : goal.put_repeats-end-requires
 put_repeats-end-requires c =

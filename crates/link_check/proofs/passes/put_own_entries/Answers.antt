@@ -20,17 +20,17 @@ module _ (s : Start) where
   expected = expectation s.args.board
 
   abbrev entry : ℕ → List Violation
-  entry = own s.args.links.now expected
+  entry = own s.args.links.words.now expected
 
   small : (k : ℕ) → length (words_of_violations (up_to entry k)) ≤ 12 * k
-  small k = omega (arith, words-length (up_to entry k), own-few s.args.links.now expected k)
+  small k = omega (arith, words-length (up_to entry k), own-few s.args.links.words.now expected k)
 
-  room : 0 + length (words_of_violations (up_to entry s.args.n)) ≤ length s.args.violations.now
-  room = omega (arith, small s.args.n, s.requires.1)
+  room : 0 + length (words_of_violations (up_to entry s.args.links.count)) ≤ length s.args.violations.now
+  room = omega (arith, small s.args.links.count, s.requires.1)
 
 pub loop-k-init : goal.loop-k-init
 loop-k-init c =
-    (omega arith, none_to violation_words (entry (goal.at.loop-k-init c).Start) c.args.violations.now 0 c.args.n (room (goal.at.loop-k-init c).Start))
+    (omega arith, none_to violation_words (entry (goal.at.loop-k-init c).Start) c.args.violations.now 0 c.args.links.count (room (goal.at.loop-k-init c).Start))
 
 module _ (c : In-loop-k) where
   abbrev start : Start
@@ -39,12 +39,12 @@ module _ (c : In-loop-k) where
   abbrev k : ℕ
   k = c.loop-k.k
 
-  inside : k < c.args.n
+  inside : k < c.args.links.count
   inside = c.loop-k-test.true
 
   long : length c.loop-k.violations ≡ length c.args.violations.now
   long =
-      to-length violation_words (entry c.before.before.before.before.before) c.args.violations.now 0 c.args.n (room c.before.before.before.before.before) k c.loop-k.invariant.1
+      to-length violation_words (entry c.before.before.before.before.before) c.args.violations.now 0 c.args.links.count (room c.before.before.before.before.before) k c.loop-k.invariant.1
       c.loop-k.invariant.0
 
   fits : c.loop-k.end + 12 ≤ length c.loop-k.violations
@@ -54,19 +54,19 @@ pub loop-k-preserved : goal.loop-k-preserved
 loop-k-preserved c =
     let same = ap₂ (λ (m d : ℕ). words_of_violations (against (expected (goal.at.loop-k-preserved c).Start m) m d)) c.marker_of-marker.ensures c.corner_of.ensures in (
       omega (arith, inside (goal.at.loop-k-preserved c).In-loop-k),
-      to_more violation_words (entry (goal.at.loop-k-preserved c).Start) c.args.violations.now 0 c.args.n (room (goal.at.loop-k-preserved c).Start) c.loop-k.k c.loop-k.invariant.1 (put_as same c.put_own-end.ensures),
+      to_more violation_words (entry (goal.at.loop-k-preserved c).Start) c.args.violations.now 0 c.args.links.count (room (goal.at.loop-k-preserved c).Start) c.loop-k.k c.loop-k.invariant.1 (put_as same c.put_own-end.ensures),
     )
 
 pub shape_of-violations : goal.shape_of-violations
 shape_of-violations c =
     let l = c.loop-k in
-    to-length violation_words (entry (goal.at.shape_of-violations c).Start) c.args.violations.now 0 c.args.n (room (goal.at.shape_of-violations c).Start) l.k l.invariant.1 l.invariant.0
+    to-length violation_words (entry (goal.at.shape_of-violations c).Start) c.args.violations.now 0 c.args.links.count (room (goal.at.shape_of-violations c).Start) l.k l.invariant.1 l.invariant.0
 
 pub returns : goal.returns
 returns c =
     let l = c.loop-k in
-    let all : l.k ≡ c.args.n = omega (arith, c.loop-k-test.false, l.invariant.0) in
-    subst (PutTo violation_words (entry (goal.at.returns c).Start) c.args.violations.now 0 c.args.n (room (goal.at.returns c).Start) l.violations l.end) all l.invariant.1
+    let all : l.k ≡ c.args.links.count = omega (arith, c.loop-k-test.false, l.invariant.0) in
+    subst (PutTo violation_words (entry (goal.at.returns c).Start) c.args.violations.now 0 c.args.links.count (room (goal.at.returns c).Start) l.violations l.end) all l.invariant.1
 
 pub marker_of-marker-requires : goal.marker_of-marker-requires
 marker_of-marker-requires c = omega (arith, inside c, c.requires.0)
