@@ -9,4 +9,4 @@ pub returns : goal.returns
 returns c =
     let x = c.args in
     c.found_before.ensures
-    ∙ ap₂ (λ (m c : ℕ). any_below (reports x.self.words.now m c) x.k) c.marker_of.ensures c.corner_of.ensures
+    ∙ ap₂ (λ (m c : ℕ). any_below (reports x.self.words.now m c) x.k) c.marker_of-marker.ensures c.corner_of.ensures
