@@ -1,4 +1,4 @@
--- `marker_sampling::corner_map::offset` meets its contract: the sum is from 0 to 8,192. Assumes nothing.
+-- `marker_sampling::labelled_corners::offset` meets its contract: the sum is from 0 to 8,192. Assumes nothing.
 use mathlib.Core.Path.{◌≡◌, sym, ap, ◌∙◌, subst}
 use Prim.Native.Nat.{◌<◌}
 use native.Mathlib.Omega.{arith}
@@ -11,8 +11,8 @@ use mir.ValLaws.{to_z-of_z}
 use Rattle.integers.proofs.Parts.{small-fits}
 use Rattle.integers.proofs.Words.{word, word-is}
 use Rattle.marker_sampling.proofs.Tests.{offset_of, offset_small, offset_is, offset_back}
-use Rattle.marker_sampling.proofs.corner_map.offset.Goals as goal
-use Rattle.marker_sampling.proofs.corner_map.offset.Goals.{Start}
+use Rattle.marker_sampling.proofs.labelled_corners.offset.Goals as goal
+use Rattle.marker_sampling.proofs.labelled_corners.offset.Goals.{Start}
 
 module _ (c : Start) where
   abbrev z : ℤ
