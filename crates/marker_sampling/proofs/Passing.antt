@@ -9,7 +9,7 @@ use native.Mathlib.Numerals.{add-one}
 use native.Mathlib.Omega.{arith}
 use lib.Dec.{eqb, leb, leb-zero}
 use lib.ListN.{length, get_or, length-append}
-use lib.IntN.{ℤ, pos}
+use lib.IntN.{ℤ, pos, ◌-ℤ◌}
 use lib.Signed.{le_z}
 use borrow.Author.Tests.{ne_eqb, leb-true, leb-false}
 use Rattle.lent_list.specs.Front.{in_front, up_to}
@@ -17,10 +17,10 @@ use Rattle.lent_list.proofs.Front.{front_is, put_in_front, front_full, up_to-sam
 use Rattle.grid_alignment.specs.declared.Coord.{Coord}
 use Rattle.grid_alignment.specs.Alignment.{corner}
 use Rattle.marker_sampling.specs.Cells.{Corners, holder, whole_cell, point_at, whole_at, cell_words, words_of_cells}
-use Rattle.marker_sampling.specs.Keys.{key_side, MapOf, Next, in_option, words_at, words_if_whole, with_cell, words_of, CellAdded, Collected}
+use Rattle.marker_sampling.specs.Keys.{key_side, range_point, MapOf, Next, in_option, words_at, words_if_whole, with_cell, words_of, CellAdded, Collected}
 use Rattle.std.specs.Prelude.{Option, Some, None}
 use Rattle.integers.proofs.Tests.{both}
-use Rattle.marker_sampling.proofs.Keyed.{column, row}
+use Rattle.marker_sampling.proofs.Keyed.{column, row, corner_0, corner_1, corner_2, corner_3}
 use Rattle.marker_sampling.proofs.Holders.{nobody}
 
 pub words-length : (c : Corners) (inliers : List ℕ) (ps : List Coord) → length (words_of_cells c inliers ps) ≡ 6 * length ps
@@ -36,11 +36,15 @@ words_by c inliers p (some k0) (some k1) none e ea eb ed ee = rw (ea, eb, ed)
 words_by c inliers p (some k0) (some k1) (some k2) none ea eb ed ee = rw (ea, eb, ed, ee)
 words_by c inliers p (some k0) (some k1) (some k2) (some k3) ea eb ed ee = rw (ea, eb, ed, ee)
 
-pub words_found : (c : Corners) (inliers : List ℕ) (p : Coord)
-    → words_at p.u p.v (in_option (holder c inliers (corner 0 p))) (in_option (holder c inliers (corner 1 p))) (in_option (holder c inliers (corner 2 p)))
-        (in_option (holder c inliers (corner 3 p)))
-      ≡ words_if_whole c inliers p
-words_found c inliers p = words_by c inliers p _ _ _ _ refl refl refl refl
+-- those of what the searches found at the four points
+pub words_found : (m : ℕ) (c : Corners) (inliers : List ℕ) (u v : ℕ) {x y : ℤ} {a b d e : Option ℕ} → x ≡ pos u -ℤ pos m → y ≡ pos v -ℤ pos m
+    → a ≡ in_option (holder c inliers (range_point m u v)) → b ≡ in_option (holder c inliers (range_point m (u + 1) v))
+    → d ≡ in_option (holder c inliers (range_point m (u + 1) (v + 1))) → e ≡ in_option (holder c inliers (range_point m u (v + 1)))
+    → words_at x y a b d e ≡ words_if_whole c inliers (range_point m u v)
+words_found m c inliers u v ex ey ea eb ed ee =
+    rw (ex, ey, ea, eb, ed, ee)
+    (words_by c inliers (range_point m u v) _ _ _ _ (ap (holder c inliers) (corner_0 m u v)) (ap (holder c inliers) (corner_1 m u v))
+    (ap (holder c inliers) (corner_2 m u v)) (ap (holder c inliers) (corner_3 m u v)))
 
 module _ (c : Corners) (inliers : List ℕ) (p : Coord) where
   not_whole : holder c inliers p ≡ none → whole_cell c inliers p ≡ false

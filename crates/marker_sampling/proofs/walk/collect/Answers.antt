@@ -26,10 +26,7 @@ loop-key-init c = record {
 }
 
 pub cell_at-cell-requires : goal.cell_at-cell-requires
-cell_at-cell-requires c = ?
-
-pub put-n-requires : goal.put-n-requires
-put-n-requires c = ?
+cell_at-cell-requires c = let i = c.loop-key.invariant in record { key_bound = c.loop-key-test.true; here_below = i.here; under_below = i.under }
 
 -- after the cell at the key
 module _ (c : After-next-key-in-loop-key) where
@@ -46,7 +43,7 @@ loop-key-preserved c =
       few = omega (arith, added_most c.put-n.ensures, r.least);
       collected = λ a k.
           collect_on 4096 a _ (passes 4096 a _ _ k (c.loop-key.key + 1) c.next-key-in-loop-key.result r)
-          (collect_next 4096 a _ c.loop-key.key refl (c.cell_at-cell.ensures.words_value a k) (c.loop-key.invariant.collected a k) c.put-n.ensures);
+          (collect_next 4096 a _ c.loop-key.key (omega arith) (c.cell_at-cell.ensures.words_value a k) (c.loop-key.invariant.collected a k) c.put-n.ensures);
       here = searched_below (omega (arith, r.least)) c.cell_at-cell.ensures.here_bound;
       under = still_below (omega (arith, r.least)) c.cell_at-cell.ensures.under_below;
     }
