@@ -52,11 +52,9 @@ pub fn build_marker_cells(
         grid,
     };
     let mut words: [u64; 1024] = [0; 1024];
-    corners.put_map(inliers, &mut words[..inliers.len()]);
-    let map = CornerMap {
-        inliers,
-        words: &words[..inliers.len()],
-    };
+    let words = &mut words[..inliers.len()];
+    corners.put_map(inliers, words);
+    let map = CornerMap { inliers, words };
     let mut results: [i32; 1536] = [0; 1536];
     let count = walk::collect(map, &mut results);
     if 256 < count {
