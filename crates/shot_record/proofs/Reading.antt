@@ -51,6 +51,17 @@ found f bytes e =
       grid_size_is = ap (λ (g : Fields). g.grid_size) e;
     }
 
+-- flags by equal bits
+pub flag_alike : (m j n k : ℕ) → bit m j ≡ bit n k → is_set m j ≡ is_set n k
+flag_alike m j n k e = ap (λ (b : ℕ). not (eqb b 0)) e
+
+-- a bit by its flag
+pub flag_set : (m k : ℕ) {set : Bool} → set ≡ is_set m k → set ≡ true → bit m k ≡ 0 → ⊥
+flag_set m k h e = eqb-false (bit m k) 0 (not-true _ (sym h ∙ e))
+
+pub flag_clear : (m k : ℕ) {set : Bool} → set ≡ is_set m k → set ≡ false → bit m k ≡ 0
+flag_clear m k h e = eqb-true (bit m k) 0 (not-false _ (sym h ∙ e))
+
 -- a setting whose bit is not 0
 pub setting_set : {A : Type 0} (b : ℕ) (field default : A) → (b ≡ 0 → ⊥) → field ≡ setting b field default
 setting_set zero field default h = absurd (h refl)
