@@ -85,16 +85,15 @@ module _ (f : Fields) (bytes : List ℕ) (e : f ≡ fields_of bytes) (sets : Boo
   flag : bit f.map 3 ≡ bit (map_byte bytes) 3
   flag = ap (λ (m : ℕ). bit m 3) (found f bytes e).map
 
-  pub built_in-table : not sets ≡ true → (shot bytes).table ≡ patterns
+  pub built_in-table : sets ≡ false → (shot bytes).table ≡ patterns
   built_in-table n =
-      let clear : bit (map_byte bytes) 3 ≡ 0 = sym flag ∙ eqb-true (bit f.map 3) 0 (not-false _ (sym h ∙ not-true sets n)) in
+      let clear : bit (map_byte bytes) 3 ≡ 0 = sym flag ∙ flag_clear f.map 3 h n in
       rw clear refl
 
-  pub own-table : not sets ≡ false → numbers 4 511 f.table_at bytes ≡ (shot bytes).table
+  pub own-table : sets ≡ true → numbers 4 511 f.table_at bytes ≡ (shot bytes).table
   own-table n =
-      let set : bit (map_byte bytes) 3 ≡ 0 → ⊥ = λ z. eqb-false (bit f.map 3) 0 (not-true _ (sym h ∙ not-false sets n)) (flag ∙ z) in
       ap (λ (at : ℕ). numbers 4 511 at bytes) (found f bytes e).table_at
-      ∙ setting_set (bit (map_byte bytes) 3) (numbers 4 511 (table_at bytes) bytes) patterns set
+      ∙ setting_set (bit (map_byte bytes) 3) (numbers 4 511 (table_at bytes) bytes) patterns (λ z. flag_set f.map 3 h n (flag ∙ z))
 
 -- the codes of the shot
 pub code_count_is : (bytes : List ℕ) → length (shot bytes).codes ≡ code_count bytes

@@ -20,5 +20,11 @@ returns c =
 pub overflow_mul-k : goal.overflow_mul-k
 overflow_mul-k c = omega (arith, reach c.args.self.now c.args.k c.requires)
 
+pub overflow_add-self : goal.overflow_add-self
+overflow_add-self c = omega (arith, reach c.args.self.now c.args.k c.requires)
+
+pub overflow_add-self-2 : goal.overflow_add-self-2
+overflow_add-self-2 c = omega (arith, reach c.args.self.now c.args.k c.requires)
+
 pub eight_at-requires : goal.eight_at-requires
 eight_at-requires c = omega (arith, reach c.args.self.now c.args.k c.requires)

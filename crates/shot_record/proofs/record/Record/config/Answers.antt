@@ -20,9 +20,9 @@ pub setting-requires-4 : goal.setting-requires-4
 setting-requires-4 c = omega (arith, found_reach _ _ c.args.self.now.located)
 
 -- a setting from the map byte and the offset as they were found
-at : (bytes : List ℕ) (k default m n p q : ℕ) → m ≡ n → p ≡ q
+at : {m n p q : ℕ} (bytes : List ℕ) (k default : ℕ) → m ≡ n → p ≡ q
     → of_pattern (setting (bit m k) (number 4 p bytes) default) ≡ of_pattern (setting (bit n k) (number 4 q bytes) default)
-at bytes k default m n p q e g = cc
+at bytes k default e g = cc
 
 config : Float → Float → Float → Float → BoardMatchConfig
 config px margin threshold least =
@@ -36,8 +36,9 @@ unfolding config
 returns c =
     let r = c.args.self.now in
     let f = found_in r in
+    let first : 1 ≡ 1 = refl in
     same
-    (c.setting.ensures _ 2 c.is_set.ensures ∙ at _ _ _ _ _ _ _ f.map f.px_at_is)
-    (c.setting-2.ensures _ 0 c.is_set-2.ensures ∙ at _ _ _ _ _ _ _ f.map refl)
-    (c.setting-3.ensures _ 1 c.is_set-3.ensures ∙ at _ _ _ _ _ _ _ f.map f.threshold_at_is)
-    (c.setting-4.ensures _ 5 c.is_set-4.ensures ∙ at _ _ _ _ _ _ _ f.map f.least_weight_at_is)
+    (c.setting.ensures _ 2 c.is_set.ensures ∙ at r.bytes.now 2 0x42700000 f.map f.px_at_is)
+    (c.setting-2.ensures _ 0 c.is_set-2.ensures ∙ at r.bytes.now 0 0x3D4CCCCD f.map first)
+    (c.setting-3.ensures _ 1 c.is_set-3.ensures ∙ at r.bytes.now 1 0x3F000000 f.map f.threshold_at_is)
+    (c.setting-4.ensures _ 5 c.is_set-4.ensures ∙ at r.bytes.now 5 0 f.map f.least_weight_at_is)
