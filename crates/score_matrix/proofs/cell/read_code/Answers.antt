@@ -59,4 +59,3 @@ overflow_add-code c =
 
 pub loop-k-preserved : goal.loop-k-preserved
 loop-k-preserved c = code (goal.at.loop-k-preserved c).After-from
-

@@ -16,4 +16,3 @@ loop-x-preserved c =
     let r : Float = in_row a.rows.now l.x a.row in
     wrote_next (add binary32 (get_or l.sums (from + l.x) nan) r) l.invariant (λ j h e. absurd (omega (arith, h, e))) (omega arith)
     (ap (λ (y : Float). add binary32 y r) (l.invariant.kept (from + l.x) (λ j h e. absurd (omega (arith, h, e)))))
-

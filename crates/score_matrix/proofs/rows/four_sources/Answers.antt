@@ -18,4 +18,3 @@ loop-turn-preserved c =
     below_more (λ r. (k : ℕ) → k < bits * bits → get_or last (64 * r + k) 0 ≡ source_bit bits r k) l.turn
     (λ r h k g. w.kept (64 * r + k) (λ j n e. absurd (omega (arith, small, h, g, n, e))) ∙ l.invariant r h k g)
     (λ k g. w.done k (omega (arith, small, g)) ∙ c.source_bits-part.ensures k g)
-

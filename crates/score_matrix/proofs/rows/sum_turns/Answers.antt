@@ -30,4 +30,3 @@ loop-k-preserved c r x h g =
     let a = c.args in
     one_more_term (picked_row a.rows.now a.sources.now a.code x r) l.k (get_or l.sums (8 * r + x) nan)
     (get_or c.add_bit.new.sums (8 * r + x) nan) (l.invariant r x h g) (c.add_bit.ensures r x h g)
-

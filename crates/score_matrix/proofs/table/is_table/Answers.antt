@@ -43,4 +43,3 @@ returns-then-table-eq511 c =
     (cases_from_all _ _ _ (Answered true) (Answered false) c.all.ensures.ran (YieldsList-from_slice table cc) (λ x q k. search (rules, tests))
     (λ x q k. search (rules, tests))) in
     e ∙ ap (λ (b : Bool). b && entries_in_range table) (sym (eq-eqb (length table) 511 c.if-table-eq511.true))
-

@@ -27,4 +27,3 @@ overflow_add-result c = record { fits = omega (arith, small (goal.at.overflow_ad
 
 pub overflow_cast-result : goal.overflow_cast-result
 overflow_cast-result c = record { fits = omega (arith, small (goal.at.overflow_cast-result c).After-source_place-q) }
-

@@ -23,4 +23,3 @@ loop-k-preserved c =
           (get_or-set_same before c.loop-k.k x 0 (rw held.0 (here b c.loop-k.k c.requires c.loop-k-test.true).small) ∙ c.source_bit.ensures
           ∙ ap (λ p. index_of b (source b r p)) c.place.ensures),
     )
-
