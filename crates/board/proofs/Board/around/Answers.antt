@@ -14,11 +14,12 @@ returns-then-i-lt1 c =
     let b = c.args.self in
     let p = c.args.place in
     sym
-    (elim c.then-i-lt1.branch
-    [ then-i-lt1-via-then-i-lt1 w ↦ rim_left b.rows b.cols p.i p.j (omega arith)
-    | then-i-lt1-via-else-i-lt1+then-j-lt1 w ↦ rim_top b.rows b.cols p.i p.j (omega arith)
-    | then-i-lt1-via-else-i-lt1+else-j-lt1+then-width-i w ↦ rim_right b.rows b.cols p.i p.j (omega arith)
-    | then-i-lt1-via-else-i-lt1+else-j-lt1+else-width-i+then-self-j w ↦ rim_bottom b.rows b.cols p.i p.j (omega arith) ])
+    (elim c.then-i-lt1.branch [
+      | then-i-lt1-via-then-i-lt1 w ↦ rim_left b.rows b.cols p.i p.j (omega arith)
+      | then-i-lt1-via-else-i-lt1+then-j-lt1 w ↦ rim_top b.rows b.cols p.i p.j (omega arith)
+      | then-i-lt1-via-else-i-lt1+else-j-lt1+then-width-i w ↦ rim_right b.rows b.cols p.i p.j (omega arith)
+      | then-i-lt1-via-else-i-lt1+else-j-lt1+else-width-i+then-self-j w ↦ rim_bottom b.rows b.cols p.i p.j (omega arith)
+    ])
 
 -- no number overflows
 small : (c : Else-self-j) → let b = c.args.self in let p = c.args.place in

@@ -13,11 +13,12 @@ pub returns-then-width-i : goal.returns-then-width-i
 returns-then-width-i c =
     sym
     (outer_corner _ _ _ _
-    (λ a b l k. elim c.then-width-i.branch
-        [ then-width-i-via-then-width-i w ↦ omega arith
-        | then-width-i-via-else-width-i+then-self-j w ↦ omega arith
-        | then-width-i-via-else-width-i+else-self-j+then-i-lt1 w ↦ omega arith
-        | then-width-i-via-else-width-i+else-self-j+else-i-lt1+then-j-lt1 w ↦ omega arith ]))
+    (λ a b l k. elim c.then-width-i.branch [
+      | then-width-i-via-then-width-i w ↦ omega arith
+      | then-width-i-via-else-width-i+then-self-j w ↦ omega arith
+      | then-width-i-via-else-width-i+else-self-j+then-i-lt1 w ↦ omega arith
+      | then-width-i-via-else-width-i+else-self-j+else-i-lt1+then-j-lt1 w ↦ omega arith
+    ]))
 
 product_small : (c : Else-j-lt1) → (c.args.j - 1) * (c.args.self.cols - 1) ≤ 65025
 product_small c = area_small (c.args.j - 1) (c.args.self.cols - 1) (omega arith) (omega arith)

@@ -18,12 +18,13 @@ returns-then-self-x c =
     let i = c.args.i in
     let j = c.args.j in
     sym
-    (elim c.then-self-x.branch
-    [ then-self-x-via-then-self-x w ↦ unnumbered (holds_marker _) _ _ _ _ (λ l k y. omega arith)
-    | then-self-x-via-else-self-x+then-self-y w ↦ unnumbered (holds_marker _) _ _ _ _ (λ l k y. omega arith)
-    | then-self-x-via-else-self-x+else-self-y+then-not-holds_marker w ↦
-        number-on (parity_of b) b.rows b.cols i j (parity_bit b) (omega arith) (omega arith)
-        ∙ ap (λ (t : Bool). number_if t ((j * b.cols + i) / 2)) (sym w.holds_marker.ensures ∙ w.if-not-holds_marker.true) ])
+    (elim c.then-self-x.branch [
+      | then-self-x-via-then-self-x w ↦ unnumbered (holds_marker _) _ _ _ _ (λ l k y. omega arith)
+      | then-self-x-via-else-self-x+then-self-y w ↦ unnumbered (holds_marker _) _ _ _ _ (λ l k y. omega arith)
+      | then-self-x-via-else-self-x+else-self-y+then-not-holds_marker w ↦
+          number-on (parity_of b) b.rows b.cols i j (parity_bit b) (omega arith) (omega arith)
+          ∙ ap (λ (t : Bool). number_if t ((j * b.cols + i) / 2)) (sym w.holds_marker.ensures ∙ w.if-not-holds_marker.true)
+    ])
 
 pub overflow_cast-result : goal.overflow_cast-result
 overflow_cast-result c = omega (arith, area_small c.args.j c.args.self.cols (omega arith) (omega arith))
