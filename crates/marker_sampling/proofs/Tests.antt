@@ -17,15 +17,6 @@ agree true b f g = sym (f refl)
 agree false true f g = g refl
 agree false false f g = refl
 
-pub fails : (a : Bool) → (a ≡ true → ⊥) → a ≡ false
-fails true f = absurd (f refl)
-fails false f = refl
-
--- the sign test
-pub not_negative : (z : ℤ) → le_z (pos 0) z ≡ not (lt_z z (pos 0))
-not_negative (pos n) = leb-zero n ∙ sym (ap not (leb-suc-zero n))
-not_negative (negsuc n) = refl
-
 -- an integer from −m to m is some n from 0 to 2m, less m
 pub offset_of : ℕ → ℤ → ℕ
 offset_of m z = nat_abs (z +ℤ pos m)
