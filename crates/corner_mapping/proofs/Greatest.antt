@@ -11,7 +11,7 @@ use lib.Dec.{T}
 use lib.ListN.{length}
 use lib.Ieee.{Float, lt}
 use lib.Ieee.Scale.{finite as is_finite}
-use Rattle.std.proofs.lemmas.Bool.{false_from_ne_true, true_from_ne_false}
+use Rattle.std.proofs.lemmas.Bool.{both_ways, false_from_ne_true, true_from_ne_false}
 use Rattle.floats.specs.Units.{Finite}
 use Rattle.floats.proofs.Order.{lt_self, lt_trans, not_lt_trans}
 use Rattle.integers.proofs.Tests.{both}
@@ -24,9 +24,6 @@ finite_at : (scores : List Float) (k : ℕ) → finite_scores scores ≡ true �
 finite_at [] k e h = absurd (omega arith)
 finite_at (s ∷ ss) zero e h = subst T (sym (both (is_finite s) (finite_scores ss) e).0) tt
 finite_at (s ∷ ss) (suc k) e h = finite_at ss k (both (is_finite s) (finite_scores ss) e).1 (le_of_suc-le-suc h)
-
-clash : {P : Type 0} (t : Bool) → t ≡ false → t ≡ true → P
-clash t p q = absurd (false≢true (sym p ∙ q))
 
 module _ (x : Input) (id : ℕ) where
   abbrev score : ℕ → Float
@@ -89,14 +86,14 @@ module _ (x : Input) (id : ℕ) where
           let j₀ = finite j (omega (arith, l, inside)) in
           let n₀ = finite n inside in
           let m = g.most j l c in (
-            false_from_ne_true _ (λ p. clash _ m (lt_trans (score k) (score n) (score j) k₀ n₀ j₀ t p)),
-            true_from_ne_false _ (λ p. clash _ (not_lt_trans (score k) (score j) (score n) k₀ j₀ n₀ m p) t),
+            false_from_ne_true _ (λ p. both_ways _ m (lt_trans (score k) (score n) (score j) k₀ n₀ j₀ t p)),
+            true_from_ne_false _ (λ p. both_ways _ (not_lt_trans (score k) (score j) (score n) k₀ j₀ n₀ m p) t),
           )
 
       -- by the earlier choice, if corner n has the id
       decided : (o : Option ℕ) (k : ℕ) → bears x n id ≡ true → ((j : ℕ) → o ≡ some j → GreatestScore x id n j)
           → (o ≡ none → (j : ℕ) → j < n → bears x j id ≡ false) → replaced (greater x.scores o n) n o ≡ some k → GreatestScore x id (suc n) k
-      decided none k b g f e = subst (GreatestScore x id (suc n)) (cc) (comes b (λ j l c. clash _ (f refl j l) c))
+      decided none k b g f e = subst (GreatestScore x id (suc n)) (cc) (comes b (λ j l c. absurd (both_ways _ (f refl j l) c)))
       decided (some i) k b g f e = go (lt (score i) (score n)) refl e
         where
           go : (t : Bool) → lt (score i) (score n) ≡ t → replaced t n (some i) ≡ some k → GreatestScore x id (suc n) k
@@ -113,4 +110,4 @@ module _ (x : Input) (id : ℕ) where
 
         go : ((k : ℕ) → chosen_to x id n ≡ some k → GreatestScore x id n k) → (t : Bool) → bears x n id ≡ t → GreatestScore x id (suc n) k
         go before true t = decided n inside (chosen_to x id n) k t before (none_before n) (sym (met x n id t) ∙ e)
-        go before false t = stays n inside k (before k (sym (passed x n id t) ∙ e)) (λ c. clash _ t c)
+        go before false t = stays n inside k (before k (sym (passed x n id t) ∙ e)) (λ c. absurd (both_ways _ t c))

@@ -1,4 +1,4 @@
--- Tests of Booleans and of integers, as equations. Assumes nothing.
+-- An integer from −m to m as an offset from −m. Assumes nothing.
 use mathlib.Core.Path.{◌≡◌, refl, sym, ap, ◌∙◌}
 use mathlib.Core.Bool.{Bool, true, false, not}
 use Prim.Native.Nat.{ℕ, ◌+◌, ◌*◌, ◌≤◌, ◌<◌}
@@ -10,12 +10,6 @@ use Rattle.integers.proofs.Tests.{both}
 use Rattle.integers.proofs.Parts.{plus, minus, plus_neg, minus_neg, add_is, sub_is_parts, abs_is, no_minus, ext}
 use Rattle.integers.proofs.Distances.{le_z→Le}
 use Rattle.integers.specs.Distance.{is_within}
-
--- two equivalent tests
-pub agree : (a b : Bool) → (a ≡ true → b ≡ true) → (b ≡ true → a ≡ true) → a ≡ b
-agree true b f g = sym (f refl)
-agree false true f g = g refl
-agree false false f g = refl
 
 -- an integer from −m to m is some n from 0 to 2m, less m
 pub offset_of : ℕ → ℤ → ℕ
