@@ -16,5 +16,5 @@ returns-in_err-board c =
 pub returns : goal.returns
 returns c =
     let q = on-board _ _ c.args.scores.now c.args.grid.now c.args.alignment c.args.corners.now _ _ _ (sym c.new.ensures ∙ c.in_ok-board.was)
-        c.map_onto.ensures.answer c.map_onto.ensures.list in
+    c.map_onto.ensures.answer c.map_onto.ensures.list in
     record { answer = q.0; list = q.1 }

@@ -33,8 +33,8 @@ pub returns-then-corners-count : goal.returns-then-corners-count
 returns-then-corners-count c =
     let x = from (goal.at.returns-then-corners-count c).Start in
     let r = refused x _ refusal.ListTooShort
-        (asked x _ true false (in_range (goal.at.returns-then-corners-count c).Else-not-in_range)
-        (lt-leb (6 * count x) (length c.args.corners.now) (omega arith))) in
+    (asked x _ true false (in_range (goal.at.returns-then-corners-count c).Else-not-in_range)
+    (lt-leb (6 * count x) (length c.args.corners.now) (omega arith))) in
     record { answer = r.0; list = r.1 }
 
 pub invariant_of-input : goal.invariant_of-input
@@ -51,6 +51,6 @@ returns c =
     let x = from s in
     let enough : 6 * count x ≤ length c.args.corners.now = omega arith in
     let r = mapped_all x _ c.put_all-end.result _ _
-        (asked x _ true true (in_range (goal.at.returns c).Else-not-in_range) (le-leb (6 * count x) (length c.args.corners.now) enough)) enough
-        (omega (arith, few s)) c.choose-choices.ensures c.put_all-end.ensures in
+    (asked x _ true true (in_range (goal.at.returns c).Else-not-in_range) (le-leb (6 * count x) (length c.args.corners.now) enough)) enough
+    (omega (arith, few s)) c.choose-choices.ensures c.put_all-end.ensures in
     record { answer = r.0; list = r.1 }
