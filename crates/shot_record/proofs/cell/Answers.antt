@@ -1,5 +1,5 @@
 -- `shot_record::cell` meets its contract. Assumes nothing.
-use Rattle.std.proofs.Common.{◌≡◌, refl, ap, ◌∙◌, ℕ, List, ◌<◌, ◌≤◌, Some, Ok, arith}
+use Rattle.std.proofs.Common.{refl, ap, ◌∙◌, ◌<◌, ◌≤◌, Some, Ok, arith}
 use Rattle.std.proofs.lemmas.Result.{err_from_is_err_and}
 use Rattle.shot_record.specs.declared.cells.Cursor.{Cursor}
 use Rattle.shot_record.specs.Fields.{cell_count}

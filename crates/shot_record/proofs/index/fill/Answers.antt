@@ -8,7 +8,7 @@ use mathlib.Core.List.{List}
 use lib.ListN.{length, get_or, set, length-set}
 use lib.Seq.{get_or-set_same, get_or-set_other}
 use Rattle.shot_record.specs.declared.cells.Cursor.{Cursor}
-use Rattle.shot_record.specs.Fields.{cell_count, cursor_at, AtCell}
+use Rattle.shot_record.specs.Fields.{cursor_at, AtCell}
 use Rattle.shot_record.specs.Index.{words_of, with_words}
 use Rattle.shot_record.proofs.Records.{found_in}
 use Rattle.shot_record.proofs.Walks.{at-cell}
