@@ -139,10 +139,6 @@ pub overflow_add-first : goal.overflow_add-first
 overflow_add-first c =
     record { fits = omega (arith, whole (goal.at.overflow_add-first c).After-at_most_eight-count, all (goal.at.overflow_add-first c).Start, (ready (goal.at.overflow_add-first c).Start).passed.checked.few) }
 
-pub loop-first-smaller : goal.loop-first-smaller
-loop-first-smaller c =
-    omega (arith, whole (goal.at.loop-first-smaller c).After-at_most_eight-count, c.loop-first-test.true, (its_block (goal.at.loop-first-smaller c).After-at_most_eight-count).some (omega (arith, c.loop-first-test.true)))
-
 pub loop-first-preserved : goal.loop-first-preserved
 loop-first-preserved c =
     let l = c.loop-first in
@@ -159,9 +155,6 @@ loop-first-preserved c =
           (subst (λ (m : ℕ). Wrote nan (SpotIn m n) (spot_place m l.first) (spot_score lanes sources bits codes) l.scores c.fill_block.new.scores)
           (markers-are (goal.at.loop-first-preserved c).Start) c.fill_block.ensures)),
     )
-
-pub shape_of-scores : goal.shape_of-scores
-shape_of-scores c = c.loop-first.invariant.2.size
 
 pub returns : goal.returns
 returns c =

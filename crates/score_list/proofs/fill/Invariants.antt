@@ -16,6 +16,3 @@ score_at_spot s p = score_in s p.cell p.marker p.turn
 abbrev pub invariant-loop-first : goal.invariant-loop-first
 invariant-loop-first l =
     (l.first ≤ l.cells) × (length l.lanes ≡ 1024) × Wrote nan (SpotIn (marker_total_in (shot l.bytes)) l.first) (whole_place (marker_total_in (shot l.bytes))) (score_at_spot (shot l.bytes)) l.initial.scores l.scores
-
-abbrev pub decreases-loop-first : goal.decreases-loop-first
-decreases-loop-first l = l.cells - l.first
