@@ -1,4 +1,5 @@
 -- `score_list::fill_rows` meets its contract. The loop's invariant: the first x columns are written. Assumes nothing.
+use mathlib.Core.Path.{◌∙◌}
 use Prim.Native.Nat.{ℕ, ◌+◌, ◌*◌, ◌≤◌, ◌<◌}
 use native.Mathlib.Omega.{arith}
 use lib.Ieee.{Float}
@@ -33,7 +34,7 @@ pub overflow_mul-n : goal.overflow_mul-n
 overflow_mul-n c = record { fits = omega (arith, area (goal.at.overflow_mul-n c).Start) }
 
 pub loop-x-init : goal.loop-x-init
-loop-x-init c = λ y h. absurd (omega (arith, h))
+loop-x-init c = (omega arith, λ y h. absurd (omega (arith, h)))
 
 pub overflow_add-first : goal.overflow_add-first
 overflow_add-first c =
@@ -47,8 +48,10 @@ overflow_mul-n-in-loop-x c = record { fits = omega (arith, area (goal.at.overflo
 
 pub put_column-requires : goal.put_column-requires
 put_column-requires c =
-    let few = area (goal.at.put_column-requires c).Start in
+    let n = c.args.loaded.now.inputs.board.bits in
+    let few : 2 * (n * n) ≤ 128 = omega (arith, area (goal.at.put_column-requires c).Start) in
     let below : c.loop-x.x < 8 = omega (arith, c.loop-x-test.true, c.requires.1) in
+    let long = c.loop-x.invariant.0 in
     search rules
 
 pub loop-x-preserved : goal.loop-x-preserved
@@ -59,10 +62,12 @@ loop-x-preserved c =
     let w = c.put_column.ensures in
     let last = c.put_column.new.rows in
     let f : ℕ → ℕ → ℕ → Float = λ y. adds_of (shot c.args.loaded.now.bytes.now) (c.args.first + y) in
-    let inside : l.x < 8 = omega (arith, c.loop-x-test.true, c.requires.1) in
-    below_more (λ y. Column (f y) n last y) l.x
-    (λ y h. column-kept adds n l.x l.rows last w (f y) y inside (omega (arith, h, inside)) (λ e. absurd (omega (arith, h, e))) (l.invariant y h))
-    (column_put adds n l.x l.rows last w (f l.x) c.cell_adds.ensures)
+    let inside : l.x < 8 = omega (arith, c.loop-x-test.true, c.requires.1) in (
+      w.size ∙ l.invariant.0,
+      below_more (λ y. Column (f y) n last y) l.x
+          (λ y h. column-kept adds n l.x l.rows last w (f y) y inside (omega (arith, h, inside)) (λ e. absurd (omega (arith, h, e))) (l.invariant.1 y h))
+          (column_put adds n l.x l.rows last w (f l.x) c.cell_adds.ensures),
+    )
 
 pub returns : goal.returns
-returns c x h = c.loop-x.invariant x (omega (arith, h, c.loop-x-test.false))
+returns c x h = c.loop-x.invariant.1 x (omega (arith, h, c.loop-x-test.false))
