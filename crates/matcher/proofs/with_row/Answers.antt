@@ -29,9 +29,6 @@ module _ (c : After-source_place-p) where
   abbrev at : ℕ
   at = index_of n c.source_place-p.result
 
-  to-small : y * n + x < 64
-  to-small = rank_small code n turn x y c.requires.0 c.requires.1 c.loop-x-test.true
-
   from-small : at < 64
   from-small =
       subst (λ (p : Place). index_of n p < 64) (sym c.source_place-p.ensures)
