@@ -5,7 +5,7 @@ use Prim.Native.Nat.{ℕ, ◌+◌, ◌*◌, ◌/◌, ◌%◌, ◌^◌, ◌<◌}
 use native.Mathlib.Omega.{arith}
 use Rattle.matcher.specs.declared.Place.{Place}
 use Rattle.matcher.specs.Codes.{from_bits, bit, index_of, turned_bit}
-use Rattle.matcher.proofs.Turns.{rank_small, source-small, next_turned_bit, next_below}
+use Rattle.matcher.proofs.Turns.{source-small, next_turned_bit, next_below}
 use Rattle.matcher.proofs.with_row.Goals as goal
 use Rattle.matcher.proofs.with_row.Goals.{After-source_place-p, Start}
 
