@@ -74,12 +74,6 @@ returns c =
     (c.min-2.ensures ∙ ap₂ min (twice_is (goal.at.returns c).After-moved_on-twice ∙ sym (two_turns n some code))
     (c.moved_on-thrice.ensures ∙ ap₂ moved_on quarter_is (twice_is (goal.at.returns c).After-moved_on-twice) ∙ sym (three_turns n some code)))
 
-pub quarter-m-requires : goal.quarter-m-requires
-quarter-m-requires c = c.args.self.now.held.1
-
-pub overflow_mul-m : goal.overflow_mul-m
-overflow_mul-m c = omega (arith, small c)
-
 pub picked-as_is-requires : goal.picked-as_is-requires
 picked-as_is-requires c = (omega (arith, small c), source-small c)
 
