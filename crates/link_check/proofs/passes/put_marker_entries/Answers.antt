@@ -33,16 +33,3 @@ loop-k-preserved c =
     let l = c.loop-k in
     to_more violation_words (entry (goal.at.loop-k-preserved c).Start) x.violations.now x.at x.links.count c.requires l.k l.invariant
     c.put_of_first-end.ensures
-
-pub shape_of-violations : goal.shape_of-violations
-shape_of-violations c =
-    let x = c.args in
-    let l = c.loop-k in
-    to-length violation_words (entry (goal.at.shape_of-violations c).Start) x.violations.now x.at x.links.count c.requires l.k l.invariant (omega arith)
-
-pub returns : goal.returns
-returns c =
-    let x = c.args in
-    let l = c.loop-k in
-    let all : l.k ≡ x.links.count = omega arith in
-    subst (PutTo violation_words (entry (goal.at.returns c).Start) x.violations.now x.at x.links.count c.requires l.violations l.end) all l.invariant
