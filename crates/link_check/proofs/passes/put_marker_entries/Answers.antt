@@ -1,10 +1,9 @@
 -- `link_check::passes::put_marker_entries` meets its contract. The loop's invariant: the violations of the markers of the first k links
 -- are written. Assumes nothing.
-use mathlib.Core.Path.{◌≡◌, subst}
 use mathlib.Core.List.{List}
 use Prim.Native.Nat.{ℕ}
 use native.Mathlib.Omega.{arith}
-use Rattle.lent_list.proofs.Loops.{PutTo, none_to, to-length, to_room, to_more}
+use Rattle.lent_list.proofs.Loops.{none_to, to_room, to_more}
 use Rattle.link_check.specs.Violations.{Violation, expectation, of_first, violation_words}
 use Rattle.link_check.proofs.passes.put_marker_entries.Goals as goal
 use Rattle.link_check.proofs.passes.put_marker_entries.Goals.{Start}

@@ -1,13 +1,13 @@
 -- `link_check::passes::put_own_entries` meets its contract. The loop's invariant: the own violations of the first k links are written.
 -- Assumes nothing.
-use mathlib.Core.Path.{◌≡◌, ap₂, subst}
+use mathlib.Core.Path.{ap₂}
 use mathlib.Core.List.{List}
 use Prim.Native.Nat.{ℕ, ◌+◌, ◌*◌, ◌≤◌}
 use native.Mathlib.Omega.{arith}
 use lib.ListN.{length}
 use Rattle.lent_list.specs.Front.{up_to}
 use Rattle.lent_list.proofs.Front.{put_as}
-use Rattle.lent_list.proofs.Loops.{PutTo, none_to, to-length, to_more}
+use Rattle.lent_list.proofs.Loops.{none_to, to-length, to_more}
 use Rattle.link_check.specs.declared.expected.MarkerExpectation.{MarkerExpectation}
 use Rattle.link_check.specs.Violations.{Violation, expectation, against, own, violation_words, words_of_violations}
 use Rattle.link_check.proofs.Enough.{own-few}

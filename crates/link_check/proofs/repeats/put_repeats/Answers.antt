@@ -1,12 +1,12 @@
 -- `link_check::repeats::put_repeats` meets its contract. The loop's invariant: the violations of the links before k are written, and k has
 -- the marker's key. Assumes nothing.
-use mathlib.Core.Path.{◌≡◌, sym, subst}
+use mathlib.Core.Path.{sym, subst}
 use mathlib.Core.List.{List}
 use Prim.Native.Nat.{ℕ, ◌+◌, ◌<◌}
 use native.Mathlib.Omega.{arith}
 use lib.ListN.{get_or}
 use Rattle.lent_list.specs.Front.{Put}
-use Rattle.lent_list.proofs.Loops.{PutTo, none_to, to-length, to_room, to_more}
+use Rattle.lent_list.proofs.Loops.{PutTo, none_to, to_room, to_more}
 use Rattle.link_check.specs.declared.chains.By.TheVariants.{Marker}
 use Rattle.link_check.specs.Violations.{Violation, four_of, repeat_at, violation_words, words_of_violations}
 use Rattle.link_check.proofs.Chained.{Walked, walked_first, walked_next}
