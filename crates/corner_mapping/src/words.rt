@@ -23,7 +23,7 @@ fn corner_words(board: Board, id: u32, index: u32) -> [u32; 6]
             floats::to_bits(q.y),
         ],
         (Some(p), None) => [id, index, p.i, p.j, 0, 0],
-        // No result has such an id: law `board-corners-named`.
+        // No result has such an id: law `board_corners_named`.
         (None, _) => [id, index, 0, 0, 0, 0],
     }
 }
@@ -36,7 +36,7 @@ fn put_corner(board: Board, id: u32, choice: u16, corners: &mut [u32], at: usize
     if choice == 0 {
         return at;
     }
-    let words = corner_words(board, id, choice as u32 - 1);
+    let words = corner_words(board, id, u32::from(choice) - 1);
     lent_list::put(corners, at, &words)
 }
 
