@@ -87,7 +87,7 @@ after_record (some s) words = asked_before15 s words
 
 -- the result in the program
 abbrev pub told_answer : Option Refusal → Result (Unit {0}) Refusal
-told_answer none = Ok
+told_answer none = Ok tt
 told_answer (some r) = Err r
 
 abbrev pub asked_with : Option Refusal → Shot → Result Inputs Refusal

@@ -2,16 +2,16 @@
 
 #![tactic(auto)]
 
-ghost use Rattle.std.specs.Prelude.{◌≡◌, map, length, replicate};
-ghost use Rattle.std.proofs.Math.Option.{none};
+ghost use Rattle.std.specs.Prelude.{◌≡◌, IfOk, IfErr, map, length, replicate};
+ghost use Rattle.std.proofs.Math.Option.{none, some};
 ghost use Rattle.score_matrix.specs.Table.{built_in};
-ghost use Rattle.shot_record.specs.Shots.{first_codes, shot};
+ghost use Rattle.shot_record.specs.Shots.{first_codes, shot, parse};
 ghost use Rattle.shot_record.specs.Answers.{of_pattern};
 ghost use Rattle.shot_record.specs.Index.{Indexed};
 ghost use Rattle.hypothesis.specs.Search.{enumerate};
 ghost use Rattle.hypothesis.specs.declared.Inputs.{Inputs};
 ghost use Rattle.hypothesis.specs.Inputs.{Loaded};
-ghost use Rattle.board_match.specs.Questions.{asked_before15, asked_answer};
+ghost use Rattle.board_match.specs.Questions.{asked_before15, asked_answer, after_record};
 ghost use Rattle.board_match.specs.Match.{match_answer, match_list, Gives};
 ghost use Rattle.board_match.specs.Scores.{scored_answer, scored_list, scores_left, GivesScored};
 ghost use Rattle.board_match.specs.Accuracy.{Accuracy};
@@ -112,23 +112,30 @@ fn match_scored(loaded: &LoadedShot<'_>, scores: &mut [f32], markers: &mut [u32]
 }
 
 // Reads table, codes and index of a record, and checks questions 21, 1 to 14, 22 and 23. At entry `table` is the built-in one, and `codes` is cleared.
-fn load(
-    table: &mut [f32; 511],
-    codes: &mut [u64; 512],
-    index: &mut [u32; 768],
-    bytes: &[u8],
+fn load<'a>(
+    table: &'a mut [f32; 511],
+    codes: &'a mut [u64; 512],
+    index: &'a mut [u32; 768],
+    bytes: &'a [u8],
     words: usize,
-) -> Result<Inputs, Refusal>
-    requires { (table.old ≡ built_in) × (codes.old ≡ replicate 512 0) × (length index.old ≡ 768) }
-    ensures answer { result ≡ asked_answer bytes.now words }
-    ensures loaded { (i : Inputs) → result ≡ Ok i → Loaded bytes.now i index.new table.new codes.new }
+) -> Result<LoadedShot<'a>, Refusal>
+    requires { (table.old ≡ built_in) × (codes.old ≡ replicate 512 0) }
+    ensures refused { IfErr result (λ r. after_record (parse bytes.now) words ≡ some r) }
+    ensures passed { IfOk result (λ loaded. (loaded.bytes.now ≡ bytes.now) × (asked_before15 (shot bytes.now) words ≡ none)) }
 {
     // Question 21 comes first, so that table, codes and index are read from a whole record only.
     let record = Record::parse(bytes)?;
     bulk::table(table, &record);
     bulk::codes(codes, &record);
     index::fill(index, &record);
-    before_15(&record, table, codes, index, words)
+    let inputs = before_15(&record, table, codes, index, words)?;
+    Ok(LoadedShot {
+        bytes,
+        inputs,
+        index,
+        table,
+        codes,
+    })
 }
 
 // The placement of a shot record on its board. Writes 18 words for each marker to the start of the output array; on error the array does not change.
@@ -140,14 +147,7 @@ pub fn match_board(bytes: &[u8], markers: &mut [u32]) -> Result<Match, Refusal>
     let mut table = built_in_table();
     let mut codes: [u64; 512] = [0; 512];
     let mut index: [u32; 768] = [0; 768];
-    let inputs = load(&mut table, &mut codes, &mut index, bytes, markers.len())?;
-    let loaded = LoadedShot {
-        bytes,
-        inputs,
-        index: &index,
-        table: &table,
-        codes: &codes,
-    };
+    let loaded = load(&mut table, &mut codes, &mut index, bytes, markers.len())?;
     place_found(&loaded, search::enumerate_hypotheses(&loaded), markers)
 }
 
@@ -162,13 +162,6 @@ pub fn match_board_with_scores(bytes: &[u8], scores: &mut [f32], markers: &mut [
     let mut table = built_in_table();
     let mut codes: [u64; 512] = [0; 512];
     let mut index: [u32; 768] = [0; 768];
-    let inputs = load(&mut table, &mut codes, &mut index, bytes, markers.len())?;
-    let loaded = LoadedShot {
-        bytes,
-        inputs,
-        index: &index,
-        table: &table,
-        codes: &codes,
-    };
+    let loaded = load(&mut table, &mut codes, &mut index, bytes, markers.len())?;
     match_scored(&loaded, scores, markers)
 }

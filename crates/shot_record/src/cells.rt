@@ -104,7 +104,7 @@ impl<'a> Record<'a> {
 
     // The record of these bytes, if they pass question 21.
     pub fn parse(bytes: &'a [u8]) -> Result<Record<'a>, Refusal>
-        ensures whole { IfOk result (λ record. (record.bytes.now ≡ bytes.now) × (whole_record bytes.now ≡ true)) }
+        ensures whole { IfOk result (λ read. (read.bytes.now ≡ bytes.now) × (whole_record bytes.now ≡ true)) }
         ensures refused { IfErr result (λ refusal. (refusal ≡ Refusal.InvalidRecord) × (whole_record bytes.now ≡ false)) }
     {
         let record = Record::located(bytes);

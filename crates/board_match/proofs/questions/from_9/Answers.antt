@@ -31,7 +31,7 @@ count : (f : Fields) (bytes : List ℕ) → f ≡ fields_of bytes → f.cell_cou
 count f bytes e = all f bytes e ∙ sym (cell_count_is bytes)
 
 -- ---- 9
-yes9 : (c : Else-not-settings) → settings_answer (config_of (shot c.args.bytes.now)) ≡ true
+yes9 : (c : Else-not-settings) → settings_answer (config_of (shot c.args.record.now.bytes.now)) ≡ true
 yes9 c = sym (c.settings.ensures ∙ ap settings_answer c.requires.1) ∙ c.if-not-settings.false
 
 pub returns-then-not-settings : goal.returns-then-not-settings
@@ -39,7 +39,7 @@ unfolding asked_from9
 returns-then-not-settings c = rw (sym (c.settings.ensures ∙ ap settings_answer c.requires.1) ∙ c.if-not-settings.true)
 
 -- ---- 10
-yes10 : (c : Else-not-table_passes) → table_answer (shot c.args.bytes.now) ≡ true
+yes10 : (c : Else-not-table_passes) → table_answer (shot c.args.record.now.bytes.now) ≡ true
 yes10 c = sym c.table_passes.ensures ∙ c.if-not-table_passes.false
 
 pub returns-then-not-table_passes : goal.returns-then-not-table_passes
@@ -49,20 +49,20 @@ returns-then-not-table_passes c =
     rw (yes9 g.Else-not-settings, sym c.table_passes.ensures ∙ c.if-not-table_passes.true)
 
 pub table_passes-requires : goal.table_passes-requires
-table_passes-requires c = (c.requires.0.0, c.requires.2)
+table_passes-requires c = c.requires.2
 
 -- ---- 11
-yes11 : (c : Else-count-eq0) → some_answer (shot c.args.bytes.now) ≡ true
+yes11 : (c : Else-count-eq0) → some_answer (shot c.args.record.now.bytes.now) ≡ true
 yes11 c =
-    let n = count c.args.f c.args.bytes.now c.requires.0.0 in
-    lt-ltb 0 (length (shot c.args.bytes.now).cells) (omega (arith, n, c.if-count-eq0.false))
+    let n = count c.args.record.now.fields c.args.record.now.bytes.now c.requires.0.0 in
+    lt-ltb 0 (length (shot c.args.record.now.bytes.now).cells) (omega (arith, n, c.if-count-eq0.false))
 
 pub returns-then-count-eq0 : goal.returns-then-count-eq0
 unfolding asked_from9
 returns-then-count-eq0 c =
     let g = goal.at.returns-then-count-eq0 c in
-    let n = count c.args.f c.args.bytes.now c.requires.0.0 in
-    rw (yes9 g.Else-not-settings, yes10 g.Else-not-table_passes, le-ltb 0 (length (shot c.args.bytes.now).cells) (omega (arith, n, c.if-count-eq0.true)))
+    let n = count c.args.record.now.fields c.args.record.now.bytes.now c.requires.0.0 in
+    rw (yes9 g.Else-not-settings, yes10 g.Else-not-table_passes, le-ltb 0 (length (shot c.args.record.now.bytes.now).cells) (omega (arith, n, c.if-count-eq0.true)))
 
 -- ---- 12
 abbrev placed : Shot → Bool
@@ -78,12 +78,9 @@ pub returns-then-count-gt256 : goal.returns-then-count-gt256
 unfolding asked_from9
 returns-then-count-gt256 c =
     let g = goal.at.returns-then-count-gt256 c in
-    let n = count c.args.f c.args.bytes.now c.requires.0.0 in
-    let no = too_many (shot c.args.bytes.now) (lt-leb (length (shot c.args.bytes.now).cells) 256 (omega (arith, n, c.if-count-gt256.true))) in
+    let n = count c.args.record.now.fields c.args.record.now.bytes.now c.requires.0.0 in
+    let no = too_many (shot c.args.record.now.bytes.now) (lt-leb (length (shot c.args.record.now.bytes.now).cells) 256 (omega (arith, n, c.if-count-gt256.true))) in
     rw (yes9 g.Else-not-settings, yes10 g.Else-not-table_passes, yes11 g.Else-count-eq0, no)
-
-pub all_placed-requires : goal.all_placed-requires
-all_placed-requires c = c.if-count-gt256.false
 
 answer_12 : (f : Fields) (bytes index : List ℕ) (b : Bool) → Indexed bytes f index → f.cell_count ≤ 256
     → b ≡ every (placed_in index) f.cell_count → cells_answer (shot bytes) ≡ b
@@ -91,56 +88,53 @@ answer_12 f bytes index b x h e =
     few (shot bytes) b (le-leb (length (shot bytes).cells) 256 (omega (arith, count f bytes x.0)))
     (e ∙ placed-are bytes index x.1 _ (all f bytes x.0) h)
 
-yes12 : (c : Else-not-all_placed) → cells_answer (shot c.args.bytes.now) ≡ true
+yes12 : (c : Else-not-all_placed) → cells_answer (shot c.args.record.now.bytes.now) ≡ true
 yes12 c =
-    answer_12 c.args.f c.args.bytes.now c.args.index.now _ c.requires.0 c.if-count-gt256.false c.all_placed.ensures ∙ c.if-not-all_placed.false
+    answer_12 c.args.record.now.fields c.args.record.now.bytes.now c.args.index.now _ c.requires.0 c.if-count-gt256.false c.all_placed.ensures ∙ c.if-not-all_placed.false
 
 pub returns-then-not-all_placed : goal.returns-then-not-all_placed
 unfolding asked_from9
 returns-then-not-all_placed c =
     let g = goal.at.returns-then-not-all_placed c in
-    let no = answer_12 c.args.f c.args.bytes.now c.args.index.now _ c.requires.0 c.if-count-gt256.false c.all_placed.ensures ∙ c.if-not-all_placed.true in
+    let no = answer_12 c.args.record.now.fields c.args.record.now.bytes.now c.args.index.now _ c.requires.0 c.if-count-gt256.false c.all_placed.ensures ∙ c.if-not-all_placed.true in
     rw (yes9 g.Else-not-settings, yes10 g.Else-not-table_passes, yes11 g.Else-count-eq0, no)
 
 -- ---- 23
 pub all_different-requires : goal.all_different-requires
 all_different-requires c =
-    let f = c.args.f in
-    let bytes = c.args.bytes.now in
+    let f = c.args.record.now.fields in
+    let bytes = c.args.record.now.bytes.now in
     let few = c.if-count-gt256.false in
     (few, points_small bytes c.args.index.now c.requires.0.1 _ (all f bytes c.requires.0.0) few)
 
-yes23 : (c : Else-not-all_different) → points_answer (shot c.args.bytes.now) ≡ true
+yes23 : (c : Else-not-all_different) → points_answer (shot c.args.record.now.bytes.now) ≡ true
 yes23 c =
-    sym (c.all_different.ensures ∙ points_are c.args.bytes.now c.args.index.now c.requires.0.1 _ (all c.args.f c.args.bytes.now c.requires.0.0) c.if-count-gt256.false)
+    sym (c.all_different.ensures ∙ points_are c.args.record.now.bytes.now c.args.index.now c.requires.0.1 _ (all c.args.record.now.fields c.args.record.now.bytes.now c.requires.0.0) c.if-count-gt256.false)
     ∙ c.if-not-all_different.false
 
 pub returns-then-not-all_different : goal.returns-then-not-all_different
 unfolding asked_from9
 returns-then-not-all_different c =
     let g = goal.at.returns-then-not-all_different c in
-    let no = sym (c.all_different.ensures ∙ points_are c.args.bytes.now c.args.index.now c.requires.0.1 _ (all c.args.f c.args.bytes.now c.requires.0.0) c.if-count-gt256.false) ∙ c.if-not-all_different.true in
+    let no = sym (c.all_different.ensures ∙ points_are c.args.record.now.bytes.now c.args.index.now c.requires.0.1 _ (all c.args.record.now.fields c.args.record.now.bytes.now c.requires.0.0) c.if-count-gt256.false) ∙ c.if-not-all_different.true in
     rw (yes9 g.Else-not-settings, yes10 g.Else-not-table_passes, yes11 g.Else-count-eq0, yes12 g.Else-not-all_placed, no)
 
 -- ---- 13
-pub all_sampled-requires : goal.all_sampled-requires
-all_sampled-requires c = c.if-count-gt256.false
-
 answer_13 : (f : Fields) (bytes index : List ℕ) (b : Bool) → Indexed bytes f index → f.cell_count ≤ 256 → Small bytes
     → b ≡ every (sampled_in index) f.cell_count → samples_answer (shot bytes) ≡ b
 answer_13 f bytes index b x h s e =
     sym (e ∙ samples-are bytes index x.1 _ (all f bytes x.0) h (passed bytes x.2) s)
 
-yes13 : (c : Else-not-all_sampled) → samples_answer (shot c.args.bytes.now) ≡ true
+yes13 : (c : Else-not-all_sampled) → samples_answer (shot c.args.record.now.bytes.now) ≡ true
 yes13 c =
-    answer_13 c.args.f c.args.bytes.now c.args.index.now _ c.requires.0 c.if-count-gt256.false (λ i. (c.type_inv.bytes i).fits) c.all_sampled.ensures
+    answer_13 c.args.record.now.fields c.args.record.now.bytes.now c.args.index.now _ c.requires.0 c.if-count-gt256.false (λ i. (c.type_inv.bytes i).fits) c.all_sampled.ensures
     ∙ c.if-not-all_sampled.false
 
 pub returns-then-not-all_sampled : goal.returns-then-not-all_sampled
 unfolding asked_from9
 returns-then-not-all_sampled c =
     let g = goal.at.returns-then-not-all_sampled c in
-    let no = answer_13 c.args.f c.args.bytes.now c.args.index.now _ c.requires.0 c.if-count-gt256.false (λ i. (c.type_inv.bytes i).fits) c.all_sampled.ensures ∙ c.if-not-all_sampled.true in
+    let no = answer_13 c.args.record.now.fields c.args.record.now.bytes.now c.args.index.now _ c.requires.0 c.if-count-gt256.false (λ i. (c.type_inv.bytes i).fits) c.all_sampled.ensures ∙ c.if-not-all_sampled.true in
     rw
     (yes9 g.Else-not-settings, yes10 g.Else-not-table_passes, yes11 g.Else-count-eq0, yes12 g.Else-not-all_placed, yes23 g.Else-not-all_different, no)
 
@@ -149,14 +143,14 @@ pub returns-then-words-count : goal.returns-then-words-count
 unfolding asked_from9
 returns-then-words-count c =
     let g = goal.at.returns-then-words-count c in
-    let n = count c.args.f c.args.bytes.now c.requires.0.0 in
-    let no = lt-leb (18 * length (shot c.args.bytes.now).cells) c.args.words (omega (arith, n, c.if-words-count.true)) in
+    let n = count c.args.record.now.fields c.args.record.now.bytes.now c.requires.0.0 in
+    let no = lt-leb (18 * length (shot c.args.record.now.bytes.now).cells) c.args.words (omega (arith, n, c.if-words-count.true)) in
     rw (yes9 g.Else-not-settings, yes10 g.Else-not-table_passes, yes11 g.Else-count-eq0, yes12 g.Else-not-all_placed, yes23 g.Else-not-all_different, yes13 g.Else-not-all_sampled, no)
 
 pub returns : goal.returns
 unfolding asked_from9
 returns c =
     let g = goal.at.returns c in
-    let n = count c.args.f c.args.bytes.now c.requires.0.0 in
-    let yes = le-leb (18 * length (shot c.args.bytes.now).cells) c.args.words (omega (arith, n, c.if-words-count.false)) in
+    let n = count c.args.record.now.fields c.args.record.now.bytes.now c.requires.0.0 in
+    let yes = le-leb (18 * length (shot c.args.record.now.bytes.now).cells) c.args.words (omega (arith, n, c.if-words-count.false)) in
     rw (yes9 g.Else-not-settings, yes10 g.Else-not-table_passes, yes11 g.Else-count-eq0, yes12 g.Else-not-all_placed, yes23 g.Else-not-all_different, yes13 g.Else-not-all_sampled, yes)
