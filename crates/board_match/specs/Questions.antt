@@ -93,6 +93,3 @@ told_answer (some r) = Err r
 abbrev pub asked_with : Option Refusal → Shot → Result Inputs Refusal
 asked_with none s = Ok (inputs_of s)
 asked_with (some r) s = Err r
-
-abbrev pub asked_answer : List ℕ → ℕ → Result Inputs Refusal
-asked_answer bytes words = asked_with (after_record (parse bytes) words) (shot bytes)

@@ -11,7 +11,7 @@ ghost use Rattle.shot_record.specs.Index.{Indexed};
 ghost use Rattle.hypothesis.specs.Search.{enumerate};
 ghost use Rattle.hypothesis.specs.declared.Inputs.{Inputs};
 ghost use Rattle.hypothesis.specs.Inputs.{Loaded};
-ghost use Rattle.board_match.specs.Questions.{asked_before15, asked_answer, after_record};
+ghost use Rattle.board_match.specs.Questions.{asked_before15, after_record, asked_with};
 ghost use Rattle.board_match.specs.Match.{match_answer, match_list, Gives};
 ghost use Rattle.board_match.specs.Scores.{scored_answer, scored_list, scores_left, GivesScored};
 ghost use Rattle.board_match.specs.Accuracy.{Accuracy};
@@ -48,7 +48,7 @@ fn before_15(
     requires { Indexed record.now.bytes.now record.now.fields index.now
         × (table.now ≡ map of_pattern (shot record.now.bytes.now).table)
         × (codes.now ≡ first_codes (shot record.now.bytes.now)) }
-    ensures { result ≡ asked_answer record.now.bytes.now words }
+    ensures { result ≡ asked_with (asked_before15 (shot record.now.bytes.now) words) (shot record.now.bytes.now) }
 {
     let board = record.board(codes)?;
     let config = record.config();
@@ -92,10 +92,7 @@ fn place_found(loaded: &LoadedShot<'_>, found: Option<Selection>, markers: &mut 
         × (asked_before15 (shot loaded.now.bytes.now) (length markers.old) ≡ none) }
     ensures { Gives loaded.now.bytes.now markers.old result markers.new }
 {
-    match found {
-        None => Err(Refusal::TranslationWindow),
-        Some(selection) => emit_best(loaded, selection, markers),
-    }
+    emit_best(loaded, found.ok_or(Refusal::TranslationWindow)?, markers)
 }
 
 // Questions 24 and 15 to 17: between them the score array is filled, and searched.
@@ -121,7 +118,7 @@ fn load<'a>(
 ) -> Result<LoadedShot<'a>, Refusal>
     requires { (table.old ≡ built_in) × (codes.old ≡ replicate 512 0) }
     ensures refused { IfErr result (λ r. after_record (parse bytes.now) words ≡ some r) }
-    ensures passed { IfOk result (λ loaded. (loaded.bytes.now ≡ bytes.now) × (asked_before15 (shot bytes.now) words ≡ none)) }
+    ensures passed { IfOk result (λ loaded. (loaded.bytes.now ≡ bytes.now) × (asked_before15 (shot loaded.bytes.now) words ≡ none)) }
 {
     // Question 21 comes first, so that table, codes and index are read from a whole record only.
     let record = Record::parse(bytes)?;

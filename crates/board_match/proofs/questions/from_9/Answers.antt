@@ -13,7 +13,7 @@ use Rattle.shot_record.specs.declared.fields.Fields.{Fields}
 use Rattle.shot_record.specs.Shots.{Shot, shot}
 use Rattle.shot_record.specs.Answers.{config_of}
 use Rattle.shot_record.specs.Index.{Indexed}
-use Rattle.shot_record.proofs.Reading.{Small, found}
+use Rattle.shot_record.proofs.Reading.{found}
 use Rattle.shot_record.proofs.Whole.{passed}
 use Rattle.shot_record.proofs.CellReads.{cell_count_is}
 use Rattle.hypothesis.specs.Placements.{cell}
@@ -120,21 +120,21 @@ returns-then-not-all_different c =
     rw (yes9 g.Else-not-settings, yes10 g.Else-not-table_passes, yes11 g.Else-count-eq0, yes12 g.Else-not-all_placed, no)
 
 -- ---- 13
-answer_13 : (f : Fields) (bytes index : List ℕ) (b : Bool) → Indexed bytes f index → f.cell_count ≤ 256 → Small bytes
+answer_13 : (f : Fields) (bytes index : List ℕ) (b : Bool) → Indexed bytes f index → f.cell_count ≤ 256
     → b ≡ every (sampled_in index) f.cell_count → samples_answer (shot bytes) ≡ b
-answer_13 f bytes index b x h s e =
-    sym (e ∙ samples-are bytes index x.1 _ (all f bytes x.0) h (passed bytes x.2) s)
+answer_13 f bytes index b x h e =
+    sym (e ∙ samples-are bytes index x.1 _ (all f bytes x.0) h (passed bytes x.2))
 
 yes13 : (c : Else-not-all_sampled) → samples_answer (shot c.args.record.now.bytes.now) ≡ true
 yes13 c =
-    answer_13 c.args.record.now.fields c.args.record.now.bytes.now c.args.index.now _ c.requires.0 c.if-count-gt256.false (λ i. (c.type_inv.bytes i).fits) c.all_sampled.ensures
+    answer_13 c.args.record.now.fields c.args.record.now.bytes.now c.args.index.now _ c.requires.0 c.if-count-gt256.false c.all_sampled.ensures
     ∙ c.if-not-all_sampled.false
 
 pub returns-then-not-all_sampled : goal.returns-then-not-all_sampled
 unfolding asked_from9
 returns-then-not-all_sampled c =
     let g = goal.at.returns-then-not-all_sampled c in
-    let no = answer_13 c.args.record.now.fields c.args.record.now.bytes.now c.args.index.now _ c.requires.0 c.if-count-gt256.false (λ i. (c.type_inv.bytes i).fits) c.all_sampled.ensures ∙ c.if-not-all_sampled.true in
+    let no = answer_13 c.args.record.now.fields c.args.record.now.bytes.now c.args.index.now _ c.requires.0 c.if-count-gt256.false c.all_sampled.ensures ∙ c.if-not-all_sampled.true in
     rw
     (yes9 g.Else-not-settings, yes10 g.Else-not-table_passes, yes11 g.Else-count-eq0, yes12 g.Else-not-all_placed, yes23 g.Else-not-all_different, no)
 
