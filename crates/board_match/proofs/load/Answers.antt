@@ -5,7 +5,7 @@ use mathlib.Core.List.{List, map}
 use mathlib.Core.Option.{Option as Maybe, none}
 use Prim.Native.Nat.{ℕ}
 use lib.Ieee.{Float}
-use Rattle.std.specs.Prelude.{Ok}
+use Rattle.std.specs.Prelude.{Ok, Err}
 use Rattle.std.proofs.lemmas.Result.{err_from_is_err_and}
 use Rattle.shot_record.specs.Shots.{Shot, first_codes, shot, whole_record}
 use Rattle.shot_record.specs.Answers.{of_pattern}
@@ -31,7 +31,13 @@ returns-in_err-record-clause-refused c =
 
 -- the questions after it
 pub returns-in_err-inputs-clause-refused : goal.returns-in_err-inputs-clause-refused
-returns-in_err-inputs-clause-refused c = ?
+returns-in_err-inputs-clause-refused c =
+    let p = err_from_is_err_and c.from_residual-in_err-inputs.result c.from_residual-in_err-inputs.ensures.1 in
+    let w = c.in_ok-record.ensures.whole in
+    let bytes = c.args.bytes.now in
+    let words = c.args.words in
+    let refused = subst (λ (b : List ℕ). Err c.in_err-inputs.field-0.0 ≡ asked_with (asked_before15 (shot b) words) (shot b)) w.0 c.in_err-inputs.ensures in
+    rw (p.1, p.2) (ap (λ (o : Maybe Shot). after_record o words) (parse-whole bytes (passed bytes w.1)) ∙ told-refused (shot bytes) words _ refused)
 
 -- what was read
 module _ (words : ℕ) (i : Inputs) (index : List ℕ) (table : List Float) (codes : List ℕ) where
