@@ -10,15 +10,12 @@ mod quarters;
 
 // The canonical keys of the first codes; a code past the last is 0.
 fn put_least(least: &mut [u64; 512], codes: &[u64], n: usize, bits: u8)
-    requires { (1 ≤ bits) × (bits ≤ 8) × (n ≤ 512) × (length least.old ≡ 512) }
-    ensures size { length least.new ≡ 512 }
-    ensures holds { HasLeast bits codes.now n least.new }
+    requires { (1 ≤ bits) × (bits ≤ 8) × (n ≤ 512) }
+    ensures { HasLeast bits codes.now n least.new }
 {
     let sources = quarters::sources(bits);
-    let mut k = 0;
-    while k < n {
+    for k in 0..n {
         least[k] = quarters::least_turn(&sources, bits, code_at(codes, k));
-        k += 1;
     }
 }
 

@@ -1,14 +1,14 @@
 // The quarters of a code and its canonical key under rotation.
 ghost use Rattle.std.specs.Prelude.{◌≡◌, ℕ, ◌*◌, ◌^◌, ◌<◌, ◌≤◌, min, get_or};
 ghost use Rattle.matcher.specs.Codes.{bit, from_bits};
-ghost use Rattle.alike.specs.Quarters.{quarter as quarterOf, quarter_source, QuarterSources, moved_on, least_turn};
+ghost use Rattle.alike.specs.Quarters.{quarter as quarter_of, quarter_source, QuarterSources, moved_on, least_turn};
 
 use matcher::Place;
 
 // The number of bits of a quarter.
 fn quarter(bits: u8) -> usize
     requires { bits ≤ 8 }
-    ensures { result ≡ quarterOf bits }
+    ensures { result ≡ quarter_of bits }
 {
     let half = (bits as usize + 1) / 2;
     half * half
@@ -36,14 +36,12 @@ fn source(bits: u8, k: usize) -> u8
 
 pub fn sources(bits: u8) -> [u8; 64]
     requires { (1 ≤ bits) × (bits ≤ 8) }
-    ensures { QuarterSources bits (4 * quarterOf bits) result }
+    ensures { QuarterSources bits (4 * quarter_of bits) result }
 {
     let count = 4 * quarter(bits);
     let mut sources: [u8; 64] = [0; 64];
-    let mut k = 0;
-    while k < count {
+    for k in 0..count {
         sources[k] = source(bits, k);
-        k += 1;
     }
     sources
 }
@@ -54,10 +52,8 @@ fn picked(sources: &[u8; 64], count: usize, code: u64) -> u64
     ensures { result ≡ from_bits (λ (k : ℕ). bit code (get_or sources.now k 0)) count }
 {
     let mut sum: u64 = 0;
-    let mut k = 0;
-    while k < count {
-        sum = sum + ((code >> sources[k]) % 2 << k);
-        k += 1;
+    for k in 0..count {
+        sum += (code >> sources[k]) % 2 << k;
     }
     sum
 }
@@ -73,7 +69,7 @@ fn moved_on(m: usize, w: u64) -> u64
 
 // The canonical key of a code: the least number of the four rotations.
 pub fn least_turn(sources: &[u8; 64], bits: u8, code: u64) -> u64
-    requires { (1 ≤ bits) × (bits ≤ 8) × QuarterSources bits (4 * quarterOf bits) sources.now }
+    requires { (1 ≤ bits) × (bits ≤ 8) × QuarterSources bits (4 * quarter_of bits) sources.now }
     ensures { result ≡ least_turn bits code }
 {
     let m = quarter(bits);

@@ -3,11 +3,11 @@ use mathlib.Core.Path.{◌≡◌, refl, sym, ap, ◌∙◌}
 use Prim.Native.Nat.{ℕ, zero, suc, ◌+◌, ◌-◌, ◌*◌, ◌/◌, ◌%◌, ◌^◌, ◌≤◌, ◌<◌}
 use native.Mathlib.Nat.{lt_of_not-le, not-le_of_lt, le_of_suc-le-suc, mul-div_cancel, mul-one, mul_assoc, sub-add_cancel}
 use native.Mathlib.Omega.{arith}
-use mathlib.Core.Bool.{Bool, true, false, ◌&&◌}
+use mathlib.Core.Bool.{Bool, true, false, ◌&&◌, false≢true}
 use lib.IntN.{ℤ, pos, negsuc, nat_abs}
 use lib.Dec.{T, leb, ltb, eqb, leb→le, ltb→lt}
 use lib.Pow.{pow-add, pow-lt, pow_pos}
-use lib.Ieee.{Float, nan, inf, fin, Format, prec, emax, low, up, down, fits}
+use lib.Ieee.{Float, nan, inf, fin, Format, prec, emax, low, up, down, fits, is_nan}
 use lib.Ieee.Fits.{and_l, and_r, down_pos}
 use lib.Ieee.Exact.{HasValue}
 use Rattle.floats.specs.Units.{signed, value, Finite, nought}
@@ -35,6 +35,13 @@ pub value_finite : (x : Float) (s : Bool) (a c : ℕ) → HasValue x s a c → F
 value_finite nan s a c h = h
 value_finite (inf t) s a c h = h
 value_finite (fin t m e) s a c h = tt
+
+-- ---- only one value is a NaN
+pub only_nan : (x : Float) → is_nan x ≡ true → x ≡ nan
+unfolding is_nan
+only_nan nan h = refl
+only_nan (inf s) h = absurd (false≢true h)
+only_nan (fin s m e) h = absurd (false≢true h)
 
 -- ---- a finite value that fits is an integer multiple of the unit: c × 2 ^ j, with c of at most the format's digits
 pub record Whole (f : Format) (x : Float) : Type 0 where

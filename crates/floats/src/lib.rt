@@ -13,11 +13,7 @@ ghost use Rattle.floats.specs.Units.{clamp01};
 pub fn is_finite(x: f32) -> bool
     ensures { result ≡ finite x }
 {
-    let limit: f32 = 1.0 / 0.0;
-    if x < limit {
-        return -limit < x;
-    }
-    false
+    x.is_finite()
 }
 
 fn is_nan_pattern(bits: u32) -> bool
@@ -38,7 +34,7 @@ pub fn from_bits(bits: u32) -> f32
     ensures { result ≡ of_bits binary32 bits }
 {
     if is_nan_pattern(bits) {
-        return 0.0 / 0.0;
+        return f32::NAN;
     }
     f32::from_bits(bits)
 }
@@ -47,21 +43,15 @@ pub fn from_bits(bits: u32) -> f32
 pub fn to_bits(x: f32) -> u32
     ensures { result ≡ to_bits binary32 x }
 {
-    if x == x {
-        return f32::to_bits(x);
+    if x.is_nan() {
+        return 0x7FC0_0000;
     }
-    0x7FC0_0000
+    x.to_bits()
 }
 
 // x.clamp(0.0, 1.0): NaN stays NaN.
 pub fn clamp01(x: f32) -> f32
     ensures { result ≡ clamp01 x }
 {
-    if x < 0.0 {
-        return 0.0;
-    }
-    if 1.0 < x {
-        return 1.0;
-    }
-    x
+    x.clamp(0.0, 1.0)
 }

@@ -5,7 +5,7 @@ use Prim.Native.Nat.{ℕ, ◌+◌, ◌*◌, ◌≤◌}
 use native.Mathlib.Nat.{mod-mod}
 use native.Mathlib.Omega.{arith}
 use lib.IntN.{ℤ, pos, negsuc, neg_ℤ, nat_abs, ◌+ℤ◌, ◌*ℤ◌}
-use Rattle.integers.specs.Least.{lesser}
+use Rattle.std.specs.Int.{int_min}
 use Rattle.integers.proofs.Parts.{plus, minus, ext, add_is, mul_is, plus_neg, minus_neg, abs_neg, abs_sub}
 use Rattle.integers.proofs.Words.{word}
 use Rattle.matcher.proofs.Turns.{by_turn_lem, each_turn}
@@ -56,8 +56,8 @@ sends-small r n p hu hv =
 -- ---- the minimum corner of the turned unit square, from the entries
 abbrev pub minima : Matrix → Coord
 minima m =
-    point (word (lesser (word m.a) (pos 0)) +ℤ word (lesser (word m.b) (pos 0)))
-    (word (lesser (word m.c) (pos 0)) +ℤ word (lesser (word m.d) (pos 0)))
+    point (word (int_min (word m.a) (pos 0)) +ℤ word (int_min (word m.b) (pos 0)))
+    (word (int_min (word m.c) (pos 0)) +ℤ word (int_min (word m.d) (pos 0)))
 
 pub minima_is : (r : ℕ) → minima (matrix_of r) ≡ lowest_point 1 r
 unfolding matrix_of sends lowest_point

@@ -42,11 +42,9 @@ fn with_row(out: u64, code: u64, n: u64, turn: u8, y: u64) -> u64
     ensures { result ≡ from_bits (turned_bit n turn code) (y * n + n) }
 {
     let mut sum = out;
-    let mut x: u64 = 0;
-    while x < n {
+    for x in 0..n {
         let p = source_place(n, turn, Place { x, y });
-        sum = sum + ((code >> (p.y * n + p.x)) % 2 << (y * n + x));
-        x = x + 1;
+        sum += (code >> (p.y * n + p.x)) % 2 << (y * n + x);
     }
     sum
 }
@@ -61,10 +59,8 @@ pub fn rotate_code_u64(code: u64, n: u8, turn: u8) -> u64
     }
     let side = n as u64;
     let mut out: u64 = 0;
-    let mut y: u64 = 0;
-    while y < side {
+    for y in 0..side {
         out = with_row(out, code, side, turn, y);
-        y = y + 1;
     }
     out
 }
@@ -73,5 +69,5 @@ pub fn rotate_code_u64(code: u64, n: u8, turn: u8) -> u64
 pub fn differing_bits(a: u64, b: u64) -> u32
     ensures { result ≡ differing 64 a b }
 {
-    u64::count_ones(a ^ b)
+    (a ^ b).count_ones()
 }

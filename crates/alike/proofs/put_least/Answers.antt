@@ -10,7 +10,7 @@ use Rattle.alike.proofs.put_least.Goals as goal
 use Rattle.alike.proofs.put_least.Goals.{After-least_turn}
 
 pub loop-k-init : goal.loop-k-init
-loop-k-init c = (omega arith, c.requires.3, below_none _)
+loop-k-init c = (c.told-least, below_none _)
 
 pub least_turn-requires : goal.least_turn-requires
 least_turn-requires c =
@@ -26,28 +26,21 @@ loop-k-preserved c =
     let before = c.loop-k.least in
     let held = c.loop-k.invariant in
     let k = c.loop-k.k in
-    let y = c.least_turn.result in (
-      omega (arith, c.loop-k-test.true),
-      length-set before k y ∙ held.1,
+    let y = c.least_turn.result in
+    (
+      length-set before k y ∙ held.0,
       below_more (λ j. get_or (set before k y) j 0 ≡ least_turn x.bits (get_or x.codes.now j 0)) k
-          (λ j h. get_or-set_other before k j y 0 (λ e. absurd (omega (arith, h, e))) ∙ held.2 j h)
-          (get_or-set_same before k y 0 (rw held.1 (inside (goal.at.loop-k-preserved c).After-least_turn)) ∙ c.least_turn.ensures ∙ ap (least_turn x.bits) c.code_at.ensures),
+          (λ j h. get_or-set_other before k j y 0 (λ e. absurd (omega (arith, h, e))) ∙ held.1 j h)
+          (get_or-set_same before k y 0 (rw held.0 (inside (goal.at.loop-k-preserved c).After-least_turn))
+          ∙ c.least_turn.ensures
+          ∙ ap (least_turn x.bits) c.code_at.ensures),
     )
 
 pub returns : goal.returns
-returns c = let held = c.loop-k.invariant in record {
-  size = held.1;
-  holds = λ k h. held.2 k (omega (arith, h, c.loop-k-test.false));
-}
+returns c k h = c.loop-k.invariant.1 k (omega (arith, h, c.loop-k-test.false, c.loop-k.auto.k-end))
 
 pub sources-sources-requires : goal.sources-sources-requires
 sources-sources-requires c = (c.requires.0, c.requires.1)
 
 pub bounds-least-k : goal.bounds-least-k
 bounds-least-k c = inside (goal.at.bounds-least-k c).After-least_turn
-
-pub overflow_add-k : goal.overflow_add-k
-overflow_add-k c = omega (arith, inside (goal.at.overflow_add-k c).After-least_turn)
-
-pub loop-k-smaller : goal.loop-k-smaller
-loop-k-smaller c = omega (arith, c.loop-k-test.true)

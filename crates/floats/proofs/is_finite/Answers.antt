@@ -1,28 +1,15 @@
--- `floats::is_finite` meets its contract: 1.0 / 0.0 is +∞, and only a finite value is below it and above its negative.
--- Assumes nothing.
-use mathlib.Core.Path.{◌≡◌, refl, sym}
-use mathlib.Core.Bool.{true, false}
-use lib.Ieee.{Float, nan, inf, fin, lt, neg, div, round, of_bits, of_fields, odd}
+-- `floats::is_finite` meets its contract: `finite` is what std's method gives. Assumes nothing.
+use mathlib.Core.Path.{◌≡◌, refl, ◌∙◌}
+use lib.Ieee.{Float, nan, inf, fin}
 use lib.Ieee.Scale.{finite}
+use Rattle.std.specs.Float.{float_is_finite}
 use Rattle.floats.proofs.is_finite.Goals as goal
 
-between : (x : Float) → lt x (inf false) ≡ true → lt (inf true) x ≡ finite x
-unfolding lt
-between nan h = refl
-between (inf true) h = refl
-between (inf false) h = sym h
-between (fin s m e) h = refl
-
-not-below : (x : Float) → lt x (inf false) ≡ false → false ≡ finite x
-unfolding lt
-not-below nan h = refl
-not-below (inf s) h = refl
-not-below (fin s m e) h = sym h
-
-pub returns-then-x-limit : goal.returns-then-x-limit
-unfolding neg div round of_bits of_fields odd
-returns-then-x-limit c = between c.args.x c.if-x-limit.true
+same : (x : Float) → float_is_finite x ≡ finite x
+unfolding float_is_finite
+same nan = refl
+same (inf s) = refl
+same (fin s m e) = refl
 
 pub returns : goal.returns
-unfolding neg div round of_bits of_fields odd
-returns c = not-below c.args.x c.if-x-limit.false
+returns c = c.is_finite.ensures.value ∙ same c.args.x

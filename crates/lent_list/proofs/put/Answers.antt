@@ -1,19 +1,21 @@
--- `lent_list::put` meets its contract: its loop is that of `Begun` (`Loops.antt`). Assumes nothing.
-use mathlib.Core.Path.{refl}
-use Rattle.lent_list.proofs.Loops.{begin, begun_length, begun_room, begun_more, all_begun}
+-- `lent_list::put` meets its contract: the items take the place of as many elements. Assumes nothing.
+use mathlib.Core.Path.{refl, ap, ◌∙◌}
+use mathlib.Core.List.{List, ◌++◌}
+use Prim.Native.Nat.{◌+◌, ◌-◌}
+use native.Mathlib.Omega.{arith}
+use lib.ListN.{length, take, drop}
+use lib.Seq.{take_all}
+use Rattle.std.proofs.lemmas.Slice.{put_mid-paste}
 use Rattle.lent_list.proofs.put.Goals as goal
 
-pub loop-i-init : goal.loop-i-init
-loop-i-init c = begin _ c.args.at c.args.words.now
-
-pub bounds-list-at : goal.bounds-list-at
-bounds-list-at c = begun_room c.loop-i.invariant c.requires c.loop-i-test.true
-
-pub loop-i-preserved : goal.loop-i-preserved
-loop-i-preserved c = begun_more c.loop-i.invariant c.requires _ 0 refl c.loop-i-test.true
-
-pub shape_of-list : goal.shape_of-list
-shape_of-list c = begun_length c.loop-i.invariant c.requires
-
 pub returns : goal.returns
-returns c = all_begun c.loop-i.invariant c.requires c.loop-i-test.false
+returns g c =
+    let list = c.args.list.now in
+    let items = c.args.items.now in
+    let k = c.args.at + length items - c.args.at in
+    record {
+      end = refl;
+      list =
+          put_mid-paste c.args.at k list c.copy_from_slice.new.self items (length items) c.copy_from_slice.ensures.after (omega arith) refl
+          ∙ ap (λ (l : List g.row.T.Denot). take c.args.at list ++ l ++ drop (c.args.at + length items) list) (take_all (length items) items (omega arith));
+    }

@@ -1,24 +1,22 @@
--- `lent_list::put_front` meets its contract: all words are written, or a prefix of the array's length. Assumes nothing.
-use mathlib.Core.Path.{sym, ◌∙◌}
-use native.Mathlib.Nat.{le_of_lt}
+-- `lent_list::put_front` meets its contract: the items that the list has room for are written. Assumes nothing.
+use mathlib.Core.Path.{ap, ◌∙◌}
+use mathlib.Core.Logic.{inl, inr}
+use Prim.Native.Nat.{ℕ, ◌≤◌}
 use native.Mathlib.Omega.{arith}
-use lib.ListN.{length}
-use lib.Seq.{length-take-le}
-use Rattle.lent_list.proofs.Front.{put_front, front_first}
+use lib.ListN.{length, take, length-take}
+use lib.Seq.{take_all}
+use Rattle.std.proofs.lemmas.Bool.{cases_lt}
+use Rattle.lent_list.proofs.Front.{put_as, put_front, front_first}
 use Rattle.lent_list.proofs.put_front.Goals as goal
 
-pub returns-then-words-room : goal.returns-then-words-room
-returns-then-words-room c = put_front (omega (arith, c.put.ensures.end, c.if-words-room.true)) c.put.ensures
-
-pub slice_bounds-put-end : goal.slice_bounds-put-end
-slice_bounds-put-end c = sym (length-take-le _ _ (le_of_lt c.if-words-room.false))
-
-pub put-requires-2 : goal.put-requires-2
-put-requires-2 c = omega (arith, slice_bounds-put-end c)
-
 pub returns : goal.returns
-returns c =
-    let x = c.args in
-    let h = le_of_lt c.if-words-room.false in
-    put_front (omega (arith, c.put-2.ensures.end, length-take-le (length x.list.now) x.words.now h)) c.put-2.ensures
-    ∙ front_first x.words.now x.list.now h
+returns g c =
+    let list = c.args.list.now in
+    let items = c.args.items.now in
+    let count = c.min-count.result in
+    let p = c.put.ensures in
+    let room : c.put.result ≤ length list = omega (arith, p.end, length-take count items, c.min-count.ensures) in
+    elim (cases_lt (length items) (length list)) [
+      | inl h ↦ put_front room (put_as (take_all count items (omega (arith, h, c.min-count.ensures))) p)
+      | inr h ↦ put_front room (put_as (ap (λ (k : ℕ). take k items) (omega (arith, h, c.min-count.ensures))) p) ∙ front_first items list h
+    ]

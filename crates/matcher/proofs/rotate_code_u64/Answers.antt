@@ -14,27 +14,21 @@ pub loop-y-init : goal.loop-y-init
 unfolding from_bits
 loop-y-init c =
     let x = c.args in
-    (omega arith, sym (ap (from_bits (turned_bit x.n x.turn x.code)) (zero-mul x.n)))
+    sym (ap (from_bits (turned_bit x.n x.turn x.code)) (zero-mul x.n))
 
 pub with_row-out-requires : goal.with_row-out-requires
-with_row-out-requires c = (c.if-n-gt8.false, c.loop-y-test.true, c.loop-y.invariant.1)
-
-pub overflow_add-y : goal.overflow_add-y
-overflow_add-y c = omega (arith, c.loop-y-test.true, c.if-n-gt8.false)
-
-pub loop-y-smaller : goal.loop-y-smaller
-loop-y-smaller c = omega (arith, c.loop-y-test.true)
+with_row-out-requires c = (c.if-n-gt8.false, c.loop-y-test.true, c.loop-y.invariant)
 
 pub loop-y-preserved : goal.loop-y-preserved
 loop-y-preserved c =
     let x = c.args in
     let y = c.loop-y.y in
     let row : y * x.n + x.n ≡ (y + 1) * x.n = omega arith in
-    (omega (arith, c.loop-y-test.true), c.with_row-out.ensures ∙ ap (from_bits (turned_bit x.n x.turn x.code)) row)
+    c.with_row-out.ensures ∙ ap (from_bits (turned_bit x.n x.turn x.code)) row
 
 pub returns : goal.returns
 returns c =
     let x = c.args in
-    let all : c.loop-y.y ≡ x.n = omega arith in
+    let all : c.loop-y.y ≡ x.n = omega (arith, c.loop-y-test.false, c.loop-y.auto.y-end) in
     rw (le-leb x.n 8 c.if-n-gt8.false)
-    (c.loop-y.invariant.1 ∙ ap (λ (k : ℕ). from_bits (turned_bit x.n x.turn x.code) (k * x.n)) all)
+    (c.loop-y.invariant ∙ ap (λ (k : ℕ). from_bits (turned_bit x.n x.turn x.code) (k * x.n)) all)

@@ -11,7 +11,7 @@ use Rattle.matcher.proofs.with_row.Goals as goal
 use Rattle.matcher.proofs.with_row.Goals.{After-source_place-p, Start}
 
 pub loop-x-init : goal.loop-x-init
-loop-x-init c = (omega arith, c.requires.2 ∙ ap (from_bits (turned_bit c.args.n c.args.turn c.args.code)) (sym (add-zero (c.args.y * c.args.n))))
+loop-x-init c = c.requires.2 ∙ ap (from_bits (turned_bit c.args.n c.args.turn c.args.code)) (sym (add-zero (c.args.y * c.args.n)))
 
 pub source_place-p-requires : goal.source_place-p-requires
 source_place-p-requires c = (c.loop-x-test.true, c.requires.1)
@@ -46,7 +46,7 @@ module _ (c : After-source_place-p) where
 
   sum : c.loop-x.sum + code / 2 ^ at % 2 * 2 ^ (y * n + x) % 2 ^ 64 ≡ from_bits (turned_bit n turn code) (y * n + (x + 1))
   sum =
-      ap₂ (λ (s : ℕ) (p : Place). s + bit code (index_of n p) * 2 ^ (y * n + x) % 2 ^ 64) c.loop-x.invariant.1 c.source_place-p.ensures
+      ap₂ (λ (s : ℕ) (p : Place). s + bit code (index_of n p) * 2 ^ (y * n + x) % 2 ^ 64) c.loop-x.invariant c.source_place-p.ensures
       ∙ next_turned_bit code n turn x y c.requires.0 c.requires.1 c.loop-x-test.true
 
   sum_fits : c.loop-x.sum + code / 2 ^ at % 2 * 2 ^ (y * n + x) % 2 ^ 64 < 2 ^ 64
@@ -73,17 +73,11 @@ overflow_shl-sum c = to-small (goal.at.overflow_shl-sum c).After-source_place-p
 pub overflow_add-sum-in-loop-x-2 : goal.overflow_add-sum-in-loop-x-2
 overflow_add-sum-in-loop-x-2 c = record { fits = sum_fits (goal.at.overflow_add-sum-in-loop-x-2 c).After-source_place-p }
 
-pub overflow_add-x : goal.overflow_add-x
-overflow_add-x c = omega (arith, to-small (goal.at.overflow_add-x c).After-source_place-p)
-
-pub loop-x-smaller : goal.loop-x-smaller
-loop-x-smaller c = omega (arith, c.loop-x-test.true)
-
 pub loop-x-preserved : goal.loop-x-preserved
-loop-x-preserved c = (omega (arith, c.loop-x-test.true), sum (goal.at.loop-x-preserved c).After-source_place-p)
+loop-x-preserved c = sum (goal.at.loop-x-preserved c).After-source_place-p
 
 pub returns : goal.returns
 returns c =
-    let all : c.loop-x.x ≡ c.args.n = omega arith in
-    c.loop-x.invariant.1
+    let all : c.loop-x.x ≡ c.args.n = omega (arith, c.loop-x-test.false, c.loop-x.auto.x-end) in
+    c.loop-x.invariant
     ∙ ap (λ (k : ℕ). from_bits (turned_bit c.args.n c.args.turn c.args.code) (c.args.y * c.args.n + k)) all

@@ -68,10 +68,10 @@ returns c =
     let n = c.args.bits in
     let code = c.args.code in
     let some = c.requires.0 in
-    c.lesser-3.ensures
+    c.min-3.ensures
     ∙ ap₂ min
-    (c.lesser.ensures ∙ ap₂ min (picked-is (goal.at.returns c).After-picked-as_is ∙ sym (no_turn n some code)) (once_is (goal.at.returns c).After-moved_on-once ∙ sym (turn_moves_on n some code)))
-    (c.lesser-2.ensures ∙ ap₂ min (twice_is (goal.at.returns c).After-moved_on-twice ∙ sym (two_turns n some code))
+    (c.min.ensures ∙ ap₂ min (picked-is (goal.at.returns c).After-picked-as_is ∙ sym (no_turn n some code)) (once_is (goal.at.returns c).After-moved_on-once ∙ sym (turn_moves_on n some code)))
+    (c.min-2.ensures ∙ ap₂ min (twice_is (goal.at.returns c).After-moved_on-twice ∙ sym (two_turns n some code))
     (c.moved_on-thrice.ensures ∙ ap₂ moved_on quarter_is (twice_is (goal.at.returns c).After-moved_on-twice) ∙ sym (three_turns n some code)))
 
 pub quarter-m-requires : goal.quarter-m-requires

