@@ -22,27 +22,24 @@ fn apart(index: &[u32; 768], n: usize) -> bool
     ensures { Told n (residue_in index.now) result }
 {
     let mut met: [bool; 1024] = [false; 1024];
-    let mut k = 0;
-    while k < n {
+    for k in 0..n {
         let at = residue(index::point(index, k));
         if met[at] {
             return false;
         }
         met[at] = true;
-        k += 1;
     }
     true
 }
 
-fn put_points(words: &mut [u64; 256], index: &[u32; 768], n: usize)
-    requires { (n ≤ 256) × (length words.old ≡ 256) }
-    ensures size { length words.new ≡ 256 }
-    ensures holds { HasPoints index.now n words.new }
+// Writes the first points, as many as there are words.
+fn put_points(words: &mut [u64], index: &[u32; 768])
+    requires { length words.old ≤ 256 }
+    ensures size { length words.new ≡ length words.old }
+    ensures holds { HasPoints index.now (length words.old) words.new }
 {
-    let mut k = 0;
-    while k < n {
-        words[k] = index::point(index, k) as u64;
-        k += 1;
+    for (k, word) in words.iter_mut().enumerate() {
+        *word = u64::from(index::point(index, k));
     }
 }
 
@@ -54,7 +51,8 @@ pub fn all_different(index: &[u32; 768], n: usize) -> bool
     if apart(index, n) {
         return true;
     }
-    let mut words: [u64; 256] = [0; 256];
-    put_points(&mut words, index, n);
-    sorting::all_different(&mut words[..n])
+    let mut all: [u64; 256] = [0; 256];
+    let words = &mut all[..n];
+    put_points(words, index);
+    sorting::all_different(words)
 }

@@ -3,9 +3,9 @@
 #![tactic(auto)]
 
 ghost use Rattle.std.specs.Prelude.{◌≡◌, [], ◌^◌, ◌<◌};
-ghost use Rattle.ranking.specs.Greatest.{lies_below as lies-below};
+ghost use Rattle.ranking.specs.Greatest.{lies_below};
 ghost use Rattle.ranking.specs.Margin.{margin as margin_of};
-ghost use Rattle.ranking.specs.Ranking.{ranking_of, better as betterOf, ranked as rankedOf, keeps_place, changes_nothing};
+ghost use Rattle.ranking.specs.Ranking.{ranking_of, better as better_of, ranked as ranked_of, keeps_place, changes_nothing};
 
 use grid_alignment::GridAlignment;
 
@@ -38,7 +38,7 @@ pub fn no_ranking() -> Ranking
 
 // No evidence is below every number.
 pub fn below(a: Option<f32>, b: Option<f32>) -> bool
-    ensures { result ≡ lies-below a b }
+    ensures { result ≡ lies_below a b }
 {
     match (a, b) {
         (_, None) => false,
@@ -49,7 +49,7 @@ pub fn below(a: Option<f32>, b: Option<f32>) -> bool
 
 // The better of `held` and h; on a tie `held`, the earlier one.
 fn better(held: Option<Hypothesis>, h: Hypothesis) -> Option<Hypothesis>
-    ensures { result ≡ betterOf held h }
+    ensures { result ≡ better_of held h }
 {
     match held {
         Some(b) if !below(b.evidence, h.evidence) => held,
@@ -60,7 +60,7 @@ fn better(held: Option<Hypothesis>, h: Hypothesis) -> Option<Hypothesis>
 // Adds a placement: a new best makes the old one the runner-up.
 pub fn ranked(ranking: Ranking, h: Hypothesis) -> Ranking
     requires { ranking.total < 2 ^ 32 }
-    ensures { result ≡ rankedOf ranking h }
+    ensures { result ≡ ranked_of ranking h }
 {
     let total = ranking.total + 1;
     match ranking.best {
@@ -69,9 +69,9 @@ pub fn ranked(ranking: Ranking, h: Hypothesis) -> Ranking
             runner_up: better(ranking.runner_up, h),
             total,
         },
-        best => Ranking {
+        _ => Ranking {
             best: Some(h),
-            runner_up: best,
+            runner_up: ranking.best,
             total,
         },
     }

@@ -18,15 +18,15 @@ fn grid_index(bits: u64, border: u64, p: Place) -> usize
     ((border + p.y) * (bits + 2 * border) + (border + p.x)) as usize
 }
 
-// The place of the next bit (row-major).
-pub fn next_place(bits: u64, p: Place) -> Place
-    requires { (bits ≤ 8) × (p.x < bits) × (p.y < bits) }
-    ensures { (k : ℕ) → p ≡ bit_place bits k → result ≡ bit_place bits (k + 1) }
+// The place of bit `k` (row-major).
+pub fn place(bits: u64, k: u64) -> Place
+    requires { 0 < bits }
+    ensures { result ≡ bit_place bits k }
 {
-    if p.x + 1 < bits {
-        return Place { x: p.x + 1, y: p.y };
+    Place {
+        x: k % bits,
+        y: k / bits,
     }
-    Place { x: 0, y: p.y + 1 }
 }
 
 // Writes the log-likelihoods of the bits of row y. Elements past them are unchanged.
@@ -39,10 +39,9 @@ fn row_likelihoods(
     border: u8,
     y: u64,
 )
-    requires bits_bound { (bits ≤ 8) × (y < bits) × (length likelihoods.old ≡ 128)
+    requires bits_bound { (bits ≤ 8) × (y < bits)
         × HoldsLikelihoods table.now (samples bits border threshold grid.now) (y * bits) likelihoods.old }
     requires grid_len { length grid.now ≡ side bits border * side bits border }
-    ensures size { length likelihoods.new ≡ 128 }
     ensures holds { HoldsLikelihoods table.now (samples bits border threshold grid.now) (y * bits + bits)
         likelihoods.new }
     ensures rest { KeptFrom nan (2 * (y * bits + bits)) likelihoods.old likelihoods.new }
@@ -50,12 +49,10 @@ fn row_likelihoods(
     let n = bits as usize;
     let first = grid_index(bits as u64, border as u64, Place { x: 0, y });
     let at = 2 * (y as usize * n);
-    let mut x = 0;
-    while x < n {
+    for x in 0..n {
         let grey = grid[first + x];
         likelihoods[at + 2 * x] = table::entry(table, grey, threshold);
         likelihoods[at + 2 * x + 1] = table::entry(table, threshold, grey);
-        x += 1;
     }
 }
 
@@ -69,18 +66,15 @@ pub fn bit_likelihoods(
     bits: u8,
     border: u8,
 )
-    requires bits_bound { (bits ≤ 8) × (length likelihoods.old ≡ 128) }
+    requires bits_bound { bits ≤ 8 }
     requires grid_len { length grid.now ≡ side bits border * side bits border }
-    ensures size { length likelihoods.new ≡ 128 }
     ensures holds { HoldsLikelihoods table.now (samples bits border threshold grid.now) (bits * bits)
         likelihoods.new }
     ensures rest { KeptFrom nan (2 * (bits * bits)) likelihoods.old likelihoods.new }
 {
     let n = bits as u64;
-    let mut y = 0;
-    while y < n {
+    for y in 0..n {
         row_likelihoods(likelihoods, table, grid, threshold, bits, border, y);
-        y += 1;
     }
 }
 
@@ -91,12 +85,8 @@ pub fn sum(likelihoods: &[f32; 128], bits: u8, code: u64) -> f32
 {
     let n = (bits as usize) * (bits as usize);
     let mut total: f32 = 0.0;
-    let mut rest = code;
-    let mut k = 0;
-    while k < n {
-        total = total + likelihoods[2 * k + (rest % 2) as usize];
-        rest = rest / 2;
-        k += 1;
+    for k in 0..n {
+        total += likelihoods[2 * k + ((code >> k) % 2) as usize];
     }
     total
 }
@@ -111,15 +101,6 @@ pub fn score(table: &[f32; 511], grid: &[u8], threshold: u8, bits: u8, border: u
     sum(&likelihoods, bits, code)
 }
 
-fn below(grey: u8, threshold: u8) -> u64
-    ensures { result ≡ cond (ltb grey threshold) 1 0 }
-{
-    if grey < threshold {
-        return 1;
-    }
-    0
-}
-
 // The code read from a cell: a bit is 1 if grey is below the threshold.
 pub fn read_code(grid: &[u8], threshold: u8, bits: u8, border: u8) -> u64
     requires bits_bound { bits ≤ 8 }
@@ -129,12 +110,9 @@ pub fn read_code(grid: &[u8], threshold: u8, bits: u8, border: u8) -> u64
     let n = bits as u64;
     let rim = border as u64;
     let mut code: u64 = 0;
-    let mut p = Place { x: 0, y: 0 };
-    let mut k: u64 = 0;
-    while k < n * n {
-        code = code + (below(grid[grid_index(n, rim, p)], threshold) << k);
-        p = next_place(n, p);
-        k += 1;
+    for k in 0..n * n {
+        let grey = grid[grid_index(n, rim, place(n, k))];
+        code += u64::from(grey < threshold) << k;
     }
     code
 }

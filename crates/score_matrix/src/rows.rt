@@ -11,29 +11,23 @@ use super::turned;
 
 // Writes what the bits of one cell add as column x. Other columns do not change.
 pub fn put_column(rows: &mut [f32; 1024], adds: &[f32; 128], count: usize, x: usize)
-    requires { (count ≤ 128) × (x < 8) × (length rows.old ≡ 1024) }
+    requires { (count ≤ 128) × (x < 8) }
     ensures { Wrote nan (λ (i : ℕ). i < count) (λ (i : ℕ). 8 * i + x) (λ (i : ℕ). get_or adds.now i nan) rows.old
         rows.new }
 {
-    let mut i = 0;
-    while i < count {
+    for i in 0..count {
         rows[8 * i + x] = adds[i];
-        i += 1;
     }
 }
 
 // Writes the bit positions of one turn.
 fn put_sources(sources: &mut [u8; 256], part: &[u8; 64], turn: usize)
-    requires { (turn < 4) × (length sources.old ≡ 256) }
+    requires { turn < 4 }
     ensures { Wrote 0 (λ (k : ℕ). k < 64) (λ (k : ℕ). 64 * turn + k) (λ (k : ℕ). get_or part.now k 0) sources.old
         sources.new }
 {
     let from = 64 * turn;
-    let mut k = 0;
-    while k < 64 {
-        sources[from + k] = part[k];
-        k += 1;
-    }
+    sources[from..from + 64].copy_from_slice(part);
 }
 
 // For each turn, and for each bit of the turned code, the bit of the code that it is. The turns are 64 elements apart.
@@ -42,27 +36,23 @@ pub fn four_sources(bits: u8) -> [u8; 256]
     ensures { FourSources bits (bits * bits) result }
 {
     let mut sources: [u8; 256] = [0; 256];
-    let mut turn: u8 = 0;
-    while turn < 4 {
+    for turn in 0..4 {
         let part = turned::source_bits(bits, turn);
         put_sources(&mut sources, &part, turn as usize);
-        turn += 1;
     }
     sources
 }
 
 // Adds a row to the eight sums of a turn.
 fn add_row(sums: &mut [f32; 32], turn: usize, rows: &[f32; 1024], row: usize)
-    requires { (turn < 4) × (row < 128) × (length sums.old ≡ 32) }
+    requires { (turn < 4) × (row < 128) }
     ensures { Wrote nan (λ (x : ℕ). x < 8) (λ (x : ℕ). 8 * turn + x)
         (λ (x : ℕ). add binary32 (get_or sums.old (8 * turn + x) nan) (in_row rows.now x row)) sums.old sums.new }
 {
     let from = 8 * turn;
     let at = 8 * row;
-    let mut x = 0;
-    while x < 8 {
-        sums[from + x] = sums[from + x] + rows[at + x];
-        x += 1;
+    for x in 0..8 {
+        sums[from + x] += rows[at + x];
     }
 }
 
@@ -76,9 +66,8 @@ fn row_of(k: usize, code: u64, source: u8) -> usize
 
 // Adds bit k to the 32 sums.
 fn add_bit(sums: &mut [f32; 32], rows: &[f32; 1024], sources: &[u8; 256], k: usize, code: u64)
-    requires { (k < 64) × ((r : ℕ) → r < 4 → get_or sources.now (64 * r + k) 0 < 64) × (length sums.old ≡ 32) }
-    ensures size { length sums.new ≡ 32 }
-    ensures added { (r x : ℕ) → r < 4 → x < 8 → get_or sums.new (8 * r + x) nan
+    requires { (k < 64) × ((r : ℕ) → r < 4 → get_or sources.now (64 * r + k) 0 < 64) }
+    ensures { (r x : ℕ) → r < 4 → x < 8 → get_or sums.new (8 * r + x) nan
         ≡ add binary32 (get_or sums.old (8 * r + x) nan) (picked_row rows.now sources.now code x r k) }
 {
     add_row(sums, 0, rows, row_of(k, code, sources[k]));
@@ -95,10 +84,8 @@ pub fn sum_turns(rows: &[f32; 1024], sources: &[u8; 256], bits: u8, code: u64) -
 {
     let n = (bits as usize) * (bits as usize);
     let mut sums: [f32; 32] = [0.0; 32];
-    let mut k = 0;
-    while k < n {
+    for k in 0..n {
         add_bit(&mut sums, rows, sources, k, code);
-        k += 1;
     }
     sums
 }

@@ -27,15 +27,5 @@ fn ranged(x: f32) -> bool
 pub fn is_table(table: &[f32]) -> bool
     ensures { result ≡ is_table table.now }
 {
-    if table.len() != 511 {
-        return false;
-    }
-    let mut i = 0;
-    while i < table.len() {
-        if !ranged(table[i]) {
-            return false;
-        }
-        i += 1;
-    }
-    true
+    table.len() == 511 && table.iter().all(|x| ranged(*x))
 }

@@ -25,12 +25,8 @@ pub fn source_bits(bits: u8, turn: u8) -> [u8; 64]
     let n = bits as u64;
     let count = (n * n) as usize;
     let mut sources: [u8; 64] = [0; 64];
-    let mut p = Place { x: 0, y: 0 };
-    let mut k = 0;
-    while k < count {
-        sources[k] = source_bit(n, turn, p);
-        p = cell::next_place(n, p);
-        k += 1;
+    for k in 0..count {
+        sources[k] = source_bit(n, turn, cell::place(n, k as u64));
     }
     sources
 }
@@ -43,19 +39,16 @@ fn chosen(half: u32, one: u32, clear: f32, set: f32) -> f32
 }
 
 // Adds bit s to all eight scores; `from` is the first lane of the halves that have it. Each score selects by itself, so that the
-// compiler adds four by one instruction. `lanes` is a slice because only for slices is the range of elements known.
-fn add_bit(sums: &mut [f32; 8], lanes: &[u32], s: u8, clear: f32, set: f32)
-    requires { (s < 64) × (length sums.old ≡ 8) × (length lanes.now ≡ 16) }
-    ensures size { length sums.new ≡ 8 }
-    ensures added { (x : ℕ) → x < 8 → get_or sums.new x nan
+// compiler adds four by one instruction.
+fn add_bit(sums: &mut [f32; 8], lanes: &[u32; 16], s: u8, clear: f32, set: f32)
+    requires { s < 64 }
+    ensures { (x : ℕ) → x < 8 → get_or sums.new x nan
         ≡ add binary32 (get_or sums.old x nan) (by_bit (bit (lane_code lanes.now x) s) clear set) }
 {
     let from = 8 * (s / 32) as usize;
     let one: u32 = 1 << (s % 32);
-    let mut x = 0;
-    while x < 8 {
-        sums[x] = sums[x] + chosen(lanes[from + x], one, clear, set);
-        x += 1;
+    for x in 0..8 {
+        sums[x] += chosen(lanes[from + x], one, clear, set);
     }
 }
 
@@ -73,8 +66,7 @@ pub fn sum_eight(
 {
     let n = (bits as usize) * (bits as usize);
     let mut sums: [f32; 8] = [0.0; 8];
-    let mut k = 0;
-    while k < n {
+    for k in 0..n {
         add_bit(
             &mut sums,
             lanes,
@@ -82,7 +74,6 @@ pub fn sum_eight(
             likelihoods[2 * k],
             likelihoods[2 * k + 1],
         );
-        k += 1;
     }
     sums
 }

@@ -1,6 +1,9 @@
 -- `points::all_different` meets its contract: points with distinct residues are distinct. Assumes nothing.
-use mathlib.Core.Path.{ap}
+use mathlib.Core.Path.{◌≡◌, ap, ◌∙◌}
 use mathlib.Core.Bool.{true}
+use native.Mathlib.Omega.{arith}
+use borrow.Author.Rules.{rules}
+use lib.ListN.{length}
 use Rattle.sorting.proofs.Comparing.{if_different, told_same}
 use Rattle.points.specs.Points.{residue_of}
 use Rattle.points.proofs.Words.{told_apart}
@@ -13,5 +16,7 @@ returns-then-apart c =
 
 pub returns : goal.returns
 returns c =
+    let held = c.put_points.ensures in
+    let e : length c.put_points.new.words ≡ c.args.n = held.size ∙ search rules in
     told_apart c.args.index.now c.args.n c.all_different.result c.requires.1
-    (told_same c.put_points.ensures.holds c.all_different.ensures.told)
+    (told_same (λ k h. held.holds k (omega (arith, held.size, e, h))) (rw e at c.all_different.ensures.told))

@@ -57,11 +57,11 @@ module _ (c : After-residue-at) where
   inside = omega (arith, residue_is)
 
 pub loop-k-init : goal.loop-k-init
-loop-k-init c = (omega arith, λ i j l h e. omega (arith, h), no_marks (residue_in c.args.index.now))
+loop-k-init c = (λ i j l h e. omega (arith, h), no_marks (residue_in c.args.index.now))
 
 pub returns-then-met-at : goal.returns-then-met-at
 returns-then-met-at c =
-    let x = c.loop-k.invariant.2.only c.residue-at.result c.if-met-at.true in
+    let x = c.loop-k.invariant.1.only c.residue-at.result c.if-met-at.true in
     if_repeated (record { first = x.0; second = c.loop-k.k; order = x.1; inside = c.loop-k-test.true; equal = x.2 ∙ residue_is (goal.at.returns-then-met-at c).After-residue-at })
 
 pub loop-k-preserved : goal.loop-k-preserved
@@ -71,14 +71,13 @@ loop-k-preserved c =
     let held = c.loop-k.invariant in
     let k = c.loop-k.k in
     let is = residue_is (goal.at.loop-k-preserved c).After-residue-at in (
-      omega (arith, c.loop-k-test.true),
-      different_next word k held.1
-          (λ i h e. false≢true (sym c.if-met-at.false ∙ ap (λ (q : ℕ). get_or met q false) (is ∙ sym e) ∙ held.2.marked i h)),
-      one_mark word k met c.residue-at.result is (inside (goal.at.loop-k-preserved c).After-residue-at) held.2,
+      different_next word k held.0
+          (λ i h e. false≢true (sym c.if-met-at.false ∙ ap (λ (q : ℕ). get_or met q false) (is ∙ sym e) ∙ held.1.marked i h)),
+      one_mark word k met c.residue-at.result is (inside (goal.at.loop-k-preserved c).After-residue-at) held.1,
     )
 
 pub returns : goal.returns
-returns c = if_different (λ i j l h. c.loop-k.invariant.1 i j l (omega (arith, h, c.loop-k-test.false)))
+returns c = if_different (λ i j l h. c.loop-k.invariant.0 i j l (omega (arith, h, c.loop-k-test.false)))
 
 pub bounds-met-at : goal.bounds-met-at
 bounds-met-at c = inside c

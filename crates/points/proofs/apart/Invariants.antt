@@ -3,7 +3,7 @@
 use mathlib.Core.Path.{◌≡◌}
 use mathlib.Core.Bool.{Bool, true, false}
 use mathlib.Core.List.{List}
-use Prim.Native.Nat.{ℕ, ◌-◌, ◌≤◌, ◌<◌}
+use Prim.Native.Nat.{ℕ, ◌<◌}
 use lib.ListN.{length, get_or}
 use Rattle.sorting.specs.Order.{AllDifferent}
 use Rattle.points.specs.Points.{residue_in}
@@ -17,7 +17,4 @@ pub record Marks (word : ℕ → ℕ) (k : ℕ) (met : List Bool) : Type 0 where
 
 -- ---- the loop
 abbrev pub invariant-loop-k : goal.invariant-loop-k
-invariant-loop-k l = (l.k ≤ l.n) × AllDifferent l.k (residue_in l.index) × Marks (residue_in l.index) l.k l.met
-
-abbrev pub decreases-loop-k : goal.decreases-loop-k
-decreases-loop-k l = l.n - l.k
+invariant-loop-k l = AllDifferent l.k (residue_in l.index) × Marks (residue_in l.index) l.k l.met

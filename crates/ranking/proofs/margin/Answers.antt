@@ -51,7 +51,7 @@ pub returns-in_default-evidence : goal.returns-in_default-evidence
 unfolding of_bits of_fields odd
 returns-in_default-evidence c =
     let a = c.args in
-    next_none a.best a.best_capacity a.runner_up c.in-Some.x c.in-Some.is c.if-x.false c.in-Some.second c.in-Some.is
+    next_none a.best a.best_capacity a.runner_up c.in-Some.x c.in-Some.is c.if-x.false c.in-Some-runner_up.second c.in-Some-runner_up.is
     c.in_default-evidence.is
 
 pub returns-then-best_capacity : goal.returns-then-best_capacity
@@ -59,11 +59,11 @@ unfolding of_bits of_fields odd
 returns-then-best_capacity c =
     let a = c.args in
     little a.best a.best_capacity a.runner_up c.in-Some.x c.in-Some.is c.if-x.false
-    c.in-Some.second c.in-Some.is c.in-Some-evidence.y c.in-Some-evidence.is c.if-best_capacity.true
+    c.in-Some-runner_up.second c.in-Some-runner_up.is c.in-Some-evidence.y c.in-Some-evidence.is c.if-best_capacity.true
 
 pub returns-else-best_capacity : goal.returns-else-best_capacity
 unfolding of_bits of_fields odd
 returns-else-best_capacity c =
     let a = c.args in
     enough a.best a.best_capacity a.runner_up c.in-Some.x c.in-Some.is c.if-x.false
-    c.in-Some.second c.in-Some.is c.in-Some-evidence.y c.in-Some-evidence.is c.if-best_capacity.false
+    c.in-Some-runner_up.second c.in-Some-runner_up.is c.in-Some-evidence.y c.in-Some-evidence.is c.if-best_capacity.false

@@ -1,8 +1,6 @@
 -- `score_matrix::cell::bit_likelihoods` meets its contract. The loop's invariant: the array holds the log-likelihoods of the first y rows,
 -- and is unchanged past them. Assumes nothing.
-use mathlib.Core.Path.{◌≡◌}
-use Prim.Native.Nat.{◌-◌, ◌*◌, ◌≤◌}
-use lib.ListN.{length}
+use Prim.Native.Nat.{◌*◌}
 use lib.Ieee.{nan}
 use Rattle.score_matrix.specs.Scores.{samples}
 use Rattle.lent_list.specs.Parts.{KeptFrom}
@@ -11,8 +9,5 @@ use Rattle.score_matrix.proofs.cell.bit_likelihoods.Given as goal
 
 abbrev pub invariant-loop-y : goal.invariant-loop-y
 invariant-loop-y l =
-    (l.y ≤ l.n) × (length l.likelihoods ≡ 128) × HoldsLikelihoods l.table (samples l.bits l.border l.threshold l.grid) (l.y * l.bits) l.likelihoods
+    HoldsLikelihoods l.table (samples l.bits l.border l.threshold l.grid) (l.y * l.bits) l.likelihoods
     × KeptFrom nan (2 * (l.y * l.bits)) l.initial.likelihoods l.likelihoods
-
-abbrev pub decreases-loop-y : goal.decreases-loop-y
-decreases-loop-y l = l.n - l.y

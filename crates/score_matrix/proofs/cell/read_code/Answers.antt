@@ -1,16 +1,17 @@
--- `score_matrix::cell::read_code` meets its contract. The loop's invariant: `code` has the first k bits, and `p` is the place of the next.
--- Assumes nothing.
+-- `score_matrix::cell::read_code` meets its contract. The loop's invariant: `code` has the first k bits. Assumes nothing.
 use mathlib.Core.Path.{◌≡◌, refl, ap, ap₂, ◌∙◌}
 use mathlib.Core.Bool.{Bool, true, false, cond}
 use Prim.Native.Nat.{ℕ, ◌+◌, ◌*◌, ◌%◌, ◌^◌, ◌<◌}
 use native.Mathlib.Omega.{arith}
 use lib.Dec.{ltb}
-use Rattle.matcher.specs.Codes.{from_bits}
+use lib.ListN.{get_or}
+use mir.Val.{bool_byte}
+use Rattle.matcher.specs.Codes.{from_bits, bit_place}
 use Rattle.matcher.proofs.Bits.{Bits, next_bit, word_below}
 use Rattle.score_matrix.specs.Scores.{Samples, samples, grey, read_bit}
-use Rattle.score_matrix.proofs.Places.{Here, here, area, first-place, index-inside, read_grey}
+use Rattle.score_matrix.proofs.Places.{Here, here, area, index-inside, read_grey}
 use Rattle.score_matrix.proofs.cell.read_code.Goals as goal
-use Rattle.score_matrix.proofs.cell.read_code.Goals.{After-below, In-loop-k, Start}
+use Rattle.score_matrix.proofs.cell.read_code.Goals.{After-from, In-loop-k}
 
 read_bits : (s : Samples) → Bits (read_bit s)
 read_bits s k = go (ltb (grey s k) s.threshold)
@@ -21,70 +22,64 @@ read_bits s k = go (ltb (grey s k) s.threshold)
 
 pub loop-k-init : goal.loop-k-init
 unfolding from_bits
-loop-k-init c = (omega arith, first-place c.args.bits, refl)
+loop-k-init c = refl
 
-pub overflow_mul-n : goal.overflow_mul-n
-overflow_mul-n c = omega (arith, area c.args.bits c.requires.bits_bound)
+pub overflow_mul-k-end : goal.overflow_mul-k-end
+overflow_mul-k-end c = omega (arith, area c.args.bits c.requires.bits_bound)
 
 -- in the loop
-module _ (c : In-loop-k) where
-  abbrev start : Start
-  start = c.before.before.before.before
+at : (c : In-loop-k) → Here c.args.bits c.loop-k.k
+at c = here c.args.bits c.loop-k.k c.requires.bits_bound c.loop-k-test.true
 
-  abbrev cell : Samples
-  cell = samples c.args.bits c.args.border c.args.threshold c.args.grid.now
-
-  abbrev k : ℕ
-  k = c.loop-k.k
-
-  at : Here c.args.bits k c.loop-k.p
-  at = here c.args.bits k c.loop-k.p c.requires.bits_bound c.loop-k-test.true c.loop-k.invariant.1
-
--- after the bit is read
-module _ (c : After-below) where
-  bit : c.below.result ≡ read_bit (cell (record { before = c.before.before.before.before; type_inv = record { grid = c.type_inv.grid } })) c.loop-k.k
-  bit =
-      c.below.ensures
-      ∙ ap (λ (g : ℕ). cond (ltb g (cell (record { before = c.before.before.before.before; type_inv = record { grid = c.type_inv.grid } })).threshold) 1 0)
-      (read_grey (cell (record { before = c.before.before.before.before; type_inv = record { grid = c.type_inv.grid } })) c.loop-k.k c.grid_index.result c.loop-k.p c.grid_index.ensures
-      c.loop-k.invariant.1)
-
-  code : c.loop-k.code + c.below.result * 2 ^ c.loop-k.k % 2 ^ 64 ≡ from_bits (read_bit (cell (record { before = c.before.before.before.before; type_inv = record { grid = c.type_inv.grid } }))) (c.loop-k.k + 1)
-  code =
-      ap₂ (λ (a b : ℕ). a + b * 2 ^ c.loop-k.k % 2 ^ 64) c.loop-k.invariant.2 bit
-      ∙ next_bit (read_bit (cell (record { before = c.before.before.before.before; type_inv = record { grid = c.type_inv.grid } }))) (read_bits (cell (record { before = c.before.before.before.before; type_inv = record { grid = c.type_inv.grid } }))) c.loop-k.k (at (record { before = c.before.before.before.before; type_inv = record { grid = c.type_inv.grid } })).small
-
-  code_fits : c.loop-k.code + c.below.result * 2 ^ c.loop-k.k % 2 ^ 64 < 2 ^ 64
-  code_fits = rw code (word_below (read_bit (cell (record { before = c.before.before.before.before; type_inv = record { grid = c.type_inv.grid } }))) (read_bits (cell (record { before = c.before.before.before.before; type_inv = record { grid = c.type_inv.grid } }))) (c.loop-k.k + 1) (omega (arith, (at (record { before = c.before.before.before.before; type_inv = record { grid = c.type_inv.grid } })).small)))
+pub place-requires : goal.place-requires
+place-requires c = (at (goal.at.place-requires c).In-loop-k).side
 
 pub grid_index-requires : goal.grid_index-requires
-grid_index-requires c = (c.requires.bits_bound, omega (arith, c.ranges.border.fits), (at c).inside.column, (at c).inside.row)
+grid_index-requires c =
+    let i = (at (goal.at.grid_index-requires c).In-loop-k).inside in
+    (c.requires.bits_bound, omega (arith, c.ranges.border.fits), rw c.place.ensures i.column, rw c.place.ensures i.row)
 
 pub bounds-grid-grid_index : goal.bounds-grid-grid_index
 bounds-grid-grid_index c =
-    rw (c.grid_index.ensures, c.requires.grid_len) (index-inside c.args.bits c.args.border c.loop-k.p (at (goal.at.bounds-grid-grid_index c).In-loop-k).inside)
+    let w = (goal.at.bounds-grid-grid_index c).In-loop-k in
+    rw (c.grid_index.ensures, c.place.ensures, c.requires.grid_len)
+    (index-inside c.args.bits c.args.border (bit_place c.args.bits c.loop-k.k) (at w).inside)
+
+-- a test as a number
+as_number : (b : Bool) → bool_byte b ≡ cond b 1 0
+as_number true = refl
+as_number false = refl
+
+-- after the bit is read
+module _ (c : After-from) where
+  abbrev cell : Samples
+  cell = samples c.args.bits c.args.border c.args.threshold c.args.grid.now
+
+  small : c.loop-k.k < 64
+  small = (here c.args.bits c.loop-k.k c.requires.bits_bound c.loop-k-test.true).small
+
+  bit : c.from.result ≡ read_bit cell c.loop-k.k
+  bit =
+      c.from.ensures ∙ as_number (ltb (get_or c.args.grid.now c.grid_index.result 0) c.args.threshold)
+      ∙ ap (λ (g : ℕ). cond (ltb g c.args.threshold) 1 0)
+      (read_grey cell c.loop-k.k c.grid_index.result c.place.result c.grid_index.ensures c.place.ensures)
+
+  code : c.loop-k.code + c.from.result * 2 ^ c.loop-k.k % 2 ^ 64 ≡ from_bits (read_bit cell) (c.loop-k.k + 1)
+  code =
+      ap₂ (λ (a b : ℕ). a + b * 2 ^ c.loop-k.k % 2 ^ 64) c.loop-k.invariant bit ∙ next_bit (read_bit cell) (read_bits cell) c.loop-k.k small
 
 pub overflow_shl-code : goal.overflow_shl-code
 overflow_shl-code c = (at (goal.at.overflow_shl-code c).In-loop-k).small
 
 pub overflow_add-code : goal.overflow_add-code
-overflow_add-code c = record { fits = code_fits c }
-
-pub next_place-p-requires : goal.next_place-p-requires
-next_place-p-requires c = ((start (goal.at.next_place-p-requires c).In-loop-k).requires.bits_bound, (at (goal.at.next_place-p-requires c).In-loop-k).inside.column, (at (goal.at.next_place-p-requires c).In-loop-k).inside.row)
-
-pub overflow_add-k : goal.overflow_add-k
-overflow_add-k c = omega (arith, (at (goal.at.overflow_add-k c).In-loop-k).small)
-
-pub loop-k-smaller : goal.loop-k-smaller
-loop-k-smaller c = omega (arith, c.loop-k-test.true)
+overflow_add-code c =
+    record { fits = rw (code c) (word_below (read_bit (cell c)) (read_bits (cell c)) (c.loop-k.k + 1) (omega (arith, small c))) }
 
 pub loop-k-preserved : goal.loop-k-preserved
-loop-k-preserved c =
-    (omega (arith, c.loop-k-test.true), c.next_place-p.ensures c.loop-k.k c.loop-k.invariant.1, code (goal.at.loop-k-preserved c).After-below)
+loop-k-preserved c = code (goal.at.loop-k-preserved c).After-from
 
 pub returns : goal.returns
 returns c =
     let s = c.args in
-    let e : c.loop-k.k ≡ s.bits * s.bits = omega (arith, c.loop-k.invariant.0, c.loop-k-test.false) in
-    c.loop-k.invariant.2 ∙ ap (from_bits (read_bit (samples s.bits s.border s.threshold s.grid.now))) e
+    let e : c.loop-k.k ≡ s.bits * s.bits = omega (arith, c.loop-k-test.false) in
+    c.loop-k.invariant ∙ ap (from_bits (read_bit (samples s.bits s.border s.threshold s.grid.now))) e

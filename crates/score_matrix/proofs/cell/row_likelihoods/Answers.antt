@@ -16,7 +16,7 @@ use Rattle.score_matrix.specs.Scores.{Samples, samples, grid_index, grey, likeli
 use Rattle.score_matrix.proofs.Places.{area, index-inside, read_grey}
 use Rattle.score_matrix.proofs.Likelihoods.{holds_next, kept_next}
 use Rattle.score_matrix.proofs.cell.row_likelihoods.Goals as goal
-use Rattle.score_matrix.proofs.cell.row_likelihoods.Goals.{After-entry-in-loop-x, After-grid_index-first, In-loop-x, Start}
+use Rattle.score_matrix.proofs.cell.row_likelihoods.Goals.{After-entry-in-loop-x, After-grid_index-first, In-loop-x}
 
 pub grid_index-first-requires : goal.grid_index-first-requires
 grid_index-first-requires c = (c.requires.bits_bound.0, omega (arith, c.ranges.border.fits), omega (arith, c.requires.bits_bound.1), c.requires.bits_bound.1)
@@ -26,7 +26,7 @@ row : (c : After-grid_index-first) → c.args.y * c.args.bits < 64
 row c = omega (arith, digits_lt c.requires.bits_bound.1 c.requires.bits_bound.1, area c.args.bits c.requires.bits_bound.0)
 
 pub loop-x-init : goal.loop-x-init
-loop-x-init c = (omega arith, c.requires.bits_bound.2, rw add-zero c.requires.bits_bound.3, λ i h. refl)
+loop-x-init c = (c.told-likelihoods, rw add-zero c.requires.bits_bound.2, λ i h. refl)
 
 -- in the loop
 module _ (c : In-loop-x) where
@@ -71,20 +71,18 @@ module _ (c : After-entry-in-loop-x) where
 pub loop-x-preserved : goal.loop-x-preserved
 loop-x-preserved c =
     let before = c.loop-x in (
-      omega (arith, c.loop-x-test.true),
-      simp length-set before.invariant.1,
+      simp length-set before.invariant.0,
       rw (at (goal.at.loop-x-preserved c).In-loop-x, ← add_assoc) (holds_next c.args.table.now (cell (goal.at.loop-x-preserved c).In-loop-x) (k (goal.at.loop-x-preserved c).In-loop-x) before.likelihoods c.entry.result c.entry-in-loop-x.result
-          before.invariant.2 (rw before.invariant.1 (omega (arith, small (goal.at.loop-x-preserved c).In-loop-x))) (zeros c) (ones c)),
+          before.invariant.1 (rw before.invariant.0 (omega (arith, small (goal.at.loop-x-preserved c).In-loop-x))) (zeros c) (ones c)),
       rw (at (goal.at.loop-x-preserved c).In-loop-x, ← add_assoc) (kept_next (k (goal.at.loop-x-preserved c).In-loop-x) before.likelihoods c.entry.result c.entry-in-loop-x.result c.args.likelihoods.now
-          before.invariant.3),
+          before.invariant.2),
     )
 
 pub returns : goal.returns
 returns c =
     let l = c.loop-x in record {
-      size = l.invariant.1;
-      holds = λ k h. l.invariant.2 k (omega (arith, h, l.invariant.0, c.loop-x-test.false));
-      rest = λ i h. l.invariant.3 i (omega (arith, h, l.invariant.0));
+      holds = λ k h. l.invariant.1 k (omega (arith, h, c.loop-x-test.false));
+      rest = λ i h. l.invariant.2 i (omega (arith, h));
     }
 
 pub overflow_mul-at : goal.overflow_mul-at
@@ -125,9 +123,3 @@ offset_bounds-likelihoods-at-in-loop-x c = omega (arith, small (goal.at.offset_b
 
 pub bounds-likelihoods-at-in-loop-x : goal.bounds-likelihoods-at-in-loop-x
 bounds-likelihoods-at-in-loop-x c = omega (arith, small (goal.at.bounds-likelihoods-at-in-loop-x c).In-loop-x)
-
-pub overflow_add-x : goal.overflow_add-x
-overflow_add-x c = omega (arith, small (goal.at.overflow_add-x c).In-loop-x)
-
-pub loop-x-smaller : goal.loop-x-smaller
-loop-x-smaller c = omega (arith, c.loop-x-test.true)

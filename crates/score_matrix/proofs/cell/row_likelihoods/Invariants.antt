@@ -2,7 +2,7 @@
 -- of the row, and is unchanged past them.
 -- Assumes nothing.
 use mathlib.Core.Path.{◌≡◌}
-use Prim.Native.Nat.{◌+◌, ◌-◌, ◌*◌, ◌≤◌}
+use Prim.Native.Nat.{◌+◌, ◌*◌}
 use lib.ListN.{length}
 use lib.Ieee.{nan}
 use Rattle.score_matrix.specs.Scores.{samples}
@@ -12,8 +12,5 @@ use Rattle.score_matrix.proofs.cell.row_likelihoods.Given as goal
 
 abbrev pub invariant-loop-x : goal.invariant-loop-x
 invariant-loop-x l =
-    (l.x ≤ l.n) × (length l.likelihoods ≡ 128) × HoldsLikelihoods l.table (samples l.bits l.border l.threshold l.grid) (l.y * l.bits + l.x) l.likelihoods
+    (length l.likelihoods ≡ 128) × HoldsLikelihoods l.table (samples l.bits l.border l.threshold l.grid) (l.y * l.bits + l.x) l.likelihoods
     × KeptFrom nan (2 * (l.y * l.bits + l.x)) l.initial.likelihoods l.likelihoods
-
-abbrev pub decreases-loop-x : goal.decreases-loop-x
-decreases-loop-x l = l.n - l.x

@@ -3,7 +3,7 @@ use mathlib.Core.Path.{◌≡◌, ap, ◌∙◌}
 use mathlib.Core.List.{List}
 use Prim.Native.Nat.{ℕ, zero, suc, ◌+◌, ◌*◌, ◌<◌}
 use native.Mathlib.Omega.{arith}
-use lib.ListN.{length, get_or}
+use lib.ListN.{get_or}
 use lib.Ieee.{Float, nan, binary32, add}
 use native.Mathlib.Nat.{zero-add}
 use Rattle.lent_list.specs.Scattered.{Wrote}
@@ -31,9 +31,6 @@ row_at sources k code r = 2 * k + bit code (get_or sources (64 * r + k) 0)
 module _ (rows : List Float) (sources : List ℕ) (k code : ℕ) (o p q s t : List Float) (n₀ n₁ n₂ n₃ : ℕ) (w₀ : RowAdded rows 0 n₀ o p)
     (w₁ : RowAdded rows 1 n₁ p q) (w₂ : RowAdded rows 2 n₂ q s) (w₃ : RowAdded rows 3 n₃ s t) (e₀ : n₀ ≡ row_at sources k code 0)
     (e₁ : n₁ ≡ row_at sources k code 1) (e₂ : n₂ ≡ row_at sources k code 2) (e₃ : n₃ ≡ row_at sources k code 3) where
-  size : length o ≡ 32 → length t ≡ 32
-  size e = w₃.size ∙ w₂.size ∙ w₁.size ∙ w₀.size ∙ e
-
   all : (r x : ℕ) → r < 4 → x < 8 → get_or t (8 * r + x) nan ≡ add binary32 (get_or o (8 * r + x) nan) (picked_row rows sources code x r k)
   all zero x h l =
       other rows 3 n₃ s t w₃ 0 x l (λ e. absurd (omega (arith, e))) ∙ other rows 2 n₂ q s w₂ 0 x l (λ e. absurd (omega (arith, e)))
@@ -77,11 +74,6 @@ returns c =
     let p = c.add_row.new.sums in
     let q = c.add_row-2.new.sums in
     let s = c.add_row-3.new.sums in
-    let t = c.add_row-4.new.sums in record {
-      size = size a.rows.now a.sources.now a.k a.code o p q s t c.row_of.result c.row_of-2.result c.row_of-3.result
-          c.row_of-4.result c.add_row.ensures c.add_row-2.ensures c.add_row-3.ensures c.add_row-4.ensures first
-          c.row_of-2.ensures c.row_of-3.ensures c.row_of-4.ensures c.requires.2;
-      added = all a.rows.now a.sources.now a.k a.code o p q s t c.row_of.result c.row_of-2.result c.row_of-3.result
-          c.row_of-4.result c.add_row.ensures c.add_row-2.ensures c.add_row-3.ensures c.add_row-4.ensures first
-          c.row_of-2.ensures c.row_of-3.ensures c.row_of-4.ensures;
-    }
+    let t = c.add_row-4.new.sums in
+    all a.rows.now a.sources.now a.k a.code o p q s t c.row_of.result c.row_of-2.result c.row_of-3.result c.row_of-4.result
+    c.add_row.ensures c.add_row-2.ensures c.add_row-3.ensures c.add_row-4.ensures first c.row_of-2.ensures c.row_of-3.ensures c.row_of-4.ensures

@@ -1,8 +1,7 @@
 -- `score_matrix::rows::add_row` meets its contract. The loop's invariant: the row is added to the first x sums of the turn. Assumes nothing.
-use mathlib.Core.Path.{◌≡◌}
 use mathlib.Core.List.{List}
-use Prim.Native.Nat.{ℕ, ◌+◌, ◌-◌, ◌*◌, ◌≤◌, ◌<◌}
-use lib.ListN.{length, get_or}
+use Prim.Native.Nat.{ℕ, ◌+◌, ◌*◌, ◌<◌}
+use lib.ListN.{get_or}
 use Rattle.lent_list.specs.Scattered.{Wrote}
 use lib.Ieee.{Float, nan, binary32, add}
 use Rattle.score_matrix.specs.Rows.{in_row}
@@ -14,7 +13,4 @@ plus sums turn rows row x = add binary32 (get_or sums (8 * turn + x) nan) (in_ro
 
 abbrev pub invariant-loop-x : goal.invariant-loop-x
 invariant-loop-x l =
-    (l.x ≤ 8) × (length l.sums ≡ 32) × Wrote nan (λ (y : ℕ). y < l.x) (λ (y : ℕ). 8 * l.turn + y) (plus l.initial.sums l.turn l.rows l.row) l.initial.sums l.sums
-
-abbrev pub decreases-loop-x : goal.decreases-loop-x
-decreases-loop-x l = 8 - l.x
+    Wrote nan (λ (y : ℕ). y < l.x) (λ (y : ℕ). 8 * l.turn + y) (plus l.initial.sums l.turn l.rows l.row) l.initial.sums l.sums

@@ -1,5 +1,5 @@
 -- `score_matrix::rows::four_sources` meets its contract. The loop's invariant: the bit positions of the first turns are written. Assumes nothing.
-use mathlib.Core.Path.{◌≡◌, refl, ◌∙◌}
+use mathlib.Core.Path.{◌≡◌, ◌∙◌}
 use Prim.Native.Nat.{ℕ, ◌+◌, ◌*◌, ◌<◌}
 use native.Mathlib.Omega.{arith}
 use lib.ListN.{get_or}
@@ -9,7 +9,7 @@ use Rattle.score_matrix.proofs.Places.{area}
 use Rattle.score_matrix.proofs.rows.four_sources.Goals as goal
 
 pub loop-turn-init : goal.loop-turn-init
-loop-turn-init c = (omega arith, refl, λ r h. absurd (omega (arith, h)))
+loop-turn-init c = λ r h. absurd (omega (arith, h))
 
 pub loop-turn-preserved : goal.loop-turn-preserved
 loop-turn-preserved c =
@@ -17,13 +17,10 @@ loop-turn-preserved c =
     let bits = c.args.bits in
     let small = area bits c.requires in
     let w = c.put_sources.ensures in
-    let last = c.put_sources.new.sources in (
-      omega (arith, c.loop-turn-test.true),
-      w.size ∙ l.invariant.1,
-      below_more (λ r. (k : ℕ) → k < bits * bits → get_or last (64 * r + k) 0 ≡ source_bit bits r k) l.turn
-          (λ r h k g. w.kept (64 * r + k) (λ j n e. absurd (omega (arith, small, h, g, n, e))) ∙ l.invariant.2 r h k g)
-          (λ k g. w.done k (omega (arith, small, g)) ∙ c.source_bits-part.ensures k g),
-    )
+    let last = c.put_sources.new.sources in
+    below_more (λ r. (k : ℕ) → k < bits * bits → get_or last (64 * r + k) 0 ≡ source_bit bits r k) l.turn
+    (λ r h k g. w.kept (64 * r + k) (λ j n e. absurd (omega (arith, small, h, g, n, e))) ∙ l.invariant r h k g)
+    (λ k g. w.done k (omega (arith, small, g)) ∙ c.source_bits-part.ensures k g)
 
 pub returns : goal.returns
-returns c r k h g = c.loop-turn.invariant.2 r (omega (arith, h, c.loop-turn.invariant.0, c.loop-turn-test.false)) k g
+returns c r k h g = c.loop-turn.invariant r (omega (arith, h, c.loop-turn-test.false)) k g

@@ -1,5 +1,5 @@
 -- `score_matrix::rows::put_column` meets its contract. The loop's invariant: the first i rows have the column. Assumes nothing.
-use mathlib.Core.Path.{◌≡◌, refl, ◌∙◌}
+use mathlib.Core.Path.{◌≡◌, refl}
 use native.Mathlib.Omega.{arith}
 use lib.ListN.{get_or}
 use Rattle.lent_list.proofs.Scattered.{wrote_none, wrote_next}
@@ -7,18 +7,16 @@ use lib.Ieee.{nan}
 use Rattle.score_matrix.proofs.rows.put_column.Goals as goal
 
 pub loop-i-init : goal.loop-i-init
-loop-i-init c = (omega arith, c.requires.2, wrote_none c.args.rows.now (λ j h. absurd (omega (arith, h))))
+loop-i-init c = wrote_none c.args.rows.now (λ j h. absurd (omega (arith, h)))
 
 pub loop-i-preserved : goal.loop-i-preserved
 loop-i-preserved c =
     let l = c.loop-i in
     let a = c.args in
-    let w =
-    wrote_next (get_or a.adds.now l.i nan) l.invariant.2 (λ j h e. absurd (omega (arith, h, e))) (rw c.requires.2 (omega arith)) refl in
-    (omega (arith, c.loop-i-test.true), w.size ∙ c.requires.2, w)
+    wrote_next (get_or a.adds.now l.i nan) l.invariant (λ j h e. absurd (omega (arith, h, e))) (omega arith) refl
 
 pub returns : goal.returns
 returns c =
     let l = c.loop-i in
-    let e : l.i ≡ c.args.count = omega (arith, l.invariant.0, c.loop-i-test.false) in
-    rw e at l.invariant.2
+    let e : l.i ≡ c.args.count = omega arith in
+    rw e at l.invariant

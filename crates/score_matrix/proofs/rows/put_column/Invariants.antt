@@ -1,14 +1,10 @@
 -- `score_matrix::rows::put_column` meets its contract. The loop's invariant: the first i rows have the column. Assumes nothing.
-use mathlib.Core.Path.{◌≡◌}
-use Prim.Native.Nat.{ℕ, ◌+◌, ◌-◌, ◌*◌, ◌≤◌, ◌<◌}
-use lib.ListN.{length, get_or}
+use Prim.Native.Nat.{ℕ, ◌+◌, ◌*◌, ◌<◌}
+use lib.ListN.{get_or}
 use Rattle.lent_list.specs.Scattered.{Wrote}
 use lib.Ieee.{nan}
 use Rattle.score_matrix.proofs.rows.put_column.Given as goal
 
 abbrev pub invariant-loop-i : goal.invariant-loop-i
 invariant-loop-i l =
-    (l.i ≤ l.count) × (length l.rows ≡ 1024) × Wrote nan (λ (j : ℕ). j < l.i) (λ (j : ℕ). 8 * j + l.x) (λ (j : ℕ). get_or l.adds j nan) l.initial.rows l.rows
-
-abbrev pub decreases-loop-i : goal.decreases-loop-i
-decreases-loop-i l = l.count - l.i
+    Wrote nan (λ (j : ℕ). j < l.i) (λ (j : ℕ). 8 * j + l.x) (λ (j : ℕ). get_or l.adds j nan) l.initial.rows l.rows

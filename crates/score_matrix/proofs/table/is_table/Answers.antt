@@ -1,48 +1,51 @@
--- `score_matrix::table::is_table` meets its contract. The loop's invariant: the result for the entries from i on is the result for all.
--- Assumes nothing.
+-- `score_matrix::table::is_table` meets its contract. Assumes nothing.
 use mathlib.Core.Path.{◌≡◌, refl, sym, ap, ap₂, ◌∙◌}
 use mathlib.Core.Bool.{Bool, true, false, ◌&&◌}
-use mathlib.Core.List.{List}
-use Prim.Native.Nat.{ℕ, ◌+◌, ◌<◌}
-use native.Mathlib.Numerals.{add-one}
+use mathlib.Core.List.{List, [], ◌∷◌}
+use Prim.Native.Nat.{ℕ, zero, suc, ◌<◌}
 use native.Mathlib.Omega.{arith}
-use lib.ListN.{length, get_or, drop, drop_of_length-le}
-use lib.Seq.{drop-cons}
+use lib.ListN.{length, get_or}
 use lib.Ieee.{Float, nan}
-use borrow.Author.Tests.{eq-eqb, ne_eqb, not-true, not-false}
+use borrow.Author.Rules.{rules}
+use borrow.Author.Tests.{tests, eq-eqb, ne_eqb}
+use Rattle.std.specs.List.{AllWithin, HoldsAt}
+use Rattle.std.specs.Bool.{MatchBool}
+use Rattle.std.proofs.lemmas.Iterator.{cases_from_all, YieldsList-from_slice}
 use Rattle.score_matrix.specs.Table.{entry_in_range, entries_in_range}
 use Rattle.score_matrix.proofs.table.is_table.Goals as goal
-use Rattle.score_matrix.proofs.table.is_table.Goals.{After-ranged, At-loop-i}
 
--- the result at one entry
-here : (table : List Float) (i : ℕ) (b : Bool) → i < length table → entry_in_range (get_or table i nan) ≡ b
-    → entries_in_range (drop i table) ≡ (b && entries_in_range (drop (i + 1) table))
-here table i b l e = rw (drop-cons table i nan l, add-one, e)
+abbrev Answered : Bool → Float → Type 0
+Answered b x = entry_in_range x ≡ b
 
-pub returns-then-table-ne511 : goal.returns-then-table-ne511
-returns-then-table-ne511 c = ap (λ (b : Bool). b && entries_in_range c.args.table.now)
-    (sym (ne_eqb (length c.args.table.now) 511 c.if-table-ne511.true))
+all_in_range : (table : List Float) → ((k : ℕ) → k < length table → entry_in_range (get_or table k nan) ≡ true) → entries_in_range table ≡ true
+all_in_range [] h = refl
+all_in_range (x ∷ xs) h = ap₂ ◌&&◌ (h 0 (omega arith)) (all_in_range xs (λ k l. h (suc k) (omega arith)))
 
-pub loop-i-init : goal.loop-i-init
-loop-i-init c = (omega arith, eq-eqb (length c.args.table.now) 511 c.if-table-ne511.false, refl)
+one_out : (table : List Float) (k : ℕ) → k < length table → entry_in_range (get_or table k nan) ≡ false → entries_in_range table ≡ false
+one_out [] k l e = absurd (omega arith)
+one_out (x ∷ xs) zero l e = ap (λ (b : Bool). b && entries_in_range xs) e
+one_out (x ∷ xs) (suc k) l e = go (entry_in_range x) (one_out xs k (omega arith) e)
+  where
+    go : (b : Bool) → entries_in_range xs ≡ false → b && entries_in_range xs ≡ false
+    go true f = f
+    go false f = refl
 
--- in the loop, after the check of an entry
-module _ (c : After-ranged) (b : Bool) where
-  abbrev table : List Float
-  table = c.args.table.now
+decided : (table : List Float) (r : Bool)
+    → MatchBool r (AllWithin (Answered true) table 0 (length table)) ((k : ℕ) × (k < length table) × HoldsAt (Answered false) table k)
+    → r ≡ entries_in_range table
+decided table true h = sym (all_in_range table (λ k l. h k nan (omega arith) l))
+decided table false h = sym (one_out table h.0 h.1 (h.2 nan))
 
-  next : c.ranged.result ≡ b → (b && entries_in_range (drop (c.loop-i.i + 1) table)) ≡ entries_in_range table
-  next e = sym (here table c.loop-i.i b c.loop-i-test.true (sym c.ranged.ensures ∙ e)) ∙ c.loop-i.invariant.2
-
-pub returns-then-not-ranged : goal.returns-then-not-ranged
-returns-then-not-ranged c =
-    ap₂ ◌&&◌ (sym c.loop-i.invariant.1) (next (goal.at.returns-then-not-ranged c).After-ranged false (not-true c.ranged.result c.if-not-ranged.true-raw))
-
-pub loop-i-preserved : goal.loop-i-preserved
-loop-i-preserved c =
-    (omega (arith, c.loop-i-test.true), c.loop-i.invariant.1, next (goal.at.loop-i-preserved c).After-ranged true (not-false c.ranged.result c.if-not-ranged.false-raw))
-
-pub returns : goal.returns
-returns c =
+pub returns-then-table-eq511 : goal.returns-then-table-eq511
+returns-then-table-eq511 c =
     let table = c.args.table.now in
-    ap₂ ◌&&◌ (sym c.loop-i.invariant.1) (sym (ap entries_in_range (drop_of_length-le table c.loop-i-test.false)) ∙ c.loop-i.invariant.2)
+    let e = decided table c.all.result
+    (cases_from_all _ _ _ (Answered true) (Answered false) c.all.ensures.ran (YieldsList-from_slice table cc) (λ x q k. search (rules, tests))
+    (λ x q k. search (rules, tests))) in
+    e ∙ ap (λ (b : Bool). b && entries_in_range table) (sym (eq-eqb (length table) 511 c.if-table-eq511.true))
+
+pub returns-else-table-eq511 : goal.returns-else-table-eq511
+returns-else-table-eq511 c =
+    let table = c.args.table.now in
+    let e = ne_eqb (length table) 511 c.if-table-eq511.false in
+    e ∙ ap (λ (b : Bool). b && entries_in_range table) (sym e)

@@ -28,7 +28,7 @@ half-bit lanes x (suc zero) r h k l =
 half-bit lanes x (suc (suc q)) r h k l = absurd (omega arith)
 
 pub loop-x-init : goal.loop-x-init
-loop-x-init c = (omega arith, c.requires.1, below_none _, λ i h. refl)
+loop-x-init c = (c.told-sums, below_none _, λ i h. refl)
 
 -- in the loop
 module _ (c : After-chosen) where
@@ -43,7 +43,7 @@ module _ (c : After-chosen) where
 
   bit_is : bit (get_or lanes (8 * (s / 32) + x) 0) (s % 32) ≡ bit (lane_code lanes x) s
   bit_is =
-      half-bit lanes x (s / 32) (s % 32) (omega (arith, c.requires.0)) (omega arith) (c.type_inv.lanes x).fits
+      half-bit lanes x (s / 32) (s % 32) (omega (arith, c.requires)) (omega arith) (c.fits-lanes x)
       ∙ ap (bit (lane_code lanes x)) (div-add-mod s 32)
 
   chosen_is : c.chosen.result ≡ by_bit (bit (lane_code lanes x) s) c.args.clear c.args.set
@@ -56,18 +56,14 @@ loop-x-preserved c =
     let l = c.loop-x in
     let a = c.args in
     let v : Float = add binary32 (get_or l.sums l.x nan) c.chosen.result in (
-      omega arith,
-      length-set l.sums l.x v ∙ l.invariant.1,
+      length-set l.sums l.x v ∙ l.invariant.0,
       below_more
           (λ i. get_or (set l.sums l.x v) i nan ≡ add binary32 (get_or a.sums.now i nan) (by_bit (bit (lane_code c.args.lanes.now i) a.s) a.clear a.set))
           l.x
-          (λ i h. get_or-set_other l.sums l.x i v nan (λ e. absurd (omega (arith, h, e))) ∙ l.invariant.2 i h)
-          (get_or-set_same l.sums l.x v nan (omega arith) ∙ ap₂ (add binary32) (l.invariant.3 l.x (le_refl l.x)) (chosen_is c)),
-      λ i h. get_or-set_other l.sums l.x i v nan (λ e. absurd (omega (arith, h, e))) ∙ l.invariant.3 i (omega (arith, h)),
+          (λ i h. get_or-set_other l.sums l.x i v nan (λ e. absurd (omega (arith, h, e))) ∙ l.invariant.1 i h)
+          (get_or-set_same l.sums l.x v nan (omega arith) ∙ ap₂ (add binary32) (l.invariant.2 l.x (le_refl l.x)) (chosen_is (goal.at.loop-x-preserved c).After-chosen)),
+      λ i h. get_or-set_other l.sums l.x i v nan (λ e. absurd (omega (arith, h, e))) ∙ l.invariant.2 i (omega (arith, h)),
     )
 
 pub returns : goal.returns
-returns c = let l = c.loop-x in record {
-  size = l.invariant.1;
-  added = λ x h. l.invariant.2 x (omega (arith, h, c.loop-x-test.false));
-}
+returns c x h = c.loop-x.invariant.1 x (omega (arith, h, c.loop-x-test.false))

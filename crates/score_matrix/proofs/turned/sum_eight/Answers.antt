@@ -21,7 +21,7 @@ overflow_mul-n c = omega (arith, area c.args.bits c.requires.0)
 
 pub loop-k-init : goal.loop-k-init
 unfolding sum_to of_bits
-loop-k-init c = (omega arith, refl, λ x h. get_or-replicate 8 x (of_bits binary32 0) nan h)
+loop-k-init c = λ x h. get_or-replicate 8 x (of_bits binary32 0) nan h
 
 -- in the loop
 small : (c : In-loop-k) → c.loop-k.k < 64
@@ -29,7 +29,7 @@ small c = omega (arith, c.loop-k-test.true, area c.args.bits c.requires.0)
 
 pub add_bit-requires : goal.add_bit-requires
 add_bit-requires c =
-    (c.requires.1 c.loop-k.k c.loop-k-test.true, c.loop-k.invariant.1, c.add_bit-arg-1.given)
+    c.requires.1 c.loop-k.k c.loop-k-test.true
 
 -- `by_bit` is an element of the list
 by_bit_lem : (l : List Float) (k b : ℕ) → b < 2 → by_bit b (get_or l (2 * k) nan) (get_or l (2 * k + 1) nan) ≡ get_or l (2 * k + b) nan
@@ -47,22 +47,18 @@ more l sources code k total next e f =
     f ∙ ap₂ (add binary32) e (by_bit_lem l k (bit code s) (bit-small code s)) ∙ ap (sum_to (picked_from l sources code)) (sym (add-one k))
 
 pub loop-k-preserved : goal.loop-k-preserved
-loop-k-preserved c =
+loop-k-preserved c x h =
     let l = c.loop-k in
     let a = c.args in
-    let last = c.add_bit.new.sums in (
-      omega (arith, c.loop-k-test.true),
-      c.add_bit.ensures.size,
-      λ x h. more a.likelihoods.now a.sources.now (lane_code a.lanes.now x) l.k (get_or l.sums x nan) (get_or last x nan)
-          (l.invariant.2 x h) (c.add_bit.ensures.added x h),
-    )
+    more a.likelihoods.now a.sources.now (lane_code a.lanes.now x) l.k (get_or l.sums x nan) (get_or c.add_bit.new.sums x nan)
+    (l.invariant x h) (c.add_bit.ensures x h)
 
 pub returns : goal.returns
 returns c x h =
     let a = c.args in
     let l = c.loop-k in
-    let e : l.k ≡ a.bits * a.bits = omega (arith, l.invariant.0, c.loop-k-test.false) in
-    l.invariant.2 x h ∙ ap (sum_to (picked_from a.likelihoods.now a.sources.now (lane_code a.lanes.now x))) e
+    let e : l.k ≡ a.bits * a.bits = omega (arith, c.loop-k-test.false) in
+    l.invariant x h ∙ ap (sum_to (picked_from a.likelihoods.now a.sources.now (lane_code a.lanes.now x))) e
 
 pub bounds-sources-k : goal.bounds-sources-k
 bounds-sources-k c = small (goal.at.bounds-sources-k c).In-loop-k
@@ -87,9 +83,3 @@ offset_bounds-likelihoods-k-in-loop-k c = omega (arith, small (goal.at.offset_bo
 
 pub bounds-likelihoods-k-in-loop-k : goal.bounds-likelihoods-k-in-loop-k
 bounds-likelihoods-k-in-loop-k c = omega (arith, small (goal.at.bounds-likelihoods-k-in-loop-k c).In-loop-k)
-
-pub overflow_add-k-in-loop-k : goal.overflow_add-k-in-loop-k
-overflow_add-k-in-loop-k c = omega (arith, small (goal.at.overflow_add-k-in-loop-k c).In-loop-k)
-
-pub loop-k-smaller : goal.loop-k-smaller
-loop-k-smaller c = omega (arith, c.loop-k-test.true)

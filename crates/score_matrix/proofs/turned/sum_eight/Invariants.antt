@@ -1,8 +1,8 @@
 -- `score_matrix::turned::sum_eight` meets its contract. The loop's invariant: each score is the sum of the first k terms of its code.
 -- Assumes nothing.
 use mathlib.Core.Path.{◌≡◌}
-use Prim.Native.Nat.{ℕ, ◌-◌, ◌≤◌, ◌<◌}
-use lib.ListN.{length, get_or}
+use Prim.Native.Nat.{ℕ, ◌<◌}
+use lib.ListN.{get_or}
 use lib.Ieee.{nan}
 use Rattle.floats.specs.Units.{sum_to}
 use Rattle.score_matrix.specs.Likelihoods.{picked_from, lane_code}
@@ -10,7 +10,4 @@ use Rattle.score_matrix.proofs.turned.sum_eight.Given as goal
 
 abbrev pub invariant-loop-k : goal.invariant-loop-k
 invariant-loop-k l =
-    (l.k ≤ l.n) × (length l.sums ≡ 8) × ((x : ℕ) → x < 8 → get_or l.sums x nan ≡ sum_to (picked_from l.likelihoods l.sources (lane_code l.lanes x)) l.k)
-
-abbrev pub decreases-loop-k : goal.decreases-loop-k
-decreases-loop-k l = l.n - l.k
+    (x : ℕ) → x < 8 → get_or l.sums x nan ≡ sum_to (picked_from l.likelihoods l.sources (lane_code l.lanes x)) l.k
