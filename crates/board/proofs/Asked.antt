@@ -10,7 +10,10 @@ use native.Mathlib.Omega.{arith}
 use lib.Dec.{leb, ltb, ltb→lt}
 use lib.ListN.{length, get_or, drop}
 use lib.Seq.{drop-cons}
-use borrow.Author.Tests.{leb-true, not-true}
+use borrow.Author.Tests.{leb-true, not-true, lt-ltb}
+use Rattle.std.specs.Bool.{MatchBool}
+use Rattle.std.specs.List.{AllWithin, HoldsAt}
+use Rattle.std.proofs.lemmas.Bool.{and_from}
 use Rattle.alike.specs.Alike.{two_alike}
 use Rattle.alike.proofs.Laws.{names-one}
 use Rattle.matcher.specs.Codes.{turned}
@@ -145,6 +148,22 @@ codes-below : (bits : ℕ) (codes : List ℕ) → codes_answer bits codes ≡ tr
 codes-below bits [] e k h = absurd (omega arith)
 codes-below bits (c ∷ cs) e zero h = ltb→lt c (2 ^ (bits * bits)) (rw (both (code_in_range bits c) (codes_answer bits cs) e).0 tt)
 codes-below bits (c ∷ cs) e (suc k) h = codes-below bits cs (both (code_in_range bits c) (codes_answer bits cs) e).1 k (le_of_suc-le-suc h)
+
+all-codes : (bits : ℕ) (codes : List ℕ) → ((k : ℕ) → k < length codes → code_in_range bits (get_or codes k 0) ≡ true) → codes_answer bits codes ≡ true
+all-codes bits [] h = refl
+all-codes bits (c ∷ cs) h = and_from (code_in_range bits c) _ (h 0 (omega arith)) (all-codes bits cs (λ k l. h (suc k) (omega arith)))
+
+-- the answer, from every code in range or one that is not
+pub codes_from_cases : (bits : ℕ) (codes : List ℕ) (r : Bool)
+    → MatchBool r (AllWithin (λ x. code_in_range bits x ≡ true) codes 0 (length codes))
+    ((k : ℕ) × (k < length codes) × HoldsAt (λ x. code_in_range bits x ≡ false) codes k)
+    → r ≡ codes_answer bits codes
+codes_from_cases bits codes true h = sym (all-codes bits codes (λ k l. h k 0 (omega arith) l))
+codes_from_cases bits codes false (k, l, out) = go (codes_answer bits codes) refl
+  where
+    go : (t : Bool) → codes_answer bits codes ≡ t → false ≡ t
+    go false e = refl
+    go true e = sym (out 0) ∙ lt-ltb _ _ (codes-below bits codes e k l)
 
 -- for a board that passed 1 to 7, and for one that did not
 module _ (s : CharucoBoardSpec) (codes : List ℕ) where

@@ -12,18 +12,19 @@ use lib.Dec.{ltb, eqb, ltb→lt, lit<}
 use borrow.Author.Tests.{eqb-true}
 use lib.Ieee.Fits.{and_l, and_r}
 use Rattle.board.specs.declared.Board.{Board}
-use Rattle.board.specs.Numbering.{number_at, number_atℤ, place_numbered, total}
-use Rattle.board.specs.Layout.{holds_marker, inner, even_parity, odd_parity, parity_of, marker_count, marker_total, marker_at, marker_on, square_of, all_four, around, four_corners}
+use Rattle.board.specs.declared.Surrounding.{Surrounding}
+use Rattle.board.specs.Numbering.{number_at, number_atℤ, position, place_numbered, total}
+use Rattle.board.specs.Layout.{holds_marker, inner, even_parity, odd_parity, parity_of, marker_count, marker_total, marker_at, marker_on, square_of, surrounding, all_four, around, four_corners}
 use Rattle.board.proofs.Places.{Place, number-has, place_of_number, number_of-place, placed, unplaced, number-below, numbers_differ, numbers_rise}
 use Rattle.board.proofs.Markers.{parity_bit, marker_total_lem}
-use Rattle.board.proofs.Surroundings.{OffRim, off_rim}
+use Rattle.board.proofs.Surroundings.{OffRim, corners_from, off_rim}
 use Rattle.std.specs.Prelude.{Option, Some, None}
 
 -- ---- ids
 pub record Numbering (t : ℕ → ℕ → Bool) (w h : ℕ) : Type 0 where
   -- id and place are inverse
-  pub place_of : (i j id : ℕ) → number_at t w h i j ≡ Some id → place_numbered t w h id ≡ Some i j
-  pub id_of_lem : (i j id : ℕ) → place_numbered t w h id ≡ Some i j → number_at t w h i j ≡ Some id
+  pub place_of : (i j id : ℕ) → number_at t w h i j ≡ Some id → place_numbered t w h id ≡ Some (position i j)
+  pub id_of_lem : (i j id : ℕ) → place_numbered t w h id ≡ Some (position i j) → number_at t w h i j ≡ Some id
   -- the ids are exactly 0 to count − 1
   pub below : (i j id : ℕ) → number_at t w h i j ≡ Some id → id < total t w h
   pub known : (id : ℕ) → id < total t w h → Place t w h id
@@ -108,9 +109,15 @@ same_count b = go b.legacy_pattern (eqb (b.rows % 2) 0) refl
     go false even e = odd
 
 -- ---- the four corners of a marker on square (i, j)
-each-four : (x y z u : Option ℕ) (a b c d : ℕ) → all_four x y z u ≡ Some a b c d → (x ≡ Some a) × (y ≡ Some b)
+each-four : (x y z u : Option ℕ) (a b c d : ℕ) → all_four x y z u ≡ Some (surrounding a b c d) → (x ≡ Some a) × (y ≡ Some b)
     × (z ≡ Some c) × (u ≡ Some d)
-each-four (Some k) (Some l) (Some m) (Some n) a b c d e = (cc, cc, cc, cc)
+each-four (Some k) (Some l) (Some m) (Some n) a b c d e =
+    let same : surrounding k l m n ≡ surrounding a b c d = cc in (
+      ap (λ (s : Surrounding). Some s.top_left) same,
+      ap (λ (s : Surrounding). Some s.top_right) same,
+      ap (λ (s : Surrounding). Some s.bottom_right) same,
+      ap (λ (s : Surrounding). Some s.bottom_left) same,
+    )
 each-four (Some k) (Some l) (Some m) None a b c d e = let z : ◌≡◌ {A = ℕ} 0 1 = cc in absurd (omega arith)
 each-four (Some k) (Some l) None u a b c d e = let z : ◌≡◌ {A = ℕ} 0 1 = cc in absurd (omega arith)
 each-four (Some k) None z u a b c d e = let n : ◌≡◌ {A = ℕ} 0 1 = cc in absurd (omega arith)
@@ -122,16 +129,16 @@ pub record Four (rows cols i j a b c d : ℕ) : Type 0 where
   pub bottom_right : number_at inner cols rows (suc i) (suc j) ≡ Some c
   pub bottom_left : number_at inner cols rows i (suc j) ≡ Some d
 
-module _ (p rows cols id i j : ℕ) (square : square_of p rows cols id ≡ Some i j) where
+module _ (p rows cols id i j : ℕ) (square : square_of p rows cols id ≡ Some (position i j)) where
   -- if there are four, they are the inner corners of the marker's square
-  pub four_are : (a b c d : ℕ) → four_corners p rows cols id ≡ Some a b c d → Four rows cols i j a b c d
+  pub four_are : (a b c d : ℕ) → four_corners p rows cols id ≡ Some (surrounding a b c d) → Four rows cols i j a b c d
   four_are a b c d e =
       let corner = number_at inner cols rows in
       let f = each-four (corner i j) (corner (suc i) j) (corner (suc i) (suc j)) (corner i (suc j)) a b c d (sym (ap (around rows cols) square) ∙ e) in
       record { top_left = f.0; top_right = f.1; bottom_right = f.2; bottom_left = f.3 }
 
   -- and the square is off the rim
-  pub four_off_rim : (a b c d : ℕ) → four_corners p rows cols id ≡ Some a b c d → OffRim rows cols i j
+  pub four_off_rim : (a b c d : ℕ) → four_corners p rows cols id ≡ Some (surrounding a b c d) → OffRim rows cols i j
   four_off_rim a b c d e =
       let f = four_are a b c d e in
       let first = number-has inner cols rows i j a f.top_left in
@@ -141,6 +148,5 @@ module _ (p rows cols id i j : ℕ) (square : square_of p rows cols id ≡ Some 
 
   -- off the rim there are four
   pub off_rim_four : OffRim rows cols i j
-      → four_corners p rows cols id ≡ Some ((j - 1) * (cols - 1) + (i - 1)) ((j - 1) * (cols - 1) + (i - 1) + 1)
-      ((j - 1) * (cols - 1) + (i - 1) + (cols - 1) + 1) ((j - 1) * (cols - 1) + (i - 1) + (cols - 1))
+      → four_corners p rows cols id ≡ Some (corners_from ((j - 1) * (cols - 1) + (i - 1)) (cols - 1))
   off_rim_four o = ap (around rows cols) square ∙ off_rim rows cols i j o

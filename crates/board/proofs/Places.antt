@@ -8,7 +8,8 @@ use native.Mathlib.Omega.{arith}
 use lib.Dec.{T, T_not, ltb, eqb, ltb→lt, lt→ltb, nltb→le, eqb→eq, eqb_refl}
 use lib.Arith.{digits_lt, digits_div, digits_mod}
 use lib.Ieee.Fits.{and_l, and_r, and_i}
-use Rattle.board.specs.Numbering.{count_passing, by_rank, count_before, total, number_if, number_at, located_if, search, place_numbered}
+use Rattle.board.specs.Numbering.{count_passing, by_rank, count_before, total, number_if, number_at, located_if, position, search, place_numbered}
+use Rattle.board.specs.declared.Position.{Position}
 use Rattle.board.proofs.Counting.{count_past, count-once, reached}
 use Rattle.std.specs.Prelude.{Some, None}
 
@@ -66,14 +67,14 @@ module _ (t : ℕ → ℕ → Bool) (w m : ℕ) where
       count-once q n k (and_l (q n) (eqb (count_passing q n) m) a) (and_l (q k) (eqb (count_passing q k) m) b)
       (eqb→eq (count_passing q n) m (and_r (q n) (eqb (count_passing q n) m) a) ∙ sym (eqb→eq (count_passing q k) m (and_r (q k) (eqb (count_passing q k) m) b)))
 
-  search_finds : (n k : ℕ) → k < n → T (hit k) → search t w m n ≡ Some (k % w) (k / w)
+  search_finds : (n k : ℕ) → k < n → T (hit k) → search t w m n ≡ Some (position (k % w) (k / w))
   unfolding search
   search_finds zero k l y = absurd (omega arith)
   search_finds (suc n) k l y = go (hit n) (λ x. hit_once n k x y) (T_not (hit n)) (search_finds n k)
     where
-      go : (b : Bool) → (T b → n ≡ k) → (T (not b) → T (hit n) → ⊥) → (k < n → T (hit k) → search t w m n ≡ Some (k % w) (k / w))
-          → located_if b w n (search t w m n) ≡ Some (k % w) (k / w)
-      go true same other below = ap (λ (x : ℕ). Some (x % w) (x / w)) (same tt)
+      go : (b : Bool) → (T b → n ≡ k) → (T (not b) → T (hit n) → ⊥) → (k < n → T (hit k) → search t w m n ≡ Some (position (k % w) (k / w)))
+          → located_if b w n (search t w m n) ≡ Some (position (k % w) (k / w))
+      go true same other below = ap (λ (x : ℕ). Some (position (x % w) (x / w))) (same tt)
       go false same other below =
           elim (eq-or-lt_of_le (le_of_suc-le-suc l)) [ inl e ↦ absurd (other tt (rw (← e) y)) | inr d ↦ below d y ]
 
@@ -102,13 +103,13 @@ module _ (t : ℕ → ℕ → Bool) (w h m : ℕ) where
       wide (suc x) l = omega arith
 
   -- a place that has the number is the one that the search finds
-  pub has-place : (i j : ℕ) → Has t w h i j m → place_numbered t w h m ≡ Some i j
+  pub has-place : (i j : ℕ) → Has t w h i j m → place_numbered t w h m ≡ Some (position i j)
   has-place i j p =
       let k = j * w + i in
       let column : k % w ≡ i = digits_mod j p.column in
       let row : k / w ≡ j = digits_div j p.column in
       search_finds t w m (h * w) k (digits_lt p.row p.column) (hit_is t w m k (rw (column, row) p.passes) p.number)
-      ∙ ap₂ Some column row
+      ∙ ap₂ (λ (x y : ℕ). Some (position x y)) column row
 
   -- a number below the total is that of exactly one place
   pub record Place : Type 0 where
@@ -135,22 +136,23 @@ module _ (t : ℕ → ℕ → Bool) (w h m : ℕ) where
       omega arith
 
   -- the number of a place and the place of a number are inverse
-  pub place_of_number : (i j : ℕ) → number_at t w h i j ≡ Some m → place_numbered t w h m ≡ Some i j
+  pub place_of_number : (i j : ℕ) → number_at t w h i j ≡ Some m → place_numbered t w h m ≡ Some (position i j)
   place_of_number i j e = has-place i j (number-has t w h i j m e)
 
-  pub number_of-place : (i j : ℕ) → place_numbered t w h m ≡ Some i j → number_at t w h i j ≡ Some m
+  pub number_of-place : (i j : ℕ) → place_numbered t w h m ≡ Some (position i j) → number_at t w h i j ≡ Some m
   number_of-place i j e = go (ltb m (total t w h)) (ltb→lt m (total t w h)) (nltb→le m (total t w h))
     where
       go : (b : Bool) → (T b → m < total t w h) → (T (not b) → total t w h ≤ m) → number_at t w h i j ≡ Some m
       go true l g =
           let p = placed (l tt) in
           let f = has-place p.i p.j p.has in
-          let ei : p.i ≡ i = cc in
-          let ej : p.j ≡ j = cc in
+          let same : position p.i p.j ≡ position i j = cc in
+          let ei : p.i ≡ i = ap (λ (q : Position). q.i) same in
+          let ej : p.j ≡ j = ap (λ (q : Position). q.j) same in
           rw (← ei, ← ej) (has-number t w h p.i p.j m p.has)
       go false l g = let f = unplaced (g tt) in let z : ◌≡◌ {A = ℕ} 0 1 = cc in absurd (omega arith)
 
-pub place-has-number : (t : ℕ → ℕ → Bool) (w h m i j : ℕ) → place_numbered t w h m ≡ Some i j → Has t w h i j m
+pub place-has-number : (t : ℕ → ℕ → Bool) (w h m i j : ℕ) → place_numbered t w h m ≡ Some (position i j) → Has t w h i j m
 place-has-number t w h m i j e = number-has t w h i j m (number_of-place t w h m i j e)
 
 -- distinct places have distinct numbers
@@ -158,7 +160,8 @@ pub numbers_differ : (t : ℕ → ℕ → Bool) (w h i j i' j' m : ℕ) → numb
 numbers_differ t w h i j i' j' m a b =
     let p = place_of_number t w h m i j a in
     let p' = place_of_number t w h m i' j' b in
-    (cc, cc)
+    let same : position i j ≡ position i' j' = cc in
+    (ap (λ (q : Position). q.i) same, ap (λ (q : Position). q.j) same)
 
 -- numbers increase in row-major order
 pub numbers_rise : (t : ℕ → ℕ → Bool) (w h i j i' j' m m' : ℕ) → number_at t w h i j ≡ Some m → number_at t w h i' j' ≡ Some m'

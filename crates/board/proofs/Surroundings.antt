@@ -4,8 +4,9 @@ use Prim.Native.Nat.{ℕ, zero, suc, ◌+◌, ◌-◌, ◌*◌, ◌≤◌, ◌<�
 use native.Mathlib.Omega.{arith}
 use lib.Dec.{ltb, ltb→lt}
 use lib.Ieee.Fits.{and_l, and_r}
-use Rattle.board.specs.Numbering.{number_at}
-use Rattle.board.specs.Layout.{inner, all_four, around}
+use Rattle.board.specs.Numbering.{number_at, position}
+use Rattle.board.specs.Layout.{inner, surrounding, all_four, around}
+use Rattle.board.specs.declared.Surrounding.{Surrounding}
 use Rattle.board.proofs.Places.{has-number, unnumbered}
 use Rattle.board.proofs.Corners.{inner-is, corner-number, less_one}
 use Rattle.std.specs.Prelude.{Option, Some, None}
@@ -32,10 +33,13 @@ next_row : (j s : ℕ) → 0 < j → (suc j - 1) * s ≡ (j - 1) * s + s
 next_row zero s h = absurd (omega arith)
 next_row (suc j) s h = omega (arith, less_one (suc j) s, less_one j s)
 
+-- the corners around a square, by the number of the top left one and how many are in a row
+abbrev pub corners_from : ℕ → ℕ → Surrounding
+corners_from a s = surrounding a (a + 1) (a + s + 1) (a + s)
+
 -- off the rim: the number of the top left corner, the next, and the two of the row below
 pub off_rim : (rows w i j : ℕ) → OffRim rows w i j
-    → around rows w (Some i j) ≡ Some ((j - 1) * (w - 1) + (i - 1)) ((j - 1) * (w - 1) + (i - 1) + 1)
-    ((j - 1) * (w - 1) + (i - 1) + (w - 1) + 1) ((j - 1) * (w - 1) + (i - 1) + (w - 1))
+    → around rows w (Some (position i j)) ≡ Some (corners_from ((j - 1) * (w - 1) + (i - 1)) (w - 1))
 off_rim rows w i j o =
     let a = (j - 1) * (w - 1) + (i - 1) in
     let down = next_row j (w - 1) o.top in
@@ -66,14 +70,14 @@ module _ (rows w i j : ℕ) where
   abbrev corner : ℕ → ℕ → Option ℕ
   corner = number_at inner w rows
 
-  pub rim_left : i ≤ 0 → around rows w (Some i j) ≡ None
+  pub rim_left : i ≤ 0 → around rows w (Some (position i j)) ≡ None
   rim_left h = rw (outer_corner rows w i j (λ a b l k. omega arith))
 
-  pub rim_top : j ≤ 0 → around rows w (Some i j) ≡ None
+  pub rim_top : j ≤ 0 → around rows w (Some (position i j)) ≡ None
   rim_top h = rw (outer_corner rows w i j (λ a b l k. omega arith))
 
-  pub rim_right : w ≤ suc i → around rows w (Some i j) ≡ None
+  pub rim_right : w ≤ suc i → around rows w (Some (position i j)) ≡ None
   rim_right h = rw (outer_corner rows w (suc i) j (λ a b l k. omega arith)) (second (corner i j) (corner (suc i) (suc j)) (corner i (suc j)))
 
-  pub rim_bottom : rows ≤ suc j → around rows w (Some i j) ≡ None
+  pub rim_bottom : rows ≤ suc j → around rows w (Some (position i j)) ≡ None
   rim_bottom h = rw (outer_corner rows w (suc i) (suc j) (λ a b l k. omega arith)) (third (corner i j) (corner (suc i) j) (corner i (suc j)))

@@ -3,8 +3,6 @@
 #![tactic(auto)]
 
 ghost use Rattle.std.specs.Prelude.{◌≡◌};
-ghost use Rattle.board.specs.Layout.{parity_of, holds_marker, marker_total, marker_on, marker_square, surrounding_corners};
-ghost use Rattle.board.specs.Layout.{corner_count, corner_at, corner_place, object_point};
 ghost use Rattle.board.specs.Questions.{sized_board, new_board};
 
 mod layout;
@@ -98,87 +96,5 @@ impl Board {
     {
         let board = Board::sized(spec, codes.len())?;
         questions::judged(board, questions::codes(board.bits, codes), codes)
-    }
-
-    // The parity of i + j of the squares that have markers.
-    fn parity(self) -> u8
-        ensures { result ≡ parity_of self }
-    {
-        if self.legacy_pattern {
-            return self.rows % 2;
-        }
-        1
-    }
-
-    pub fn marker_count(self) -> u32
-        ensures { result ≡ marker_total self }
-    {
-        layout::marker_count(self.parity(), self.rows, self.cols)
-    }
-
-    // Does square (i, j), if it is on the board, have a marker?
-    pub fn holds_marker(self, i: usize, j: usize) -> bool
-        ensures { result ≡ holds_marker (parity_of self) i j }
-    {
-        layout::holds_marker(self.parity(), i, j)
-    }
-
-    // The marker on square (i, j).
-    pub fn marker_id_at(self, i: i32, j: i32) -> Option<u32>
-        ensures { result ≡ marker_on self i j }
-    {
-        layout::marker_id(
-            self.parity(),
-            self.rows,
-            self.cols,
-            layout::clip(i, self.cols),
-            layout::clip(j, self.rows),
-        )
-    }
-
-    // The square of a marker.
-    pub fn marker_position(self, id: u32) -> Option<Position>
-        ensures { result ≡ marker_square self id }
-    {
-        layout::marker_square(self.parity(), self.rows, self.cols, id)
-    }
-
-    // The inner corner at board corner (i, j).
-    pub fn charuco_corner_id_from_board_corner(self, i: i32, j: i32) -> Option<u32>
-        ensures { result ≡ corner_at self.rows self.cols i j }
-    {
-        layout::corner_id(
-            self.rows,
-            self.cols,
-            layout::clip(i, self.cols),
-            layout::clip(j, self.rows),
-        )
-    }
-
-    pub fn corner_count(self) -> u32
-        ensures { result ≡ corner_count self.rows self.cols }
-    {
-        layout::corner_count(self.rows, self.cols)
-    }
-
-    // The board corner of an inner corner's id (`grid_from_charuco_id` of upstream's corner_mapping.rs).
-    pub fn board_corner(self, id: u32) -> Option<Position>
-        ensures { result ≡ corner_place self.rows self.cols id }
-    {
-        layout::corner_place(self.rows, self.cols, id)
-    }
-
-    // The point of an inner corner in the board's plane.
-    pub fn charuco_object_xy(self, id: u32) -> Option<ObjectPoint>
-        ensures { result ≡ object_point self.rows self.cols self.cell_size id }
-    {
-        layout::object_point(self.rows, self.cols, self.cell_size, id)
-    }
-
-    // The four inner corners around a marker: none for an unknown marker or one on the rim.
-    pub fn marker_surrounding_charuco_corners(self, id: u32) -> Option<Surrounding>
-        ensures { result ≡ surrounding_corners self id }
-    {
-        layout::surrounding(self.parity(), self.rows, self.cols, id)
     }
 }

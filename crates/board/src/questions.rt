@@ -28,46 +28,27 @@ pub fn marker_size_rel(x: f32) -> bool
 pub fn range(spec: CharucoBoardSpec, codes: usize) -> bool
     ensures { result ≡ range_answer spec codes }
 {
-    if 32 < spec.rows {
-        return false;
-    }
-    if 32 < spec.cols {
-        return false;
-    }
-    if 4 < spec.border_bits {
-        return false;
-    }
-    if spec.bits < 1 {
-        return false;
-    }
-    if 8 < spec.bits {
-        return false;
-    }
-    codes <= 1024
+    spec.rows <= 32
+        && spec.cols <= 32
+        && spec.border_bits <= 4
+        && 1 <= spec.bits
+        && spec.bits <= 8
+        && codes <= 1024
 }
 
 // Is the code below 2^(bits²)?
 pub fn code(bits: u8, code: u64) -> bool
-    requires { (1 ≤ bits) × (bits ≤ 8) }
     ensures { result ≡ code_in_range bits code }
 {
-    let top = (bits as u64) * (bits as u64) - 1;
-    code >> top <= 1
+    let area = u32::from(bits) * u32::from(bits);
+    code.checked_shr(area).unwrap_or(0) == 0
 }
 
 // Question 8: is every code?
 pub fn codes(bits: u8, codes: &[u64]) -> bool
-    requires { (1 ≤ bits) × (bits ≤ 8) }
     ensures { result ≡ codes_answer bits codes.now }
 {
-    let mut k = 0;
-    while k < codes.len() {
-        if !code(bits, codes[k]) {
-            return false;
-        }
-        k += 1;
-    }
-    true
+    codes.iter().all(|&each| code(bits, each))
 }
 
 // The questions 8 and 22 of a board that passed those before: `in_range` is the result of 8, and 22 checks the codes, those of the markers

@@ -3,7 +3,7 @@ ghost use Rattle.std.specs.Prelude.{◌≡◌, ◌*◌, ◌<◌, pos};
 ghost use Rattle.board.specs.Numbering.{number_if};
 ghost use Rattle.board.specs.Layout.{parity_of, holds_marker, marker_on};
 
-use super::{Board, layout};
+use super::Board;
 
 // On a square without a marker the result is some number below half of the squares.
 pub fn marker_on(board: Board, i: usize, j: usize) -> usize
@@ -11,5 +11,5 @@ pub fn marker_on(board: Board, i: usize, j: usize) -> usize
     ensures id { marker_on board (pos i) (pos j) ≡ number_if (holds_marker (parity_of board) i j) result }
     ensures small { 2 * result < board.rows * board.cols }
 {
-    layout::id_on(board.rows, board.cols, i, j)
+    board.id_on(i, j)
 }

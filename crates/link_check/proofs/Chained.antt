@@ -4,8 +4,8 @@ use mathlib.Core.Path.{◌≡◌, refl, sym, ap, ap₂, subst, ◌∙◌}
 use mathlib.Core.Logic.{◌⊎◌, inl, inr}
 use mathlib.Core.Bool.{Bool, true, false}
 use mathlib.Core.List.{List}
-use Prim.Native.Nat.{ℕ, zero, suc, ◌+◌, ◌*◌, ◌%◌, ◌≤◌, ◌<◌}
-use native.Mathlib.Nat.{eq-or-lt_of_le, zero-mul}
+use Prim.Native.Nat.{ℕ, ◌+◌, ◌*◌, ◌%◌, ◌≤◌, ◌<◌}
+use native.Mathlib.Nat.{eq-or-lt_of_le}
 use native.Mathlib.Decide.{ℕ_discrete}
 use native.Mathlib.Omega.{arith}
 use lib.ListN.{length, get_or, set, length-set}
@@ -13,6 +13,8 @@ use lib.Seq.{get_or-set_same, get_or-set_other}
 use borrow.Author.Tests.{eqb-true}
 use Rattle.integers.proofs.Distances.{lt_or_le}
 use Rattle.integers.proofs.Tests.{both}
+use Rattle.link_check.specs.declared.chains.By.{By}
+use Rattle.link_check.specs.declared.chains.By.TheVariants.{Marker, MarkerAndCorner}
 use Rattle.link_check.specs.Links.{link_marker, link_corner}
 use Rattle.link_check.specs.Chains.{key_for, key_of, links_to, LeastFrom, ChainedFrom, Chained}
 
@@ -73,51 +75,54 @@ module _ (κ : ℕ → ℕ) (n : ℕ) where
 
 -- ---- following the chain of a marker and a corner
 -- a link that has them has their key
-pub same_key : (weight : ℕ) (links : List ℕ) (m c j : ℕ) → links_to weight links m c j ≡ true → key_of weight links j ≡ key_for weight m c
-same_key zero links m c j e =
-    ap₂ (λ (a z : ℕ). (61 * a + z) % 4096) (eqb-true (link_marker links j) m e) (zero-mul (link_corner links j) ∙ sym (zero-mul c))
-same_key (suc w) links m c j e =
+pub same_key : (by : By) (links : List ℕ) (m c j : ℕ) → links_to by links m c j ≡ true → key_of by links j ≡ key_for by m c
+same_key Marker links m c j e = ap (λ (a : ℕ). 61 * a % 4096) (eqb-true (link_marker links j) m e)
+same_key MarkerAndCorner links m c j e =
     let s = both _ _ e in
-    ap₂ (λ (a b : ℕ). (61 * a + suc w * b) % 4096) (eqb-true (link_marker links j) m s.0) (eqb-true (link_corner links j) c s.1)
+    ap₂ (λ (a b : ℕ). (61 * a + b) % 4096) (eqb-true (link_marker links j) m s.0) (eqb-true (link_corner links j) c s.1)
+
+key_small : (by : By) (m c : ℕ) → key_for by m c < 4096
+key_small Marker m c = omega arith
+key_small MarkerAndCorner m c = omega arith
 
 -- Following has come from i to j: no link between has them, and j has their key or is n.
-pub record Walked (weight : ℕ) (links : List ℕ) (n m c i j : ℕ) : Type 0 where
+pub record Walked (by : By) (links : List ℕ) (n m c i j : ℕ) : Type 0 where
   pub from : i ≤ j
   pub most : j ≤ n
-  pub passed : (l : ℕ) → i ≤ l → l < j → links_to weight links m c l ≡ false
-  pub keyed : j < n → key_of weight links j ≡ key_for weight m c
+  pub passed : (l : ℕ) → i ≤ l → l < j → links_to by links m c l ≡ false
+  pub keyed : j < n → key_of by links j ≡ key_for by m c
 
 never : (b : Bool) → (b ≡ true → ⊥) → b ≡ false
 never true f = absurd (f refl)
 never false f = refl
 
-module _ (weight : ℕ) (links : List ℕ) (n m c : ℕ) where
-  walked : (i j : ℕ) → LeastFrom (key_of weight links) n (key_for weight m c) i j → Walked weight links n m c i j
+module _ (by : By) (links : List ℕ) (n m c : ℕ) where
+  walked : (i j : ℕ) → LeastFrom (key_of by links) n (key_for by m c) i j → Walked by links n m c i j
   walked i j r =
       record {
         from = r.from;
         most = r.most;
         passed =
-            λ l h g. never (links_to weight links m c l) (λ e. r.passed l h g (same_key weight links m c l e));
+            λ l h g. never (links_to by links m c l) (λ e. r.passed l h g (same_key by links m c l e));
         keyed = r.has;
       }
 
   -- to the first link of the key, and from a link of the key to the next
-  module _ (chain : List ℕ) (chained : Chained (key_of weight links) n chain) where
-    pub walked_first : Walked weight links n m c 0 (get_or chain (key_for weight m c) 0)
-    walked_first = walked 0 (get_or chain (key_for weight m c) 0) (chained.heads (key_for weight m c) (omega arith))
+  module _ (chain : List ℕ) (chained : Chained (key_of by links) n chain) where
+    pub walked_first : Walked by links n m c 0 (get_or chain (key_for by m c) 0)
+    walked_first = walked 0 (get_or chain (key_for by m c) 0) (chained.heads (key_for by m c) (key_small by m c))
 
-    pub walked_next : (j : ℕ) → j < n → key_of weight links j ≡ key_for weight m c → Walked weight links n m c (j + 1) (get_or chain (4096 + j) 0)
+    pub walked_next : (j : ℕ) → j < n → key_of by links j ≡ key_for by m c → Walked by links n m c (j + 1) (get_or chain (4096 + j) 0)
     walked_next j h e =
         walked (j + 1) (get_or chain (4096 + j) 0)
-        (subst (λ (b : ℕ). LeastFrom (key_of weight links) n b (j + 1) (get_or chain (4096 + j) 0)) e (chained.tails j (omega arith) h))
+        (subst (λ (b : ℕ). LeastFrom (key_of by links) n b (j + 1) (get_or chain (4096 + j) 0)) e (chained.tails j (omega arith) h))
 
   -- past a link of the key that does not have them
-  pub walked_on : (i j r : ℕ) → Walked weight links n m c i j → links_to weight links m c j ≡ false → Walked weight links n m c (j + 1) r
-      → Walked weight links n m c i r
+  pub walked_on : (i j r : ℕ) → Walked by links n m c i j → links_to by links m c j ≡ false → Walked by links n m c (j + 1) r
+      → Walked by links n m c i r
   walked_on i j r w e v = record { from = omega (arith, w.from, v.from); most = v.most; passed = λ l h g. at l h g (lt_or_le l j); keyed = v.keyed }
     where
-      at : (l : ℕ) → i ≤ l → l < r → (l < j) ⊎ (j ≤ l) → links_to weight links m c l ≡ false
+      at : (l : ℕ) → i ≤ l → l < r → (l < j) ⊎ (j ≤ l) → links_to by links m c l ≡ false
       at l h g (inl b) = w.passed l h b
       at l h g (inr b) =
-          elim (eq-or-lt_of_le {n = j} {m = l} b) [ inl q ↦ ap (links_to weight links m c) (sym q) ∙ e | inr d ↦ v.passed l (omega (arith, d)) g ]
+          elim (eq-or-lt_of_le {n = j} {m = l} b) [ inl q ↦ ap (links_to by links m c) (sym q) ∙ e | inr d ↦ v.passed l (omega (arith, d)) g ]

@@ -18,7 +18,7 @@ use Rattle.link_check.specs.declared.expected.MarkerExpectation.{MarkerExpectati
 use Rattle.link_check.specs.declared.expected.MarkerExpectation.TheVariants.{Unknown, NoFourCorners, Expected}
 use Rattle.integers.specs.Tests.{any_below}
 use Rattle.link_check.specs.Links.{link_marker, link_corner, names, repeated, first, is_reported}
-use Rattle.link_check.specs.Violations.{Violation, has, unless, against, repeat_at, missing_entry, in_mode, of_link, without}
+use Rattle.link_check.specs.Violations.{Violation, four_of, has, unless, against, repeat_at, missing_entry, in_mode, of_link, without}
 use Rattle.link_check.specs.Violations.{own, of_marker, of_first, violations}
 
 -- ---- counting
@@ -41,7 +41,7 @@ at_most_one false v = omega arith
 own-one : (e : MarkerExpectation) (m c : ℕ) → length (against e m c) ≤ 1
 own-one Unknown m c = omega arith
 own-one NoFourCorners m c = omega arith
-own-one (Expected a b d e) m c = at_most_one (has (a ∷ b ∷ d ∷ e ∷ []) c) _
+own-one (Expected s) m c = at_most_one (has (four_of s) c) _
 
 -- a link has at most one violation of its own
 pub own-few : (links : List ℕ) (expected : ℕ → MarkerExpectation) (n : ℕ) → length (up_to (own links expected) n) ≤ n
@@ -77,8 +77,8 @@ module _ (links : List ℕ) (n : ℕ) (mode : LinkCheckMode) (expected : ℕ →
   of_marker_lem : (m : ℕ) (e : MarkerExpectation) → length (of_marker links n mode m e) ≤ count_passing (names links m) n + 1
   of_marker_lem m Unknown = omega arith
   of_marker_lem m NoFourCorners = omega arith
-  of_marker_lem m (Expected a b c d) =
-      let four = a ∷ b ∷ c ∷ d ∷ [] in
+  of_marker_lem m (Expected s) =
+      let four = four_of s in
       let missing = without (is_reported links n m) four in
       omega (
         arith,

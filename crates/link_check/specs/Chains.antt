@@ -1,19 +1,22 @@
 -- Hash chains over the links, with keys below 4,096, in one list: index b has the first link with key b, index 4,096 + k the next link after k
 -- with k's key.
-use Rattle.std.specs.Prelude.{ℕ, zero, suc, ◌+◌, ◌*◌, ◌%◌, ◌≤◌, ◌<◌, ◌≡◌, Bool, List, length, get_or}
+use Rattle.std.specs.Prelude.{ℕ, ◌+◌, ◌*◌, ◌%◌, ◌≤◌, ◌<◌, ◌≡◌, Bool, List, length, get_or}
+use Rattle.link_check.specs.declared.chains.By.{By}
+use Rattle.link_check.specs.declared.chains.By.TheVariants.{Marker, MarkerAndCorner}
 use Rattle.link_check.specs.Links.{link_marker, link_corner, names, reports}
 
--- the key (hash) of a marker and a corner: with weight 0 of the marker alone
-abbrev pub key_for : ℕ → ℕ → ℕ → ℕ
-key_for weight m c = (61 * m + weight * c) % 4096
+-- the key (hash) of a marker, or of a marker and a corner
+abbrev pub key_for : By → ℕ → ℕ → ℕ
+key_for Marker m c = 61 * m % 4096
+key_for MarkerAndCorner m c = (61 * m + c) % 4096
 
-abbrev pub key_of : ℕ → List ℕ → ℕ → ℕ
-key_of weight links k = key_for weight (link_marker links k) (link_corner links k)
+abbrev pub key_of : By → List ℕ → ℕ → ℕ
+key_of by links k = key_for by (link_marker links k) (link_corner links k)
 
--- link j has the marker and, unless the weight is 0, the corner
-abbrev pub links_to : ℕ → List ℕ → ℕ → ℕ → ℕ → Bool
-links_to zero links m c j = names links m j
-links_to (suc weight) links m c j = reports links m c j
+-- link j has the marker and, unless it is ignored, the corner
+abbrev pub links_to : By → List ℕ → ℕ → ℕ → ℕ → Bool
+links_to Marker links m c j = names links m j
+links_to MarkerAndCorner links m c j = reports links m c j
 
 -- r is the first of the links from i to n − 1 that has key b, or n
 pub record LeastFrom (κ : ℕ → ℕ) (n b i r : ℕ) : Type 0 where

@@ -1,6 +1,6 @@
 // The corners that the board expects for a marker.
 ghost use Rattle.std.specs.Prelude.{◌≡◌};
-ghost use Rattle.link_check.specs.Violations.{expectation, of_corners, four_of};
+ghost use Rattle.link_check.specs.Violations.{expectation, four_of};
 
 use board::{Board, Surrounding};
 
@@ -17,23 +17,15 @@ pub struct MarkerCorners {
     pub corners: Surrounding,
 }
 
-fn of_corners(around: Option<Surrounding>) -> MarkerExpectation
-    ensures { result ≡ of_corners around }
-{
-    match around {
-        Some(corners) => MarkerExpectation::Expected(corners),
-        None => MarkerExpectation::NoFourCorners,
-    }
-}
-
 pub fn expectation(board: Board, marker: u32) -> MarkerExpectation
     ensures { result ≡ expectation board marker }
 {
-    let square = board.marker_position(marker);
-    let around = board.marker_surrounding_charuco_corners(marker);
-    match square {
+    match board.marker_position(marker) {
         None => MarkerExpectation::Unknown,
-        Some(_) => of_corners(around),
+        Some(_) => match board.marker_surrounding_charuco_corners(marker) {
+            Some(corners) => MarkerExpectation::Expected(corners),
+            None => MarkerExpectation::NoFourCorners,
+        },
     }
 }
 

@@ -8,6 +8,7 @@ ghost use Rattle.link_check.specs.Links.{link_count};
 ghost use Rattle.link_check.specs.Violations.{kind_number, words_of_violations};
 ghost use Rattle.link_check.specs.Entry.{violations_on, check_links, check_links_list};
 
+mod chained_links;
 mod chains;
 mod expected;
 mod missing;
@@ -17,6 +18,8 @@ mod repeats;
 mod words;
 
 use board::{Board, CharucoBoardSpec};
+use chained_links::ChainedLinks;
+use chains::By;
 use passes::Standard;
 use refusal::Refusal;
 
@@ -31,24 +34,18 @@ pub enum LinkCheckMode {
 
 #[derive(Clone, Copy)]
 pub enum LinkViolationKind {
-    UnknownMarker,
-    MarkerHasNoFourCorners,
-    CornerNotInNeighborhood,
-    DuplicateCorner,
-    MissingCorners,
+    UnknownMarker = 1,
+    MarkerHasNoFourCorners = 2,
+    CornerNotInNeighborhood = 3,
+    DuplicateCorner = 4,
+    MissingCorners = 5,
 }
 
 impl LinkViolationKind {
     pub fn number(self) -> u32
         ensures { result ≡ kind_number self }
     {
-        match self {
-            LinkViolationKind::UnknownMarker => 1,
-            LinkViolationKind::MarkerHasNoFourCorners => 2,
-            LinkViolationKind::CornerNotInNeighborhood => 3,
-            LinkViolationKind::DuplicateCorner => 4,
-            LinkViolationKind::MissingCorners => 5,
-        }
+        self as u32
     }
 }
 
@@ -63,20 +60,18 @@ fn check(
     requires { (n ≡ link_count links.now) × (n ≤ 4096) × (36 * n ≤ length violations.old) }
     ensures { Put violations.old violations.new 0 result (words_of_violations (violations_on board mode links.now)) }
 {
-    let mut marker_chain: [u16; 8192] = [0; 8192];
-    let mut chain: [u16; 8192] = [0; 8192];
-    chains::fill_chain(links, n, 0, &mut marker_chain);
-    chains::fill_chain(links, n, 1, &mut chain);
-    let end = passes::put_own_entries(board, links, n, violations);
-    passes::put_marker_entries(
-        Standard { board, mode },
-        links,
-        n,
-        &marker_chain,
-        &chain,
-        violations,
-        end,
-    )
+    let mut by_marker = [0; 8192];
+    let mut by_corner = [0; 8192];
+    chains::fill_chain(links, n, By::Marker, &mut by_marker);
+    chains::fill_chain(links, n, By::MarkerAndCorner, &mut by_corner);
+    let chained = ChainedLinks {
+        words: links,
+        count: n,
+        by_marker: &by_marker,
+        by_corner: &by_corner,
+    };
+    let end = passes::put_own_entries(board, chained, violations);
+    passes::put_marker_entries(Standard { board, mode }, chained, violations, end)
 }
 
 // Writes the violations of links on a board, twelve words each, to the start of the output array, and returns their number; on a refusal the array is

@@ -11,7 +11,7 @@ use Rattle.link_check.specs.Violations.{Violation, expectation, own, of_first, v
 use Rattle.link_check.proofs.Enough.{enough}
 use Rattle.link_check.proofs.Writing.{words-length}
 use Rattle.link_check.proofs.check.Goals as goal
-use Rattle.link_check.proofs.check.Goals.{After-put_own_entries-end, Start}
+use Rattle.link_check.proofs.check.Goals.{Start}
 
 module _ (s : Start) where
   abbrev expected : ℕ → MarkerExpectation
@@ -34,18 +34,12 @@ module _ (s : Start) where
         length-append (words_of_violations owns) (words_of_violations grouped),
       )
 
-module _ (c : After-put_own_entries-end) where
-  long : length c.put_own_entries-end.new.violations ≡ length c.args.violations.now
-  long =
-      let p = c.put_own_entries-end.ensures in
-      put_length p (omega arith) (omega (arith, p.end, room c.before.before.before.before.before.before.before.before.before))
-
 pub put_marker_entries-requires : goal.put_marker_entries-requires
 put_marker_entries-requires c =
-    record {
-      n_bound = (c.requires.1, c.fill_chain.ensures, c.fill_chain-2.ensures);
-      n_in_bounds = omega (arith, long (goal.at.put_marker_entries-requires c).After-put_own_entries-end, c.put_own_entries-end.ensures.end, room (goal.at.put_marker_entries-requires c).Start);
-    }
+    let s = (goal.at.put_marker_entries-requires c).Start in
+    let p = c.put_own_entries-end.ensures in
+    let long = put_length p (omega arith) (omega (arith, p.end, room s)) in
+    omega (arith, long, p.end, room s)
 
 pub returns : goal.returns
 returns c =

@@ -1,10 +1,12 @@
--- `board::Board::holds_marker` meets its contract. Assumes nothing.
-use mathlib.Core.Path.{ap, ◌∙◌}
-use Prim.Native.Nat.{ℕ}
-use Rattle.board.specs.Layout.{holds_marker}
+-- `board::Board::holds_marker` meets its contract: a sum has the parity of the sum of the parities. Assumes nothing.
+use mathlib.Core.Path.{◌≡◌, ap₂, ◌∙◌}
+use Prim.Native.Nat.{ℕ, ◌+◌, ◌%◌}
+use native.Mathlib.Omega.{arith}
+use lib.Dec.{eqb}
 use Rattle.board.proofs.Board.holds_marker.Goals as goal
 
 pub returns : goal.returns
 returns c =
     let x = c.args in
-    c.holds_marker.ensures ∙ ap (λ (p : ℕ). holds_marker p x.i x.j) c.parity.ensures
+    let e : (x.i % 2 + x.j % 2) % 2 ≡ (x.i + x.j) % 2 = omega arith in
+    ap₂ eqb e c.parity.ensures

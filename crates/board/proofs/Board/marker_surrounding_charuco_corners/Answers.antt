@@ -1,15 +1,18 @@
 -- `board::Board::marker_surrounding_charuco_corners` meets its contract. Assumes nothing.
-use mathlib.Core.Path.{ap, ◌∙◌}
-use Prim.Native.Nat.{ℕ}
-use native.Mathlib.Omega.{arith}
-use Rattle.board.specs.Layout.{four_corners}
-use Rattle.board.proofs.Markers.{parity_bit}
+use mathlib.Core.Path.{sym, ap, ◌∙◌}
+use Rattle.board.specs.Layout.{parity_of, holds_marker, around}
+use Rattle.board.proofs.Places.{Has, place-has-number}
 use Rattle.board.proofs.Board.marker_surrounding_charuco_corners.Goals as goal
 
-pub surrounding-requires : goal.surrounding-requires
-surrounding-requires c = omega (arith, c.parity.ensures, parity_bit c.args.self)
+pub around-requires : goal.around-requires
+around-requires c =
+    let b = c.args.self in
+    let p = c.in_ok-place.place in
+    let has : Has (holds_marker (parity_of b)) b.cols b.rows p.i p.j c.args.id =
+    place-has-number (holds_marker (parity_of b)) b.cols b.rows c.args.id p.i p.j (sym c.marker_position.ensures ∙ c.in_ok-place.was) in
+    (has.column, has.row)
 
 pub returns : goal.returns
 returns c =
-    let x = c.args in
-    c.surrounding.ensures ∙ ap (λ (p : ℕ). four_corners p x.self.rows x.self.cols x.id) c.parity.ensures
+    let b = c.args.self in
+    c.around.ensures ∙ ap (around b.rows b.cols) (sym c.in_ok-place.was ∙ c.marker_position.ensures)

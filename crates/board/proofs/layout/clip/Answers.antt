@@ -1,57 +1,32 @@
--- `board::layout::clip` meets its contract: the tests on the bits are the tests on the number. Assumes nothing.
-use mathlib.Core.Path.{◌≡◌, refl}
-use mathlib.Core.Bool.{true, false}
-use Prim.Native.Nat.{ℕ, ◌≤◌, ◌<◌}
+-- `board::layout::clip` meets its contract: a number that is no `u32` is off the board. Assumes nothing.
+use mathlib.Core.Path.{◌≡◌, ap, ◌∙◌}
+use Prim.Native.Nat.{ℕ, min, ◌<◌}
 use native.Mathlib.Omega.{arith}
+use lib.Dec.{ltb}
 use lib.IntN.{ℤ, pos, negsuc, nat_abs}
-use lib.Signed.{lt_z, non_neg}
-use lib.Dec.{T}
+use mathlib.Core.Bool.{cond}
 use mir.Syntax.{w32}
-use mir.Val.{Fits, SFits}
+use mir.Val.{SFits}
 use mir.ValLaws.{to_z-of_z}
-use borrow.Author.Tests.{lt-ltb, le-ltb, ltb-true}
+use Rattle.std.specs.Prelude.{Result, Ok, Err}
+use Rattle.std.specs.Result.{OkIff, result_unwrap_or}
+use Rattle.std.specs.Int.{FitsUnsignedBits}
+use Rattle.std.proofs.lemmas.Bool.Decides.{nat_tests}
 use Rattle.board.specs.Numbering.{clipped}
 use Rattle.board.proofs.layout.clip.Goals as goal
 
-below : (n : ℕ) (x : ℤ) → lt_z x (pos 0) ≡ true → n ≡ clipped n x
+lesser : (k n : ℕ) → min k n ≡ cond (ltb k n) k n
+lesser k n = grind (arith, nat_tests)
+
+clips : {E : Type 0} (n : ℕ) (x : ℤ) (r : Result ℕ E) → SFits w32 x → OkIff r (FitsUnsignedBits 32 x) (nat_abs x)
+    → min (result_unwrap_or r n) n ≡ clipped n x
 unfolding clipped
-below n (pos k) h = absurd (omega (arith, ltb-true k 0 h))
-below n (negsuc k) h = refl
-
--- a nonnegative number is its absolute value
-from_zero : (x : ℤ) → SFits w32 x → lt_z x (pos 0) ≡ false → T (non_neg x) × Fits w32 (nat_abs x)
-from_zero (pos k) f h = (tt, record { fits = omega (arith, f.sfits) })
-from_zero (negsuc k) f h = let z : ◌≡◌ {A = ℕ} 0 1 = cc in absurd (omega arith)
-
-within : (n : ℕ) (x : ℤ) → lt_z x (pos 0) ≡ false → nat_abs x < n → nat_abs x ≡ clipped n x
-unfolding clipped
-within n (pos k) h l = rw (lt-ltb k n l)
-within n (negsuc k) h l = let z : ◌≡◌ {A = ℕ} 0 1 = cc in absurd (omega arith)
-
-beyond : (n : ℕ) (x : ℤ) → lt_z x (pos 0) ≡ false → n ≤ nat_abs x → n ≡ clipped n x
-unfolding clipped
-beyond n (pos k) h l = rw (le-ltb k n l)
-beyond n (negsuc k) h l = refl
-
-pub returns-then-x-lt0 : goal.returns-then-x-lt0
-returns-then-x-lt0 c =
-    let x = c.args.x in
-    below c.args.limit x (rw (to_z-of_z w32 x c.ranges.x) at c.if-x-lt0.true)
-
-pub overflow_cast-k : goal.overflow_cast-k
-overflow_cast-k c =
-    let x = c.args.x in
-    let back = to_z-of_z w32 x c.ranges.x in
-    rw back (from_zero x c.ranges.x (rw back at c.if-x-lt0.false))
-
-pub returns-then-k-last : goal.returns-then-k-last
-returns-then-k-last c =
-    let x = c.args.x in
-    let back = to_z-of_z w32 x c.ranges.x in
-    rw back (within c.args.limit x (rw back at c.if-x-lt0.false) (rw back at c.if-k-last.true))
+clips n (pos k) (Ok y) f h = ap (λ (a : ℕ). min a n) h.1 ∙ lesser k n
+clips n (pos k) (Err e) f h = absurd (h (omega (arith, f.sfits)))
+clips n (negsuc k) (Ok y) f h = absurd h.0
+clips n (negsuc k) (Err e) f h = omega arith
 
 pub returns : goal.returns
 returns c =
-    let x = c.args.x in
-    let back = to_z-of_z w32 x c.ranges.x in
-    beyond c.args.limit x (rw back at c.if-x-lt0.false) (rw back at c.if-k-last.false)
+    let back = to_z-of_z w32 c.args.x c.ranges.x in
+    c.min.ensures ∙ rw (c.unwrap_or.ensures, c.from-last.ensures) (clips c.args.limit c.args.x c.try_from.result c.ranges.x (rw back at c.try_from.ensures))

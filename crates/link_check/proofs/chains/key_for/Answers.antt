@@ -1,17 +1,12 @@
--- `link_check::chains::key_for` meets its contract: with a weight of at most 1 the sum fits. Assumes nothing.
-use Prim.Native.Nat.{◌-◌, ◌*◌, ◌^◌, ◌≤◌, ◌<◌}
-use native.Mathlib.Nat.{mul-le-mul}
+-- `link_check::chains::key_for` meets its contract. Assumes nothing.
+use mathlib.Core.Path.{ap}
+use Prim.Native.Nat.{ℕ, ◌%◌}
 use native.Mathlib.Omega.{arith}
 use Rattle.link_check.proofs.chains.key_for.Goals as goal
-use Rattle.link_check.proofs.chains.key_for.Goals.{Start}
+use Rattle.link_check.proofs.chains.key_for.Goals.{in-Marker, in-MarkerAndCorner}
 
-product : (s : Start) → s.args.weight * s.args.corner < 2 ^ 32
-product s =
-    let corner : s.args.corner ≤ 2 ^ 32 - 1 = omega (arith, s.ranges.corner.fits) in
-    omega (arith, mul-le-mul {n₂ = 1} {m₂ = 2 ^ 32 - 1} s.requires corner)
-
-pub overflow_mul-result-2 : goal.overflow_mul-result-2
-overflow_mul-result-2 c = record { fits = omega (arith, product c) }
-
-pub overflow_add-result : goal.overflow_add-result
-overflow_add-result c = record { fits = omega (arith, product c, c.ranges.marker.fits) }
+pub returns : goal.returns
+returns c =
+    (elim c.match-by.branch
+    [ in-Marker w ↦ rw w.in-Marker.is (ap (λ (n : ℕ). n % 4096) w.sum-is)
+    | in-MarkerAndCorner w ↦ rw w.in-MarkerAndCorner.is (ap (λ (n : ℕ). n % 4096) w.sum-is) ], omega arith)

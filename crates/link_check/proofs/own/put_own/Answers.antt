@@ -1,14 +1,10 @@
 -- `link_check::own::put_own` meets its contract: by what is expected of the marker. Assumes nothing.
-use mathlib.Core.Path.{sym, ◌∙◌}
+use mathlib.Core.Path.{◌≡◌, sym, ◌∙◌}
 use mathlib.Core.List.{flat_map}
 use Rattle.lent_list.proofs.Front.{nothing_put}
+use Rattle.link_check.specs.Violations.{four_of, has}
 use Rattle.link_check.proofs.own.put_own.Goals as goal
-
-pub returns-then-is_one_of : goal.returns-then-is_one_of
-unfolding flat_map
-returns-then-is_one_of c =
-    let x = c.args in
-    rw (sym c.expectation-expected.ensures ∙ c.in-Expected.is, sym c.is_one_of.ensures ∙ c.if-is_one_of.true) (nothing_put x.violations.now x.at)
+use Rattle.link_check.proofs.own.put_own.Goals.{After-contains}
 
 pub returns-in-Unknown : goal.returns-in-Unknown
 unfolding flat_map
@@ -20,7 +16,18 @@ unfolding flat_map
 returns-in-NoFourCorners c =
     rw (sym c.expectation-expected.ensures ∙ c.in-NoFourCorners.is) c.put_of_link-in-NoFourCorners.ensures
 
-pub returns-else-is_one_of : goal.returns-else-is_one_of
+has_it : (c : After-contains) → c.contains.result ≡ has (four_of c.in-Expected.corners) c.args.corner
+has_it c = rw c.four-four.ensures at c.contains.ensures.value
+
+pub returns-then-contains : goal.returns-then-contains
 unfolding flat_map
-returns-else-is_one_of c =
-    rw (sym c.expectation-expected.ensures ∙ c.in-Expected.is, sym c.is_one_of.ensures ∙ c.if-is_one_of.false) c.put_of_link-in-Expected.ensures
+returns-then-contains c =
+    let x = c.args in
+    rw (sym c.expectation-expected.ensures ∙ c.in-Expected.is, sym (has_it (goal.at.returns-then-contains c).After-contains) ∙ c.if-contains.true)
+    (nothing_put x.violations.now x.at)
+
+pub returns-else-contains : goal.returns-else-contains
+unfolding flat_map
+returns-else-contains c =
+    rw (sym c.expectation-expected.ensures ∙ c.in-Expected.is, sym (has_it (goal.at.returns-else-contains c).After-contains) ∙ c.if-contains.false)
+    (rw c.four-four.ensures at c.put_of_link-in-Expected.ensures)

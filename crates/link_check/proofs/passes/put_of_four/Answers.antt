@@ -6,42 +6,31 @@ use native.Mathlib.Omega.{arith}
 use lib.ListN.{length, length-append}
 use Rattle.lent_list.specs.Front.{up_to}
 use Rattle.lent_list.proofs.Front.{put_as, put_more, put_length, flat_map_append}
-use Rattle.link_check.specs.Violations.{Violation, repeat_at, missing_of, violation_words, words_of_violations}
-use Rattle.link_check.specs.Missing.{four_of}
+use Rattle.link_check.specs.Violations.{four_of, Violation, repeat_at, missing_of, violation_words, words_of_violations}
 use Rattle.link_check.proofs.passes.put_of_four.Goals as goal
-use Rattle.link_check.proofs.passes.put_of_four.Goals.{After-put_repeats-end, Start}
+use Rattle.link_check.proofs.passes.put_of_four.Goals.{Start}
 
 module _ (s : Start) where
   abbrev repeats : List Violation
-  repeats = up_to (repeat_at s.args.links.now s.args.expected.marker (four_of s.args.expected)) s.args.n
+  repeats = up_to (repeat_at s.args.links.words.now s.args.expected.marker (four_of s.args.expected.corners)) s.args.links.count
 
   abbrev missing : List Violation
-  missing = missing_of s.args.links.now s.args.n s.args.mode s.args.expected.marker (four_of s.args.expected)
+  missing = missing_of s.args.links.words.now s.args.links.count s.args.mode s.args.expected.marker (four_of s.args.expected.corners)
 
   room : s.args.at + (length (words_of_violations repeats) + length (words_of_violations missing)) ≤ length s.args.violations.now
   room =
       omega
-      (arith, s.requires.expected_in_bounds, ap length (flat_map_append violation_words repeats missing), length-append (words_of_violations repeats) (words_of_violations missing))
+      (arith, s.requires, ap length (flat_map_append violation_words repeats missing), length-append (words_of_violations repeats) (words_of_violations missing))
 
 pub put_repeats-end-requires : goal.put_repeats-end-requires
-put_repeats-end-requires c =
-    record {
-      n_bound = c.requires.n_bound;
-      n_in_bounds = omega (arith, room (goal.at.put_repeats-end-requires c).Start);
-    }
-
-module _ (c : After-put_repeats-end) where
-  long : length c.put_repeats-end.new.violations ≡ length c.args.violations.now
-  long =
-      let p = c.put_repeats-end.ensures in
-      put_length p (omega (arith, room c.before.before.before.before.before)) (omega (arith, p.end, room c.before.before.before.before.before))
+put_repeats-end-requires c = omega (arith, room (goal.at.put_repeats-end-requires c).Start)
 
 pub put_missing-requires : goal.put_missing-requires
 put_missing-requires c =
-    record {
-      n_bound = (c.requires.n_bound.0, c.requires.n_bound.2);
-      expected_in_bounds = omega (arith, long (goal.at.put_missing-requires c).After-put_repeats-end, c.put_repeats-end.ensures.end, room (goal.at.put_missing-requires c).Start);
-    }
+    let s = (goal.at.put_missing-requires c).Start in
+    let p = c.put_repeats-end.ensures in
+    let long = put_length p (omega (arith, room s)) (omega (arith, p.end, room s)) in
+    omega (arith, long, p.end, room s)
 
 pub returns : goal.returns
 returns c =

@@ -2,7 +2,7 @@
 -- Assumes nothing.
 use mathlib.Core.Path.{◌≡◌, ap₂, subst}
 use mathlib.Core.List.{List}
-use Prim.Native.Nat.{ℕ, ◌+◌, ◌*◌, ◌≤◌, ◌<◌}
+use Prim.Native.Nat.{ℕ, ◌+◌, ◌*◌, ◌≤◌}
 use native.Mathlib.Omega.{arith}
 use lib.ListN.{length}
 use Rattle.lent_list.specs.Front.{up_to}
@@ -13,72 +13,53 @@ use Rattle.link_check.specs.Violations.{Violation, expectation, against, own, vi
 use Rattle.link_check.proofs.Enough.{own-few}
 use Rattle.link_check.proofs.Writing.{words-length}
 use Rattle.link_check.proofs.passes.put_own_entries.Goals as goal
-use Rattle.link_check.proofs.passes.put_own_entries.Goals.{In-loop-k, Start}
+use Rattle.link_check.proofs.passes.put_own_entries.Goals.{Start}
 
 module _ (s : Start) where
   abbrev expected : ℕ → MarkerExpectation
   expected = expectation s.args.board
 
   abbrev entry : ℕ → List Violation
-  entry = own s.args.links.now expected
+  entry = own s.args.links.words.now expected
 
   small : (k : ℕ) → length (words_of_violations (up_to entry k)) ≤ 12 * k
-  small k = omega (arith, words-length (up_to entry k), own-few s.args.links.now expected k)
+  small k = omega (arith, words-length (up_to entry k), own-few s.args.links.words.now expected k)
 
-  room : 0 + length (words_of_violations (up_to entry s.args.n)) ≤ length s.args.violations.now
-  room = omega (arith, small s.args.n, s.requires.1)
+  room : 0 + length (words_of_violations (up_to entry s.args.links.count)) ≤ length s.args.violations.now
+  room = omega (arith, small s.args.links.count)
 
 pub loop-k-init : goal.loop-k-init
 loop-k-init c =
-    (omega arith, none_to violation_words (entry (goal.at.loop-k-init c).Start) c.args.violations.now 0 c.args.n (room (goal.at.loop-k-init c).Start))
+    let s = (goal.at.loop-k-init c).Start in
+    none_to violation_words (entry s) c.args.violations.now 0 c.args.links.count (room s)
 
-module _ (c : In-loop-k) where
-  abbrev start : Start
-  start = c.before.before.before.before.before
-
-  abbrev k : ℕ
-  k = c.loop-k.k
-
-  inside : k < c.args.n
-  inside = c.loop-k-test.true
-
-  long : length c.loop-k.violations ≡ length c.args.violations.now
-  long =
-      to-length violation_words (entry c.before.before.before.before.before) c.args.violations.now 0 c.args.n (room c.before.before.before.before.before) k c.loop-k.invariant.1
-      c.loop-k.invariant.0
-
-  fits : c.loop-k.end + 12 ≤ length c.loop-k.violations
-  fits = omega (arith, long, c.loop-k.invariant.1.end, small c.before.before.before.before.before k, inside, c.requires.1)
+pub put_own-end-requires : goal.put_own-end-requires
+put_own-end-requires c =
+    let s = (goal.at.put_own-end-requires c).Start in
+    let l = c.loop-k in
+    omega (
+      arith,
+      to-length violation_words (entry s) c.args.violations.now 0 c.args.links.count (room s) l.k l.invariant (omega arith),
+      l.invariant.end,
+      small s l.k,
+    )
 
 pub loop-k-preserved : goal.loop-k-preserved
 loop-k-preserved c =
-    let same = ap₂ (λ (m d : ℕ). words_of_violations (against (expected (goal.at.loop-k-preserved c).Start m) m d)) c.marker_of-marker.ensures c.corner_of.ensures in (
-      omega (arith, inside (goal.at.loop-k-preserved c).In-loop-k),
-      to_more violation_words (entry (goal.at.loop-k-preserved c).Start) c.args.violations.now 0 c.args.n (room (goal.at.loop-k-preserved c).Start) c.loop-k.k c.loop-k.invariant.1 (put_as same c.put_own-end.ensures),
-    )
+    let s = (goal.at.loop-k-preserved c).Start in
+    let l = c.loop-k in
+    let same = ap₂ (λ (m d : ℕ). words_of_violations (against (expected s m) m d)) c.marker_of-marker.ensures c.corner_of.ensures in
+    to_more violation_words (entry s) c.args.violations.now 0 c.args.links.count (room s) l.k l.invariant (put_as same c.put_own-end.ensures)
 
 pub shape_of-violations : goal.shape_of-violations
 shape_of-violations c =
+    let s = (goal.at.shape_of-violations c).Start in
     let l = c.loop-k in
-    to-length violation_words (entry (goal.at.shape_of-violations c).Start) c.args.violations.now 0 c.args.n (room (goal.at.shape_of-violations c).Start) l.k l.invariant.1 l.invariant.0
+    to-length violation_words (entry s) c.args.violations.now 0 c.args.links.count (room s) l.k l.invariant (omega arith)
 
 pub returns : goal.returns
 returns c =
+    let s = (goal.at.returns c).Start in
     let l = c.loop-k in
-    let all : l.k ≡ c.args.n = omega (arith, c.loop-k-test.false, l.invariant.0) in
-    subst (PutTo violation_words (entry (goal.at.returns c).Start) c.args.violations.now 0 c.args.n (room (goal.at.returns c).Start) l.violations l.end) all l.invariant.1
-
-pub marker_of-marker-requires : goal.marker_of-marker-requires
-marker_of-marker-requires c = omega (arith, inside c, c.requires.0)
-
-pub corner_of-requires : goal.corner_of-requires
-corner_of-requires c = omega (arith, inside (goal.at.corner_of-requires c).In-loop-k, c.requires.0)
-
-pub put_own-end-requires : goal.put_own-end-requires
-put_own-end-requires c = fits (goal.at.put_own-end-requires c).In-loop-k
-
-pub overflow_add-k : goal.overflow_add-k
-overflow_add-k c = record { fits = omega (arith, inside (goal.at.overflow_add-k c).In-loop-k, c.requires.0) }
-
-pub loop-k-smaller : goal.loop-k-smaller
-loop-k-smaller c = omega (arith, inside (goal.at.loop-k-smaller c).In-loop-k)
+    let all : l.k ≡ c.args.links.count = omega arith in
+    subst (PutTo violation_words (entry s) c.args.violations.now 0 c.args.links.count (room s) l.violations l.end) all l.invariant

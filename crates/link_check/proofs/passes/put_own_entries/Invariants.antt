@@ -1,13 +1,9 @@
 -- `link_check::passes::put_own_entries` meets its contract. The loop's invariant: the own violations of the first k links are written.
 -- Assumes nothing.
-use Prim.Native.Nat.{◌-◌, ◌≤◌}
 use Rattle.lent_list.specs.Front.{up_to, Put}
 use Rattle.link_check.specs.Violations.{expectation, own, words_of_violations}
 use Rattle.link_check.proofs.passes.put_own_entries.Given as goal
 
 abbrev pub invariant-loop-k : goal.invariant-loop-k
 invariant-loop-k l =
-    (l.k ≤ l.n) × Put l.initial.violations l.violations 0 l.end (words_of_violations (up_to (own l.links (expectation l.board)) l.k))
-
-abbrev pub decreases-loop-k : goal.decreases-loop-k
-decreases-loop-k l = l.n - l.k
+    Put l.initial.violations l.violations 0 l.end (words_of_violations (up_to (own l.links.words.now (expectation l.board)) l.k))

@@ -7,113 +7,76 @@ use native.Mathlib.Omega.{arith}
 use lib.ListN.{get_or}
 use Rattle.lent_list.specs.Front.{Put}
 use Rattle.lent_list.proofs.Loops.{PutTo, none_to, to-length, to_room, to_more}
-use Rattle.link_check.specs.Violations.{Violation, repeat_at, violation_words, words_of_violations}
-use Rattle.link_check.specs.Missing.{four_of}
+use Rattle.link_check.specs.declared.chains.By.TheVariants.{Marker}
+use Rattle.link_check.specs.Violations.{Violation, four_of, repeat_at, violation_words, words_of_violations}
 use Rattle.link_check.proofs.Chained.{Walked, walked_first, walked_next}
 use Rattle.link_check.proofs.Passing.{passed_over}
 use Rattle.link_check.proofs.repeats.put_repeats.Goals as goal
-use Rattle.link_check.proofs.repeats.put_repeats.Goals.{After-key_for, After-loop-k, In-loop-k, Start}
+use Rattle.link_check.proofs.repeats.put_repeats.Goals.{After-key_for, In-loop-k, Start}
 
 module _ (s : Start) where
-  abbrev entry : ℕ → List Violation
-  entry = repeat_at s.args.links.now s.args.expected.marker (four_of s.args.expected)
+  abbrev four : List ℕ
+  four = four_of s.args.expected.corners
 
-  abbrev Walk : ℕ → ℕ → Type 0
-  Walk i j = Walked 0 s.args.links.now s.args.n s.args.expected.marker 0 i j
+  abbrev entry : ℕ → List Violation
+  entry = repeat_at s.args.links.words.now s.args.expected.marker four
 
   abbrev Wrote : List ℕ → ℕ → ℕ → Type 0
-  Wrote = PutTo violation_words entry s.args.violations.now s.args.at s.args.n s.requires.n_in_bounds
+  Wrote = PutTo violation_words entry s.args.violations.now s.args.at s.args.links.count s.requires
 
-  over : (violations : List ℕ) (end i j : ℕ) → Walk i j → Wrote violations end i → Wrote violations end j
+  over : (violations : List ℕ) (end i j : ℕ) → Walked Marker s.args.links.words.now s.args.links.count s.args.expected.marker 0 i j
+      → Wrote violations end i → Wrote violations end j
   over violations end i j w p =
       subst (λ (vs : List Violation). Put s.args.violations.now violations s.args.at end (words_of_violations vs))
-      (sym (passed_over s.args.links.now s.args.expected.marker (four_of s.args.expected) s.args.n i j w)) p
+      (sym (passed_over s.args.links.words.now s.args.expected.marker four s.args.links.count i j w)) p
 
-module _ (c : After-key_for) where
-  abbrev s : Start
-  s = c.before.before.before.before
+begun : (c : After-key_for) → let a = c.args in
+    Walked Marker a.links.words.now a.links.count a.expected.marker 0 0 (get_or a.links.by_marker.now c.key_for.result 0)
+begun c =
+    let a = c.args in
+    let chain = a.links.by_marker.now in
+    subst (λ (b : ℕ). Walked Marker a.links.words.now a.links.count a.expected.marker 0 0 (get_or chain b 0)) (sym c.key_for.ensures.0)
+    (walked_first Marker a.links.words.now a.links.count a.expected.marker 0 chain a.links.marker_chained)
 
-  begun : Walk c.before.before.before.before 0 (get_or c.args.marker_chain.now c.key_for.result 0)
-  begun =
-      let a = c.args in
-      subst (λ (b : ℕ). Walk c.before.before.before.before 0 (get_or a.marker_chain.now b 0)) (sym c.key_for.ensures.0)
-      (walked_first 0 a.links.now a.n a.expected.marker 0 a.marker_chain.now c.requires.n_bound.1)
+next : (c : In-loop-k) → let a = c.args in let k = c.loop-k.k in
+    Walked Marker a.links.words.now a.links.count a.expected.marker 0 (k + 1) (get_or a.links.by_marker.now (4096 + k) 0)
+next c =
+    let a = c.args in
+    let inside : c.loop-k.k < a.links.count = omega arith in
+    walked_next Marker a.links.words.now a.links.count a.expected.marker 0 a.links.by_marker.now a.links.marker_chained c.loop-k.k inside
+    (c.loop-k.invariant.1 inside)
 
 pub loop-k-init : goal.loop-k-init
 loop-k-init c =
+    let s = (goal.at.loop-k-init c).Start in
     let w = begun (goal.at.loop-k-init c).After-key_for in
     let x = c.args in
-    (w.most, w.keyed, over (goal.at.loop-k-init c).Start x.violations.now x.at 0 _ w (none_to violation_words (entry (goal.at.loop-k-init c).Start) x.violations.now x.at x.n c.requires.n_in_bounds))
-
-module _ (c : In-loop-k) where
-  abbrev start : Start
-  start = c.before.before.before.before.before.before.before.before
-
-  abbrev k : ℕ
-  k = c.loop-k.k
-
-  inside : k < c.args.n
-  inside = c.loop-k-test.true
-
-  below : k < 4096
-  below = omega (arith, inside, c.requires.n_bound.0)
-
-  next : Walk c.before.before.before.before.before.before.before.before (k + 1) (get_or c.args.marker_chain.now (4096 + k) 0)
-  next =
-      let a = c.args in
-      walked_next 0 a.links.now a.n a.expected.marker 0 a.marker_chain.now c.requires.n_bound.1 k inside
-      (c.loop-k.invariant.1 inside)
+    (w.most, w.keyed, over s x.violations.now x.at 0 _ w (none_to violation_words (entry s) x.violations.now x.at x.links.count c.requires))
 
 pub put_repeat-end-requires : goal.put_repeat-end-requires
 put_repeat-end-requires c =
     let x = c.args in record {
-      n_bound = (c.requires.n_bound.0, inside (goal.at.put_repeat-end-requires c).In-loop-k, c.requires.n_bound.2);
-      k_in_bounds = to_room violation_words (entry (goal.at.put_repeat-end-requires c).Start) x.violations.now x.at x.n c.requires.n_in_bounds c.loop-k.k c.loop-k.invariant.2 (inside (goal.at.put_repeat-end-requires c).In-loop-k);
+      inside = omega arith;
+      room = to_room violation_words (entry (goal.at.put_repeat-end-requires c).Start) x.violations.now x.at x.links.count c.requires c.loop-k.k
+          c.loop-k.invariant.2 (omega arith);
     }
 
 pub loop-k-preserved : goal.loop-k-preserved
 loop-k-preserved c =
+    let s = (goal.at.loop-k-preserved c).Start in
     let x = c.args in
     let w = next (goal.at.loop-k-preserved c).In-loop-k in
-    let more = to_more violation_words (entry (goal.at.loop-k-preserved c).Start) x.violations.now x.at x.n c.requires.n_in_bounds c.loop-k.k c.loop-k.invariant.2 c.put_repeat-end.ensures in
-    (w.most, w.keyed, over (goal.at.loop-k-preserved c).Start _ c.put_repeat-end.result (c.loop-k.k + 1) _ w more)
-
-module _ (c : After-loop-k) where
-  all : c.loop-k.k ≡ c.args.n
-  all = omega (arith, c.loop-k-test.false, c.loop-k.invariant.0)
+    let more = to_more violation_words (entry s) x.violations.now x.at x.links.count c.requires c.loop-k.k c.loop-k.invariant.2 c.put_repeat-end.ensures in
+    (w.most, w.keyed, over s _ c.put_repeat-end.result (c.loop-k.k + 1) _ w more)
 
 pub shape_of-violations : goal.shape_of-violations
 shape_of-violations c =
     let x = c.args in
     let l = c.loop-k in
-    to-length violation_words (entry (goal.at.shape_of-violations c).Start) x.violations.now x.at x.n c.requires.n_in_bounds l.k l.invariant.2 l.invariant.0
+    to-length violation_words (entry (goal.at.shape_of-violations c).Start) x.violations.now x.at x.links.count c.requires l.k l.invariant.2 l.invariant.0
 
 pub returns : goal.returns
-returns c = let l = c.loop-k in subst (Wrote (goal.at.returns c).Start l.violations l.end) (all c) l.invariant.2
-
-pub key_for-requires : goal.key_for-requires
-key_for-requires c = omega arith
-
-pub offset_bounds-marker_chain-key_for : goal.offset_bounds-marker_chain-key_for
-offset_bounds-marker_chain-key_for c = record { fits = omega (arith, c.key_for.ensures.1) }
-
-pub bounds-marker_chain-key_for : goal.bounds-marker_chain-key_for
-bounds-marker_chain-key_for c = omega (arith, c.key_for.ensures.1)
-
-pub overflow_cast-k : goal.overflow_cast-k
-overflow_cast-k c = record { fits = omega (arith, (begun (goal.at.overflow_cast-k c).After-key_for).most, c.requires.n_bound.0) }
-
-pub overflow_add-k : goal.overflow_add-k
-overflow_add-k c = record { fits = omega (arith, below (goal.at.overflow_add-k c).In-loop-k) }
-
-pub offset_bounds-marker_chain-k : goal.offset_bounds-marker_chain-k
-offset_bounds-marker_chain-k c = record { fits = omega (arith, below (goal.at.offset_bounds-marker_chain-k c).In-loop-k) }
-
-pub bounds-marker_chain-k : goal.bounds-marker_chain-k
-bounds-marker_chain-k c = omega (arith, below (goal.at.bounds-marker_chain-k c).In-loop-k)
-
-pub overflow_cast-k-in-loop-k : goal.overflow_cast-k-in-loop-k
-overflow_cast-k-in-loop-k c = record { fits = omega (arith, (next (goal.at.overflow_cast-k-in-loop-k c).In-loop-k).most, c.requires.n_bound.0) }
-
-pub loop-k-smaller : goal.loop-k-smaller
-loop-k-smaller c = omega (arith, (next (goal.at.loop-k-smaller c).In-loop-k).from, inside (goal.at.loop-k-smaller c).In-loop-k)
+returns c =
+    let l = c.loop-k in
+    let all : l.k ≡ c.args.links.count = omega arith in
+    subst (Wrote (goal.at.returns c).Start l.violations l.end) all l.invariant.2
