@@ -8,7 +8,7 @@ use native.Mathlib.Numerals.{add-one}
 use native.Mathlib.Omega.{arith}
 use lib.Dec.{eqb}
 use lib.Ieee.{Float, lt}
-use lib.ListN.{set, replicate, length-set, length-replicate, get_or-replicate}
+use lib.ListN.{length, set, replicate, get_or-replicate}
 use lib.Seq.{get_or-set_same, get_or-set_other}
 use borrow.Author.Tests.{eqb-true, eqb-false, eq-eqb}
 use Rattle.corner_mapping.specs.Corners.{Input, id_of, is_id, bears, score_of, greater, replaced, chosen_to}
@@ -67,25 +67,25 @@ module _ (x : Input) where
 
   pub chosen-first : ChoicesHeld x 0 (replicate 1024 0)
   unfolding chosen_to
-  chosen-first = record { at = λ id h. ap choice_of (get_or-replicate {A = ℕ} 1024 id 0 0 h); long = length-replicate {A = ℕ} 1024 0 }
+  chosen-first = record { at = λ id h. ap choice_of (get_or-replicate {A = ℕ} 1024 id 0 0 h) }
 
   module _ (k : ℕ) (choices : List ℕ) (h : ChoicesHeld x k choices) where
     pub chosen-same : id_at k ≡ None → ChoicesHeld x (k + 1) choices
     chosen-same e =
         rw (add-one k)
-        (record { at = λ id l. h.at id l ∙ sym (passed k id (ap (λ (n : Option ℕ). is_id n id) e)); long = h.long })
+        (record { at = λ id l. h.at id l ∙ sym (passed k id (ap (λ (n : Option ℕ). is_id n id) e)) })
 
-    pub chosen_more : (m c : ℕ) → id_at k ≡ Some m → m < 1024
+    pub chosen_more : (m c : ℕ) → length choices ≡ 1024 → id_at k ≡ Some m → m < 1024
         → choice_of c ≡ replaced (greater x.scores (stored choices m) k) k (stored choices m) → ChoicesHeld x (k + 1) (set choices m c)
-    chosen_more m c e l q =
+    chosen_more m c long e l q =
         rw (add-one k)
-        (record { at = λ id f. go id f (eqb m id) refl; long = length-set choices m c ∙ h.long })
+        (record { at = λ id f. go id f (eqb m id) refl })
       where
         go : (id : ℕ) → id < 1024 → (b : Bool) → eqb m id ≡ b → stored (set choices m c) id ≡ chosen_to x id (suc k)
         go id f true t =
             let same : m ≡ id = eqb-true m id t in
             let here : bears x k m ≡ true = ap (λ (n : Option ℕ). is_id n m) e ∙ eq-eqb m m refl in
-            ap (stored (set choices m c)) (sym same) ∙ ap choice_of (get_or-set_same choices m c 0 (omega (arith, h.long, l))) ∙ q
+            ap (stored (set choices m c)) (sym same) ∙ ap choice_of (get_or-set_same choices m c 0 (omega (arith, long, l))) ∙ q
             ∙ ap (λ (o : Maybe ℕ). replaced (greater x.scores o k) k o) (h.at m l) ∙ sym (met k m here)
             ∙ ap (λ (i : ℕ). chosen_to x i (suc k)) same
         go id f false t =

@@ -9,6 +9,8 @@ use native.Mathlib.Omega.{arith}
 use lib.IntN.{ℤ, pos, negsuc, nat_abs}
 use mir.Syntax.{w16}
 use mir.Val.{SFits}
+use Rattle.integers.specs.Distance.{is_within}
+use Rattle.integers.proofs.Distances.{within_abs}
 use Rattle.grid_alignment.specs.declared.GridAlignment.{GridAlignment}
 use Rattle.board.specs.declared.Board.{Board}
 use Rattle.board.specs.Numbering.{number_at, number_atℤ}
@@ -19,10 +21,13 @@ use Rattle.marker_sampling.specs.Cells.{labelled, corners_of}
 use Rattle.corner_mapping.specs.Corners.{board_corner, id_at, id_of}
 use Rattle.std.specs.Prelude.{Option, Some, None}
 
--- a small number fits 16 bits
-pub half-fits : (z : ℤ) → nat_abs z < 2 ^ 15 → SFits w16 z
-half-fits (pos n) h = record { sfits = h }
-half-fits (negsuc n) h = record { sfits = omega arith }
+-- a coordinate in range fits 16 bits
+pub half-fits : (z : ℤ) → is_within 4096 z ≡ true → SFits w16 z
+half-fits z e = go z (within_abs 4096 z e)
+  where
+    go : (y : ℤ) → nat_abs y ≤ 4096 → SFits w16 y
+    go (pos n) h = record { sfits = omega arith }
+    go (negsuc n) h = record { sfits = omega arith }
 
 -- ---- a number at two integers, of those that a test numbers
 pub record Placed (t : ℕ → ℕ → Bool) (w h : ℕ) (u v : ℤ) (id : ℕ) : Type 0 where

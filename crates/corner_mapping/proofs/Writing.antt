@@ -24,9 +24,9 @@ module _ (b : Board) where
   words_are id k l o e f = ap₂ (λ (p : Option Position) (q : Option ObjectPoint). id ∷ k ∷ place_words p ++ target_words q) e f
 
   six : (l : Option Position) (o : Option ObjectPoint) → length (place_words l ++ target_words o) ≡ 4
-  six (Some i j) (Some x y) = refl
-  six (Some i j) None = refl
-  six None (Some x y) = refl
+  six (Some p) (Some q) = refl
+  six (Some p) None = refl
+  six None (Some q) = refl
   six None None = refl
 
   pub words-length : (ms : List MappedCorner) → length (words_of_corners b ms) ≡ 6 * length ms

@@ -1,9 +1,7 @@
 -- The contracts of the inner functions.
-use Rattle.std.specs.Prelude.{ℕ, zero, suc, ◌≤◌, ◌<◌, ◌≡◌, true, List, length, get_or, ℤ, nat_abs}
+use Rattle.std.specs.Prelude.{ℕ, zero, suc, ◌≤◌, ◌<◌, ◌≡◌, true, List, length, get_or, nat_abs}
 use Rattle.std.proofs.Math.Option.{Option, none, some}
-use Rattle.integers.specs.Distance.{is_within}
 use Rattle.integers.specs.Tests.{every}
-use Rattle.marker_sampling.specs.Cells.{word, labelled, corners_of}
 use Rattle.marker_sampling.specs.Entry.{corners, placed}
 use Rattle.corner_mapping.specs.Corners.{Input, chosen_to}
 
@@ -16,12 +14,6 @@ pub record InputInRange (x : Input) : Type 0 where
   pub tx : nat_abs x.alignment.tx ≤ 8192
   pub ty : nat_abs x.alignment.ty ≤ 8192
 
--- the grid point of corner k, if it has one, is from −4,096 to 4,096
-abbrev pub NearCorner : List ℤ → ℕ → Type 0
-NearCorner grid k =
-    let c = corners_of 0 grid in
-    labelled c k ≡ true → (is_within 4096 (word c k 1) ≡ true) × (is_within 4096 (word c k 2) ≡ true)
-
 -- a choice is stored as a number: 0 for none, else the index + 1
 abbrev pub choice_of : ℕ → Option ℕ
 choice_of zero = none
@@ -33,4 +25,3 @@ stored choices id = choice_of (get_or choices id 0)
 -- element id is the choice among the first n corners
 pub record ChoicesHeld (x : Input) (n : ℕ) (choices : List ℕ) : Type 0 where
   pub at : (id : ℕ) → id < 1024 → stored choices id ≡ chosen_to x id n
-  pub long : length choices ≡ 1024

@@ -9,6 +9,7 @@ mod choice;
 mod words;
 
 use board::{Board, CharucoBoardSpec};
+use choice::CornerInput;
 use grid_alignment::GridAlignment;
 use marker_sampling::questions;
 use refusal::Refusal;
@@ -17,23 +18,16 @@ use refusal::Refusal;
 fn alignment_in_range(alignment: GridAlignment) -> bool
     ensures { result ≡ alignment_answer alignment }
 {
-    if 3 < alignment.turn {
-        return false;
-    }
-    if !questions::within(8192, alignment.tx) {
-        return false;
-    }
-    questions::within(8192, alignment.ty)
+    alignment.turn < 4
+        && questions::within(8192, alignment.tx)
+        && questions::within(8192, alignment.ty)
 }
 
 // Question 18.
 fn in_range(scores: &[f32], grid: &[i32], alignment: GridAlignment) -> bool
     ensures { result ≡ corner_range_answer scores.now grid.now alignment }
 {
-    if !marker_sampling::corners_in_range(scores, grid) {
-        return false;
-    }
-    alignment_in_range(alignment)
+    marker_sampling::corners_in_range(scores, grid) && alignment_in_range(alignment)
 }
 
 // The questions after the board's, then the mapping.
@@ -55,7 +49,13 @@ fn map_onto(
     if corners.len() < 6 * count {
         return Err(Refusal::ListTooShort);
     }
-    let choices = choice::choose(board, alignment, scores, grid);
+    let input = CornerInput {
+        board,
+        alignment,
+        scores,
+        grid,
+    };
+    let choices = input.choose();
     let end = words::put_all(board, &choices, corners);
     Ok(end / 6)
 }

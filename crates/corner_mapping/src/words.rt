@@ -14,7 +14,14 @@ fn corner_words(board: Board, id: u32, index: u32) -> [u32; 6]
     let place = board.board_corner(id);
     let target = board.charuco_object_xy(id);
     match (place, target) {
-        (Some(p), Some(q)) => [id, index, p.i, p.j, floats::to_bits(q.x), floats::to_bits(q.y)],
+        (Some(p), Some(q)) => [
+            id,
+            index,
+            p.i,
+            p.j,
+            floats::to_bits(q.x),
+            floats::to_bits(q.y),
+        ],
         (Some(p), None) => [id, index, p.i, p.j, 0, 0],
         // No result has such an id: law `board-corners-named`.
         (None, _) => [id, index, 0, 0, 0, 0],
@@ -39,12 +46,9 @@ pub fn put_all(board: Board, choices: &[u16; 1024], corners: &mut [u32]) -> usiz
     ensures { Put corners.old corners.new 0 result
         (words_of_corners board (up_to (mapped_by (stored choices.now)) (corner_count board.rows board.cols))) }
 {
-    let count = board.corner_count() as usize;
     let mut end = 0;
-    let mut id = 0;
-    while id < count {
-        end = put_corner(board, id as u32, choices[id], corners, end);
-        id += 1;
+    for id in 0..board.corner_count() {
+        end = put_corner(board, id, choices[id as usize], corners, end);
     }
     end
 }

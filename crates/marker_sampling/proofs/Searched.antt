@@ -8,57 +8,58 @@ use native.Mathlib.Omega.{arith}
 use lib.ListN.{length, get_or}
 use borrow.Author.Tests.{eq-eqb, ne_eqb}
 use Rattle.marker_sampling.specs.Cells.{Corners, holder, stands}
-use Rattle.marker_sampling.specs.Keys.{key_side, range_point, MapOf, LowerBound, FirstBelow, Bounded, Searchable, Next}
+use Rattle.marker_sampling.specs.Keys.{key_side, range_point, MapOf, LowerBound, FirstBelow, Searchable, Next}
 use Rattle.integers.proofs.Distances.{lt_or_le}
 use Rattle.sorting.specs.Order.{Rising}
 use Rattle.marker_sampling.proofs.Holders.{nobody, last_holds}
 
 -- ---- where a search can start
 -- for a greater word
-pub still_below : {map : List ℕ} {n x y p : ℕ} → x ≤ y → FirstBelow map n x p → FirstBelow map n y p
+pub still_below : {map : List ℕ} {x y p : ℕ} → x ≤ y → FirstBelow map x p → FirstBelow map y p
 still_below l b = record { inside = b.inside; below = λ k h. omega (arith, l, b.below k h) }
 
 -- after another search
-pub searched_below : {map : List ℕ} {n x y p : ℕ} → x ≤ y → LowerBound map n x p → FirstBelow map n y p
+pub searched_below : {map : List ℕ} {x y p : ℕ} → x ≤ y → LowerBound map x p → FirstBelow map y p
 searched_below l b = still_below l (record { inside = b.inside; below = b.below })
 
 -- index 0
-pub none_before : (map : List ℕ) (n x : ℕ) → FirstBelow map n x 0
-none_before map n x = record { inside = omega arith; below = λ k h. absurd (omega arith) }
+pub none_before : (map : List ℕ) (x : ℕ) → FirstBelow map x 0
+none_before map x = record { inside = omega arith; below = λ k h. absurd (omega arith) }
 
-pub at_start : (map : List ℕ) (n : ℕ) → LowerBound map n 0 0
-at_start map n = record { inside = omega arith; below = λ k h. absurd (omega arith); above = λ k h g. omega arith }
+pub at_start : (map : List ℕ) → LowerBound map 0 0
+at_start map = record { inside = omega arith; below = λ k h. absurd (omega arith); above = λ k h g. omega arith }
 
 -- ---- the next key
-module _ {map : List ℕ} {n end from p : ℕ} (low : from ≤ end) (r : Rising map n) (h : Bounded end map n) (b : LowerBound map n (from * 1024) p) where
-  pub next_key : p < n → Next map n end from (get_or map p 0 / 1024)
+module _ {map : List ℕ} {end from p : ℕ} (low : from ≤ end) (r : Rising map (length map)) (h : (j : ℕ) → j < length map → get_or map j 0 / 1024 ≤ end)
+    (b : LowerBound map (from * 1024) p) where
+  pub next_key : p < length map → Next map end from (get_or map p 0 / 1024)
   next_key l = record {
     least = omega (arith, b.above p (omega arith) l);
     most = h p l;
     passed = λ j g less. go j g less (lt_or_le j p);
   }
     where
-      go : (j : ℕ) → j < n → get_or map j 0 / 1024 < get_or map p 0 / 1024 → (j < p) ⊎ (p ≤ j) → get_or map j 0 / 1024 < from
+      go : (j : ℕ) → j < length map → get_or map j 0 / 1024 < get_or map p 0 / 1024 → (j < p) ⊎ (p ≤ j) → get_or map j 0 / 1024 < from
       go j g less (inl d) = omega (arith, b.below j d)
       go j g less (inr d) = absurd (omega (arith, r p j d g))
 
-  pub no_key : n ≤ p → Next map n end from end
+  pub no_key : length map ≤ p → Next map end from end
   no_key l = record { least = low; most = omega arith; passed = λ j g less. omega (arith, b.below j (omega arith)) }
 
 -- ---- the last inlier at a key
-module _ (m : ℕ) (c : Corners) (inliers map : List ℕ) (h : MapOf m c inliers (length inliers) map) (u v : ℕ) (hu : u < key_side m) (hv : v < key_side m) where
+module _ (m : ℕ) (c : Corners) (inliers map : List ℕ) (h : MapOf m c inliers map) (u v : ℕ) (hu : u < key_side m) (hv : v < key_side m) where
   abbrev key : ℕ
   key = v * key_side m + u
 
   -- no word has the key
-  unkeyed : ((j : ℕ) → j < length inliers → get_or map j 0 / 1024 ≡ key → ⊥) → holder c inliers (range_point m u v) ≡ none
+  unkeyed : ((j : ℕ) → j < length map → get_or map j 0 / 1024 ≡ key → ⊥) → holder c inliers (range_point m u v) ≡ none
   unkeyed absent =
       nobody c (range_point m u v) inliers
       (λ i l. let f = h.has i l in f.2.key.at u v hu hv ∙ ne_eqb (get_or map f.0 0 / 1024) key (absent f.0 f.1))
 
   -- the words with the key are at `first` to `end` − 1
-  module _ (first end : ℕ) (f : LowerBound map (length inliers) (key * 1024) first) (b : LowerBound map (length inliers) ((key + 1) * 1024) end) where
-    inside : (j : ℕ) → j < length inliers → get_or map j 0 / 1024 ≡ key → (first ≤ j) × (j < end)
+  module _ (first end : ℕ) (f : LowerBound map (key * 1024) first) (b : LowerBound map ((key + 1) * 1024) end) where
+    inside : (j : ℕ) → j < length map → get_or map j 0 / 1024 ≡ key → (first ≤ j) × (j < end)
     inside j l e = (from_first (lt_or_le j first), before_end (lt_or_le j end))
       where
         from_first : (j < first) ⊎ (first ≤ j) → first ≤ j
@@ -77,7 +78,7 @@ module _ (m : ℕ) (c : Corners) (inliers map : List ℕ) (h : MapOf m c inliers
       last_key = omega (arith, f.above (end - 1) (omega arith) (omega (arith, b.inside)), b.below (end - 1) (omega arith))
 
       -- none of them is above the last
-      under : (j : ℕ) → j < length inliers → get_or map j 0 / 1024 ≡ key → get_or map j 0 ≤ get_or map (end - 1) 0
+      under : (j : ℕ) → j < length map → get_or map j 0 / 1024 ≡ key → get_or map j 0 ≤ get_or map (end - 1) 0
       under j l e = h.rising j (end - 1) (omega (arith, inside j l e)) (omega (arith, b.inside))
 
       pub last_there : holder c inliers (range_point m u v) ≡ some (get_or inliers (get_or map (end - 1) 0 % 1024) 0)
@@ -90,10 +91,11 @@ module _ (m : ℕ) (c : Corners) (inliers map : List ℕ) (h : MapOf m c inliers
           let d = h.has i g in
           d.2.key.at u v hu hv ∙ ne_eqb (get_or map d.0 0 / 1024) key (λ q. omega (arith, last_key, l, d.2.place, under d.0 d.1 q)))
 
-pub searchable : {m : ℕ} {c : Corners} {inliers map : List ℕ} → length inliers ≤ 1024 → c.count ≤ 1024 → MapOf m c inliers (length inliers) map
+pub searchable : {m : ℕ} {c : Corners} {inliers map : List ℕ} → length inliers ≤ 1024 → c.count ≤ 1024 → MapOf m c inliers map
     → Searchable m inliers map
 searchable {m} {c} {inliers} {map} short few h = record {
   short = short;
+  long = h.long;
   rising = h.rising;
   bounded = λ j l. (h.from j l).2.key.most;
   place = λ j l. let f = h.from j l in omega (arith, f.1, f.2.place);

@@ -6,9 +6,12 @@ ghost use Rattle.std.specs.Prelude.{◌≡◌};
 ghost use Rattle.marker_sampling.specs.Entry.{corners_answer, marker_cells, marker_cells_list};
 
 mod corner_map;
+mod labelled_corners;
 pub mod questions;
 mod walk;
 
+use corner_map::CornerMap;
+use labelled_corners::LabelledCorners;
 use refusal::Refusal;
 
 // Question 18 without the inliers: at most 1,024 corners, their grid points from −4,096 to 4,096, their scores finite?
@@ -44,9 +47,16 @@ pub fn build_marker_cells(
     if cells.len() < 1536 {
         return Err(Refusal::ListTooShort);
     }
-    let map = corner_map::build_corner_map(scores.len(), grid, inliers);
+    let corners = LabelledCorners {
+        count: scores.len(),
+        grid,
+    };
+    let mut words: [u64; 1024] = [0; 1024];
+    let words = &mut words[..inliers.len()];
+    corners.put_map(inliers, words);
+    let map = CornerMap { inliers, words };
     let mut results: [i32; 1536] = [0; 1536];
-    let count = walk::collect(&map, inliers, &mut results);
+    let count = walk::collect(map, &mut results);
     if 256 < count {
         return Err(Refusal::TooManyCells);
     }

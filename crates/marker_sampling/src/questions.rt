@@ -9,18 +9,14 @@ ghost use Rattle.marker_sampling.specs.Entry.{placed, finite_scores};
 pub fn word(grid: &[i32], at: usize) -> i32
     ensures { result ≡ get_or grid.now at (pos 0) }
 {
-    if at < grid.len() {
-        return grid[at];
-    }
-    0
+    grid.get(at).copied().unwrap_or(0)
 }
 
 // |z| ≤ limit?
 pub fn within(limit: u16, z: i32) -> bool
     ensures { result ≡ is_within limit z }
 {
-    let most = limit as i32;
-    -most <= z && z <= most
+    z.unsigned_abs() <= u32::from(limit)
 }
 
 // Has corner k a grid point?
@@ -39,22 +35,17 @@ fn placed(grid: &[i32], k: usize) -> bool
     if !labelled(grid, k) {
         return true;
     }
-    if !within(4096, word(grid, 3 * k + 1)) {
-        return false;
-    }
-    within(4096, word(grid, 3 * k + 2))
+    within(4096, word(grid, 3 * k + 1)) && within(4096, word(grid, 3 * k + 2))
 }
 
 pub fn all_placed(count: usize, grid: &[i32]) -> bool
     requires { count ≤ 1024 }
     ensures { result ≡ every (placed 4096 (corners_of count grid.now)) count }
 {
-    let mut k = 0;
-    while k < count {
+    for k in 0..count {
         if !placed(grid, k) {
             return false;
         }
-        k += 1;
     }
     true
 }
@@ -62,12 +53,10 @@ pub fn all_placed(count: usize, grid: &[i32]) -> bool
 pub fn all_finite(scores: &[f32]) -> bool
     ensures { result ≡ finite_scores scores.now }
 {
-    let mut k = 0;
-    while k < scores.len() {
-        if !floats::is_finite(scores[k]) {
+    for score in scores {
+        if !floats::is_finite(*score) {
             return false;
         }
-        k += 1;
     }
     true
 }

@@ -1,9 +1,10 @@
 // The walk over the keys in increasing order: the six words of each whole cell.
 ghost use Rattle.std.specs.Prelude.{◌≡◌, ◌+◌, ◌*◌, ◌<◌, length, pos, ◌-ℤ◌};
 ghost use Rattle.marker_sampling.specs.Cells.{Corners, point_at};
-ghost use Rattle.marker_sampling.specs.Keys.{MapOf, LowerBound, FirstBelow, Searchable, Collected, found_words, whole_words, CellAdded};
+ghost use Rattle.marker_sampling.specs.Keys.{MapOf, LowerBound, FirstBelow, Collected, words_if_whole, words_at, CellAdded};
 
-use super::corner_map;
+use super::corner_map::{CornerMap, Found};
+use super::labelled_corners::PAST;
 
 fn coordinate(offset: u64) -> i32
     requires { offset < 8193 }
@@ -12,40 +13,65 @@ fn coordinate(offset: u64) -> i32
     offset as i32 - 4096
 }
 
-// A cell's words, and the indices at which the searches for the cells after it can start: in its row, and in the row below.
+// A cell's words if it is whole, and the indices at which the searches for the cells after it can start: in its row, and in
+// the row below.
 #[derive(Clone, Copy)]
 struct Cell {
-    words: [i32; 6],
+    words: Option<[i32; 6]>,
     here: usize,
     under: usize,
 }
 
-// The words of the cell at a key, with −1 for a missing corner. No word before `here` has this key or a greater one, and
-// none before `under` that of the point below or a greater one.
-fn cell_at(map: &[u64; 1024], inliers: &[usize], key: u64, here: usize, under: usize) -> Cell
-    requires searchable { Searchable 4096 inliers.now map.now }
+// The words of a cell, if its four corners are there.
+fn words_at(
+    u: i32,
+    v: i32,
+    top_left: Option<u16>,
+    top_right: Option<u16>,
+    bottom_right: Option<u16>,
+    bottom_left: Option<u16>,
+) -> Option<[i32; 6]>
+    ensures { result ≡ words_at u v top_left top_right bottom_right bottom_left }
+{
+    let first = top_left?;
+    let second = top_right?;
+    let third = bottom_right?;
+    let fourth = bottom_left?;
+    Some([
+        u,
+        v,
+        i32::from(first),
+        i32::from(second),
+        i32::from(third),
+        i32::from(fourth),
+    ])
+}
+
+// The cell at a key. No word before `here` has this key or a greater one, and none before `under` that of the point below or a
+// greater one.
+fn cell_at(map: CornerMap, key: u64, here: usize, under: usize) -> Cell
     requires key_bound { key < 67125249 }
-    requires first_below { FirstBelow map.now (length inliers.now) (key * 1024) here }
-    requires first_below_2 { FirstBelow map.now (length inliers.now) ((key + 8193) * 1024) under }
-    ensures words_value { (c : Corners) → MapOf 4096 c inliers.now (length inliers.now) map.now
-        → result.words ≡ found_words c inliers.now (point_at 4096 key) }
-    ensures lower_bound { LowerBound map.now (length inliers.now) ((key + 1) * 1024) result.here }
-    ensures first_below_3 { FirstBelow map.now (length inliers.now) ((key + 8194) * 1024) result.under }
+    requires here_below { FirstBelow map.words.now (key * 1024) here }
+    requires under_below { FirstBelow map.words.now ((key + 8193) * 1024) under }
+    ensures words_value { (c : Corners) → MapOf 4096 c map.entry.inliers.now map.entry.words.now
+        → result.words ≡ words_if_whole c map.entry.inliers.now (point_at 4096 key) }
+    ensures here_bound { LowerBound map.entry.words.now ((key + 1) * 1024) result.here }
+    ensures under_below { FirstBelow map.entry.words.now ((key + 8194) * 1024) result.under }
 {
     let u = key % 8193;
     let v = key / 8193;
-    let top_left = corner_map::last(map, inliers, here, u, v);
-    let top_right = corner_map::find(map, inliers, top_left.end, u + 1, v);
-    let bottom_left = corner_map::find(map, inliers, under, u, v + 1);
-    let bottom_right = corner_map::find(map, inliers, bottom_left.end, u + 1, v + 1);
-    let words: [i32; 6] = [
+    let top_left = map.last(here, u, v);
+    let top_right = map.find(top_left.end, u + 1, v);
+    let bottom_left = map.find(under, u, v + 1);
+    let bottom_right = map.find(bottom_left.end, u + 1, v + 1);
+    let words = words_at(
         coordinate(u),
         coordinate(v),
         top_left.index,
         top_right.index,
         bottom_right.index,
         bottom_left.index,
-    ];
+    );
     Cell {
         words,
         here: top_left.end,
@@ -53,53 +79,37 @@ fn cell_at(map: &[u64; 1024], inliers: &[usize], key: u64, here: usize, under: u
     }
 }
 
-fn whole(cell: &[i32; 6]) -> bool
-    ensures { result ≡ whole_words cell.now }
-{
-    if cell[2] < 0 {
-        return false;
-    }
-    if cell[3] < 0 {
-        return false;
-    }
-    if cell[4] < 0 {
-        return false;
-    }
-    0 <= cell[5]
-}
-
 // Appends the cell to the `n` cells before it if it is whole; past 256 it is only counted.
-fn put(results: &mut [i32], n: usize, cell: &[i32; 6]) -> usize
-    requires { (n < 67125249) × (length results.old ≡ 1536) }
-    ensures { CellAdded n cell.now results.old results.new result }
+fn put(results: &mut [i32; 1536], n: usize, cell: Option<[i32; 6]>) -> usize
+    requires { n < 67125249 }
+    ensures { CellAdded n cell results.old results.new result }
 {
-    if !whole(cell) {
-        return n;
+    match cell {
+        None => n,
+        Some(words) => {
+            if n < 256 {
+                lent_list::put(results, 6 * n, &words);
+            }
+            n + 1
+        }
     }
-    if 256 <= n {
-        return n + 1;
-    }
-    lent_list::put(results, 6 * n, cell);
-    n + 1
 }
 
 // Writes the words of the whole cells in row-major order and returns their number: past 256 they are only counted.
-pub fn collect(map: &[u64; 1024], inliers: &[usize], results: &mut [i32]) -> usize
-    requires { Searchable 4096 inliers.now map.now × (length results.old ≡ 1536) }
-    ensures { (c : Corners) → MapOf 4096 c inliers.now (length inliers.now) map.now
-        → Collected 4096 c inliers.now 67125249 results.old results.new result }
+pub fn collect(map: CornerMap, results: &mut [i32; 1536]) -> usize
+    ensures { (c : Corners) → MapOf 4096 c map.entry.inliers.now map.entry.words.now
+        → Collected 4096 c map.entry.inliers.now 67125249 results.old results.new result }
 {
     let mut n = 0;
     let mut here = 0;
     let mut under = 0;
-    let mut key = corner_map::next(map, inliers.len(), here);
-    while key < corner_map::PAST {
-        let cell = cell_at(map, inliers, key, here, under);
-        let words = cell.words;
-        n = put(results, n, &words);
+    let mut key = map.next(here);
+    while key < PAST {
+        let cell = cell_at(map, key, here, under);
+        n = put(results, n, cell.words);
         here = cell.here;
         under = cell.under;
-        key = corner_map::next(map, inliers.len(), here);
+        key = map.next(here);
     }
     n
 }

@@ -7,18 +7,14 @@ use Rattle.corner_mapping.specs.Corners.{mapped_if, words_of_corners}
 use Rattle.corner_mapping.specs.Inner.{choice_of}
 use Rattle.corner_mapping.proofs.Writing.{none_put, words_put}
 use Rattle.corner_mapping.proofs.words.put_corner.Goals as goal
-use Rattle.corner_mapping.proofs.words.put_corner.Goals.{After-corner_words-words, Start}
+use Rattle.corner_mapping.proofs.words.put_corner.Goals.{After-corner_words-words}
 
 pub returns-then-choice-eq0 : goal.returns-then-choice-eq0
-returns-then-choice-eq0 c =
-    let x = c.args in
-    none_put x.board x.id x.at x.choice x.corners.now c.if-choice-eq0.true
+returns-then-choice-eq0 c = none_put c.args.board c.args.id c.args.at c.args.choice _ c.if-choice-eq0.true
 
-module _ (c : After-corner_words-words) where
-  words_are : c.corner_words-words.result ≡ words_of_corners c.args.board (mapped_if c.args.id (choice_of c.args.choice))
-  words_are =
-      let x = c.args in
-      words_put x.board x.id x.choice c.corner_words-words.result (omega (arith, c.if-choice-eq0.false)) c.corner_words-words.ensures
+words_are : (c : After-corner_words-words)
+    → c.corner_words-words.result ≡ words_of_corners c.args.board (mapped_if c.args.id (choice_of c.args.choice))
+words_are c = words_put c.args.board c.args.id c.args.choice _ (omega arith) c.corner_words-words.ensures
 
 pub put-requires : goal.put-requires
 put-requires c = omega (arith, c.requires, ap length (words_are (goal.at.put-requires c).After-corner_words-words))

@@ -1,0 +1,13 @@
+-- `corner_mapping::choice::CornerInput::better` meets its contract: by its two tests. Assumes nothing.
+use native.Mathlib.Omega.{arith}
+use Rattle.corner_mapping.proofs.Choices.{first, takes, keeps}
+use Rattle.corner_mapping.proofs.choice.CornerInput.better.Goals as goal
+
+pub returns-then-choice-eq0 : goal.returns-then-choice-eq0
+returns-then-choice-eq0 c = first _ c.args.k c.args.choice c.if-choice-eq0.true
+
+pub returns-then-self-choice : goal.returns-then-self-choice
+returns-then-self-choice c = takes _ c.args.k c.args.choice (omega arith) c.if-self-choice.true
+
+pub returns : goal.returns
+returns c = keeps _ c.args.k c.args.choice (omega arith) c.if-self-choice.false
