@@ -1,6 +1,7 @@
 pub mod Lists
 pub mod Filling
 pub mod Reading
+pub mod Records
 pub mod Whole
 pub mod LittleEndian
 pub mod Runs

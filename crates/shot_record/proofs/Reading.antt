@@ -51,6 +51,17 @@ found f bytes e =
       grid_size_is = ap (λ (g : Fields). g.grid_size) e;
     }
 
+-- flags by equal bits
+pub flag_alike : (m j n k : ℕ) → bit m j ≡ bit n k → is_set m j ≡ is_set n k
+flag_alike m j n k e = ap (λ (b : ℕ). not (eqb b 0)) e
+
+-- a bit by its flag
+pub flag_set : (m k : ℕ) {set : Bool} → set ≡ is_set m k → set ≡ true → bit m k ≡ 0 → ⊥
+flag_set m k h e = eqb-false (bit m k) 0 (not-true _ (sym h ∙ e))
+
+pub flag_clear : (m k : ℕ) {set : Bool} → set ≡ is_set m k → set ≡ false → bit m k ≡ 0
+flag_clear m k h e = eqb-true (bit m k) 0 (not-false _ (sym h ∙ e))
+
 -- a setting whose bit is not 0
 pub setting_set : {A : Type 0} (b : ℕ) (field default : A) → (b ≡ 0 → ⊥) → field ≡ setting b field default
 setting_set zero field default h = absurd (h refl)
@@ -74,16 +85,15 @@ module _ (f : Fields) (bytes : List ℕ) (e : f ≡ fields_of bytes) (sets : Boo
   flag : bit f.map 3 ≡ bit (map_byte bytes) 3
   flag = ap (λ (m : ℕ). bit m 3) (found f bytes e).map
 
-  pub built_in-table : not sets ≡ true → (shot bytes).table ≡ patterns
+  pub built_in-table : sets ≡ false → (shot bytes).table ≡ patterns
   built_in-table n =
-      let clear : bit (map_byte bytes) 3 ≡ 0 = sym flag ∙ eqb-true (bit f.map 3) 0 (not-false _ (sym h ∙ not-true sets n)) in
+      let clear : bit (map_byte bytes) 3 ≡ 0 = sym flag ∙ flag_clear f.map 3 h n in
       rw clear refl
 
-  pub own-table : not sets ≡ false → numbers 4 511 f.table_at bytes ≡ (shot bytes).table
+  pub own-table : sets ≡ true → numbers 4 511 f.table_at bytes ≡ (shot bytes).table
   own-table n =
-      let set : bit (map_byte bytes) 3 ≡ 0 → ⊥ = λ z. eqb-false (bit f.map 3) 0 (not-true _ (sym h ∙ not-false sets n)) (flag ∙ z) in
       ap (λ (at : ℕ). numbers 4 511 at bytes) (found f bytes e).table_at
-      ∙ setting_set (bit (map_byte bytes) 3) (numbers 4 511 (table_at bytes) bytes) patterns set
+      ∙ setting_set (bit (map_byte bytes) 3) (numbers 4 511 (table_at bytes) bytes) patterns (λ z. flag_set f.map 3 h n (flag ∙ z))
 
 -- the codes of the shot
 pub code_count_is : (bytes : List ℕ) → length (shot bytes).codes ≡ code_count bytes

@@ -7,7 +7,6 @@ use mathlib.Core.Option.{none, some, none-ne-some, some-injective}
 use lib.Dec.{T, eqb, leb→le, le→leb, ltb→lt, lt→ltb, eqb→eq, eqb_refl}
 use lib.ListN.{length}
 use lib.Ieee.Fits.{and_i, and_l, and_r}
-use borrow.Author.Tests.{not-true, not-false}
 use Rattle.shot_record.specs.Fields.{map_byte, cell_count, cell_map, cell_at}
 use Rattle.shot_record.specs.Shots.{Shot, shot, whole_record, parse}
 
@@ -56,16 +55,17 @@ pub parsed : (bytes : List ℕ) (s : Shot) → parse bytes ≡ some s → Whole 
 unfolding parse
 parsed bytes s e = let p = if_shot (whole_record bytes) (shot bytes) s e in (passes-whole bytes p.0, p.1)
 
--- ---- from the result of question 21, as a program tests it
-pub refused_if : (bytes : List ℕ) (answer : Bool) → answer ≡ whole_record bytes → not answer ≡ true → parse bytes ≡ none
+-- ---- from the result of question 21
+pub refused : (bytes : List ℕ) → whole_record bytes ≡ false → parse bytes ≡ none
 unfolding parse
-refused_if bytes answer e n = rw (sym e ∙ not-true answer n) refl
-
-pub whole_if : (bytes : List ℕ) (answer : Bool) → answer ≡ whole_record bytes → not answer ≡ false → Whole bytes
-whole_if bytes answer e n = passes-whole bytes (subst T (sym (not-false answer n) ∙ e) tt)
+refused bytes e = rw e refl
 
 pub passed : (bytes : List ℕ) → whole_record bytes ≡ true → Whole bytes
 passed bytes e = passes-whole bytes (subst T (sym e) tt)
+
+-- the same bytes, as a parsed record has them
+pub read_as : (read bytes : List ℕ) → read ≡ bytes → whole_record bytes ≡ true → parse bytes ≡ some (shot read)
+read_as read bytes e w = rw e (parse-whole bytes (passed bytes w))
 
 pub parses-whole : (bytes : List ℕ) (s : Shot) → parse bytes ≡ some s → whole_record bytes ≡ true
 unfolding parse

@@ -1,6 +1,7 @@
 // The cells of a record: which are sampled, an iteration over them, and question 21, which covers all of them.
-ghost use Rattle.std.specs.Prelude.{◌≡◌, true, false, IfOk, IfErr, ◌+◌, ◌-◌, ◌^◌, ◌<◌, ◌≤◌, length, take, drop};
-ghost use Rattle.shot_record.specs.Fields.{sampled as sampled_at, cell_length, point_size, point_of, sample_place, cursor_at, AtCell};
+ghost use Rattle.std.specs.Prelude.{◌≡◌, ℕ, true, false, IfOk, IfErr, ◌+◌, ◌-◌, ◌^◌, ◌<◌, ◌≤◌, length, take, drop};
+ghost use Rattle.matcher.specs.Codes.{bit};
+ghost use Rattle.shot_record.specs.Fields.{is_set, cell_map, cell_length, point_size, point_of, sample_place, cursor_at, AtCell};
 ghost use Rattle.shot_record.specs.Shots.{whole_record, parse, cell_of};
 ghost use Rattle.shot_record.specs.Answers.{cell_with, grid_answer, part_answer};
 ghost use Rattle.shot_record.specs.Index.{point_word};
@@ -15,24 +16,24 @@ pub struct Cursor {
     pub start: usize,
 }
 
-// The length of a cell in bytes.
-fn cell_length(is_sampled: usize, grid_size: usize) -> usize
+// The length of a cell in bytes. Bit k of the cell map says whether cell k is sampled.
+fn cell_length(is_sampled: bool, grid_size: usize) -> usize
     requires { grid_size ≤ 2 ^ 20 }
-    ensures { result ≡ cell_length point_size is_sampled grid_size }
+    ensures { (map k : ℕ) → is_sampled ≡ is_set map k → result ≡ cell_length point_size (bit map k) grid_size }
 {
-    if is_sampled == 0 {
-        return 4;
+    if is_sampled {
+        return 9 + grid_size;
     }
-    9 + grid_size
+    4
 }
 
 impl<'a> Record<'a> {
-    // 1 for a sampled cell, else 0.
-    pub fn sampled(&self, k: usize) -> usize
+    // Is cell k sampled?
+    pub fn is_sampled(&self, k: usize) -> bool
         requires { k < self.now.fields.cell_count }
-        ensures { result ≡ sampled_at self.now.bytes.now k }
+        ensures { result ≡ is_set (cell_map self.now.bytes.now) k }
     {
-        maps::bit(self.bytes, self.fields.cell_map_at, k)
+        maps::is_set(self.bytes, self.fields.cell_map_at, k)
     }
 
     pub fn first(&self) -> Cursor
@@ -50,7 +51,7 @@ impl<'a> Record<'a> {
     {
         Cursor {
             cell: c.cell + 1,
-            start: c.start + cell_length(self.sampled(c.cell), self.fields.grid_size),
+            start: c.start + cell_length(self.is_sampled(c.cell), self.fields.grid_size),
         }
     }
 
@@ -60,7 +61,7 @@ impl<'a> Record<'a> {
         ensures { result ≡ cursor_at self.now.bytes.now k }
     {
         let mut c = self.first();
-        while c.cell < k {
+        for _ in 0..k {
             c = self.next(c);
         }
         c
@@ -121,7 +122,7 @@ impl<'a> Record<'a> {
         let point = self.point(c);
         let u = numbers::coordinate(point % 0x1_0000);
         let v = numbers::coordinate(point / 0x1_0000);
-        if self.sampled(c.cell) == 0 {
+        if !self.is_sampled(c.cell) {
             return ReadCell { u, v, sample: None };
         }
         let place = self.sample_place(c);
@@ -156,7 +157,7 @@ pub fn grid_part(bytes: &[u8], k: usize) -> Part
     if record.fields.cell_count <= k {
         return Part { first: 0, end: 0 };
     }
-    if record.sampled(k) == 0 {
+    if !record.is_sampled(k) {
         return Part { first: 0, end: 0 };
     }
     let first = record.sample_place(record.seek(k)) + 5;

@@ -1,5 +1,6 @@
 // The offsets of a record's fields, and the fields before its cells.
-ghost use Rattle.std.specs.Prelude.{◌≡◌, ◌+◌, ◌*◌, ◌^◌, ◌<◌, ◌≤◌, get_or};
+ghost use Rattle.std.specs.Prelude.{◌≡◌, ℕ, ◌+◌, ◌*◌, ◌^◌, ◌<◌, ◌≤◌, get_or};
+ghost use Rattle.matcher.specs.Codes.{bit};
 ghost use Rattle.shot_record.specs.Fields.{is_set, number, codes_at, grid_size, fields_of};
 ghost use Rattle.shot_record.specs.Shots.{setting as setting_of, shot};
 ghost use Rattle.shot_record.specs.Answers.{of_pattern, config_of, spec_of};
@@ -64,14 +65,14 @@ pub fn locate(bytes: &[u8]) -> Fields
 }
 
 // A setting of the record, or its default as the bit pattern of an f32.
-fn setting(bytes: &[u8], is_set: usize, at: usize, default: u32) -> f32
+fn setting(bytes: &[u8], is_given: bool, at: usize, default: u32) -> f32
     requires { at ≤ 2 ^ 40 }
-    ensures { result ≡ of_pattern (setting_of is_set (number 4 at bytes.now) default) }
+    ensures { (map k : ℕ) → is_given ≡ is_set map k → result ≡ of_pattern (setting_of (bit map k) (number 4 at bytes.now) default) }
 {
-    if is_set == 0 {
-        return floats::from_bits(default);
+    if is_given {
+        return numbers::float_at(bytes, at);
     }
-    numbers::float_at(bytes, at)
+    floats::from_bits(default)
 }
 
 impl Record<'_> {
@@ -82,15 +83,15 @@ impl Record<'_> {
         let bytes = self.bytes;
         let f = self.fields;
         BoardMatchConfig {
-            px_per_square: setting(bytes, numbers::bit(f.map, 2), f.px_at, 0x4270_0000),
-            alignment_min_margin: setting(bytes, numbers::bit(f.map, 0), 1, 0x3D4C_CCCD),
+            px_per_square: setting(bytes, numbers::is_set(f.map, 2), f.px_at, 0x4270_0000),
+            alignment_min_margin: setting(bytes, numbers::is_set(f.map, 0), 1, 0x3D4C_CCCD),
             cell_weight_border_threshold: setting(
                 bytes,
-                numbers::bit(f.map, 1),
+                numbers::is_set(f.map, 1),
                 f.threshold_at,
                 0x3F00_0000,
             ),
-            least_weight: setting(bytes, numbers::bit(f.map, 5), f.least_weight_at, 0),
+            least_weight: setting(bytes, numbers::is_set(f.map, 5), f.least_weight_at, 0),
         }
     }
 
@@ -104,7 +105,7 @@ impl Record<'_> {
             cols: numbers::byte_at(bytes, at + 1) as u32,
             bits: numbers::byte_at(bytes, at + 2) as u32,
             border_bits: numbers::byte_at(bytes, at + 3) as u32,
-            legacy_pattern: numbers::bit(self.fields.map, 4) != 0,
+            legacy_pattern: numbers::is_set(self.fields.map, 4),
             cell_size: numbers::float_at(bytes, at + 4),
             marker_size_rel: numbers::float_at(bytes, at + 8),
         }
@@ -114,7 +115,7 @@ impl Record<'_> {
     pub fn sets_table(&self) -> bool
         ensures { result ≡ is_set self.now.fields.map 3 }
     {
-        numbers::bit(self.fields.map, 3) != 0
+        numbers::is_set(self.fields.map, 3)
     }
 
     // An entry of the record's own table or of the built-in one.
@@ -122,11 +123,10 @@ impl Record<'_> {
         requires { k < 511 }
         ensures { result ≡ of_pattern (get_or (shot self.now.bytes.now).table k 0) }
     {
-        if !self.sets_table() {
-            let entries = table::built_in_table();
-            return entries[k];
+        if self.sets_table() {
+            return numbers::float_at(self.bytes, self.fields.table_at + 4 * k);
         }
-        numbers::float_at(self.bytes, self.fields.table_at + 4 * k)
+        table::built_in_table()[k]
     }
 
     pub fn code(&self, k: usize) -> u64

@@ -1,13 +1,13 @@
 // The index of the cells: each cell is parsed once, in one pass over the record, and a match looks it up here. Grids are not copied.
-// One array of words, three for each cell: the prover covers no reference to a list of structs, and a function takes at most eight parameters.
-ghost use Rattle.std.specs.Prelude.{◌≡◌, true, ◌+◌, ◌-◌, ◌*◌, ◌≤◌, ◌<◌, length, take, drop};
+// The array is packed by rule (fixed memory): three words, 12 bytes, for each cell; a struct of the same fields takes 16.
+ghost use Rattle.std.specs.Prelude.{◌≡◌, true, ◌*◌, ◌<◌};
 ghost use Rattle.lent_list.specs.Parts.{KeptFrom};
 ghost use Rattle.shot_record.specs.Fields.{cell_count, AtCell};
 ghost use Rattle.shot_record.specs.Shots.{whole_record, cell_of};
 ghost use Rattle.shot_record.specs.Answers.{grid_with};
 ghost use Rattle.shot_record.specs.Index.{words_of, with_words, point_in, u_in, v_in, border_in, threshold_in, Index, HasGrid};
 
-use super::cells::{Cursor, Part};
+use super::cells::Cursor;
 use super::{Record, numbers};
 
 // The words of one cell of a well-formed record.
@@ -16,7 +16,7 @@ fn words(record: &Record<'_>, c: Cursor) -> [u32; 3]
     ensures { result ≡ words_of record.now.bytes.now c.cell }
 {
     let point = record.point(c);
-    if record.sampled(c.cell) == 0 {
+    if !record.is_sampled(c.cell) {
         return [point, 0, 0];
     }
     let place = record.sample_place(c);
@@ -29,7 +29,7 @@ fn words(record: &Record<'_>, c: Cursor) -> [u32; 3]
 }
 
 fn put(index: &mut [u32; 768], k: usize, words: &[u32; 3])
-    requires { (k < 256) × (length index.old ≡ 768) }
+    requires { k < 256 }
     ensures { index.new ≡ with_words index.old k words.now }
 {
     index[3 * k] = words[0];
@@ -45,9 +45,8 @@ pub fn fill(index: &mut [u32; 768], record: &Record<'_>)
 {
     let count = record.fields.cell_count.min(256);
     let mut c = record.first();
-    while c.cell < count {
-        let words = words(record, c);
-        put(index, c.cell, &words);
+    for k in 0..count {
+        put(index, k, &words(record, c));
         c = record.next(c);
     }
 }
@@ -92,28 +91,14 @@ pub fn threshold(index: &[u32; 768], k: usize) -> u8
     (index[3 * k + 2] % 256) as u8
 }
 
-// The byte range of the grid of cell k, empty for an unsampled cell. `size` is the length of a grid.
-fn grid_part(bytes: &[u8], size: usize, index: &[u32; 768], k: usize) -> Part
-    requires { HasGrid bytes.now size index.now k }
-    ensures lies { (result.first ≤ result.end) × (result.end ≤ length bytes.now) }
-    ensures holds { take (result.end - result.first) (drop result.first bytes.now) ≡ grid_with (cell_of bytes.now k).sample }
-{
-    if index[3 * k + 2] == 0 {
-        return Part { first: 0, end: 0 };
-    }
-    let first = (index[3 * k + 2] / 256) as usize;
-    Part {
-        first,
-        end: first + size,
-    }
-}
-
+// The grid of cell k, empty for an unsampled cell. `size` is the length of a grid.
 pub fn grid<'a>(bytes: &'a [u8], size: usize, index: &[u32; 768], k: usize) -> &'a [u8]
     requires { HasGrid bytes.now size index.now k }
     ensures { result.now ≡ grid_with (cell_of bytes.now k).sample }
 {
-    let part = grid_part(bytes, size, index, k);
-    let first = part.first;
-    let end = part.end;
-    &bytes[first..end]
+    if index[3 * k + 2] == 0 {
+        return &bytes[..0];
+    }
+    let first = (index[3 * k + 2] / 256) as usize;
+    &bytes[first..first + size]
 }

@@ -17,9 +17,8 @@ pub mod numbers;
 pub mod questions;
 mod record;
 
-pub use record::Record;
-
 use board::CharucoBoardSpec;
+pub use record::Record;
 use refusal::Refusal;
 use score_matrix::BoardMatchConfig;
 
@@ -100,7 +99,5 @@ pub fn grid(bytes: &[u8], k: usize) -> &[u8]
     ensures { result.now ≡ grid_answer (parse bytes.now) k }
 {
     let part = cells::grid_part(bytes, k);
-    let first = part.first;
-    let end = part.end;
-    &bytes[first..end]
+    &bytes[part.first..part.end]
 }

@@ -1,16 +1,15 @@
 // A bitmap in a record, lowest bit first. A byte past the end of the record counts as 0.
 ghost use Rattle.std.specs.Prelude.{◌≡◌, ℕ, ◌^◌, ◌<◌, ◌≤◌, ltb};
-ghost use Rattle.matcher.specs.Codes.{bit as bit_of};
-ghost use Rattle.shot_record.specs.Fields.{map_of};
+ghost use Rattle.shot_record.specs.Fields.{map_of, is_set};
 
 use super::numbers;
 
-// Bit k of a bitmap with more than k bits.
-pub fn bit(bytes: &[u8], at: usize, k: usize) -> usize
+// Is bit k of a bitmap with more than k bits set?
+pub fn is_set(bytes: &[u8], at: usize, k: usize) -> bool
     requires { (at ≤ 2 ^ 30) × (k ≤ 2 ^ 30) }
-    ensures { (n : ℕ) → k < n → result ≡ bit_of (map_of n at bytes.now) k }
+    ensures { (n : ℕ) → k < n → result ≡ is_set (map_of n at bytes.now) k }
 {
-    numbers::bit(numbers::byte_at(bytes, at + k / 8), k % 8)
+    numbers::is_set(numbers::byte_at(bytes, at + k / 8), k % 8)
 }
 
 // Are the unused bits of a bitmap of n bits 0? All of them are in its last byte.

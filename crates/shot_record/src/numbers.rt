@@ -3,7 +3,7 @@ ghost use Rattle.std.specs.Prelude.{◌≡◌, ℕ, ◌*◌, ◌^◌, ◌<◌, �
 ghost use Rattle.std.specs.Int.{w16};
 ghost use Rattle.std.proofs.Common.{to_z};
 ghost use Rattle.matcher.specs.Codes.{bit as bit_of};
-ghost use Rattle.shot_record.specs.Fields.{byte, number};
+ghost use Rattle.shot_record.specs.Fields.{byte, number, is_set};
 ghost use Rattle.shot_record.specs.Answers.{of_pattern};
 
 pub fn byte_at(bytes: &[u8], at: usize) -> u8
@@ -25,14 +25,14 @@ fn number_at(bytes: &[u8], at: usize, n: usize) -> u64
     x
 }
 
-// 2 and 4 bytes inside the record are one expression, which the compiler makes one load. 8 bytes are twice 4.
+// 2 and 4 bytes inside the record are one load. 8 bytes are twice 4.
 pub fn two_at(bytes: &[u8], at: usize) -> u32
     requires { at ≤ 2 ^ 40 }
     ensures value { result ≡ number 2 at bytes.now }
     ensures below { result < 65536 }
 {
     if at + 1 < bytes.len() {
-        return bytes[at] as u32 + bytes[at + 1] as u32 * 0x100;
+        return u16::from_le_bytes([bytes[at], bytes[at + 1]]) as u32;
     }
     number_at(bytes, at, 2) as u32
 }
@@ -42,10 +42,7 @@ pub fn four_at(bytes: &[u8], at: usize) -> u32
     ensures { result ≡ number 4 at bytes.now }
 {
     if at + 3 < bytes.len() {
-        return bytes[at] as u32
-            + bytes[at + 1] as u32 * 0x100
-            + bytes[at + 2] as u32 * 0x1_0000
-            + bytes[at + 3] as u32 * 0x100_0000;
+        return u32::from_le_bytes([bytes[at], bytes[at + 1], bytes[at + 2], bytes[at + 3]]);
     }
     number_at(bytes, at, 4) as u32
 }
@@ -72,21 +69,26 @@ pub fn float_at(bytes: &[u8], at: usize) -> f32
     floats::from_bits(four_at(bytes, at))
 }
 
-// Two's complement: `!n` is −1 − n.
+// Two's complement.
 pub fn coordinate(x: u32) -> i16
     requires { x < 65536 }
     ensures { result ≡ to_z w16 x }
 {
-    if x < 0x8000 {
-        return x as i16;
-    }
-    !((0xFFFF - x) as i16)
+    (x as u16).cast_signed()
 }
 
+// Bit k as a number, for sums of offsets.
 pub fn bit(x: u8, k: usize) -> usize
     requires { k < 8 }
     ensures value { result ≡ bit_of x k }
     ensures below { result < 2 }
 {
     ((x >> k) % 2) as usize
+}
+
+pub fn is_set(x: u8, k: usize) -> bool
+    requires { k < 8 }
+    ensures { result ≡ is_set x k }
+{
+    bit(x, k) != 0
 }

@@ -1,6 +1,6 @@
 // A shot record with the offsets of its fields.
-ghost use Rattle.std.specs.Prelude.{◌≡◌};
-ghost use Rattle.shot_record.specs.Fields.{fields_of};
+ghost use Rattle.std.specs.Prelude.{◌≡◌, ℕ, ◌<◌};
+ghost use Rattle.shot_record.specs.Fields.{byte, fields_of};
 
 use super::fields;
 use super::fields::Fields;
@@ -10,6 +10,7 @@ pub struct Record<'a> {
     pub bytes: &'a [u8],
     pub fields: Fields,
     ghost located: { fields ≡ fields_of bytes.now },
+    ghost small: { (k : ℕ) → byte k bytes.now < 256 },
 }
 
 impl<'a> Record<'a> {

@@ -1,45 +1,40 @@
 -- `shot_record::cell` meets its contract. Assumes nothing.
-use mathlib.Core.Path.{refl, ap, ◌∙◌}
-use Prim.Native.Nat.{ℕ}
-use native.Mathlib.Omega.{arith}
-use mathlib.Core.List.{List}
-use mathlib.Core.Option.{some}
+use Rattle.std.proofs.Common.{◌≡◌, refl, ap, ◌∙◌, ℕ, List, ◌<◌, ◌≤◌, Some, Ok, arith}
+use Rattle.std.proofs.lemmas.Result.{err_from_is_err_and}
 use Rattle.shot_record.specs.declared.cells.Cursor.{Cursor}
 use Rattle.shot_record.specs.Fields.{cell_count}
 use Rattle.shot_record.specs.Shots.{cell_of}
-use Rattle.shot_record.specs.Answers.{cell_read}
+use Rattle.shot_record.specs.Answers.{cell_with}
 use Rattle.shot_record.proofs.Lists.{get_elem?_list, get_elem?_list_past}
-use Rattle.shot_record.proofs.Reading.{Found, found}
+use Rattle.shot_record.proofs.Records.{found_in}
 use Rattle.shot_record.proofs.Walks.{at-cell}
-use Rattle.shot_record.proofs.Whole.{Whole, whole_if, refused_if, parse-whole}
+use Rattle.shot_record.proofs.Whole.{refused, read_as}
 use Rattle.shot_record.proofs.cell.Goals as goal
-use Rattle.shot_record.proofs.cell.Goals.{Else-not-is_whole}
 
-is_whole : (c : Else-not-is_whole) → Whole c.args.bytes.now
-is_whole c = let w = c.is_whole in whole_if _ w.result w.ensures c.if-not-is_whole.false-raw
+pub returns-in_err-record : goal.returns-in_err-record
+returns-in_err-record c =
+    let p = err_from_is_err_and c.from_residual.result c.from_residual.ensures.1 in
+    let h = c.in_err-record.ensures.refused in
+    rw (p.1, p.2, h.0, refused _ h.1) refl
 
-pub returns-then-not-is_whole : goal.returns-then-not-is_whole
-returns-then-not-is_whole c = let w = c.is_whole in rw (refused_if _ w.result w.ensures c.if-not-is_whole.true-raw) refl
-
-module _ (e : Else-not-is_whole) where
-  abbrev bytes : List ℕ
-  bytes = e.args.bytes.now
-
-  abbrev k : ℕ
-  k = e.args.k
-
-  f : Found e.locate-f.result bytes
-  f = found _ _ e.locate-f.ensures
-
-pub returns-then-f-k : goal.returns-then-f-k
-returns-then-f-k c =
-    rw (parse-whole _ (is_whole (goal.at.returns-then-f-k c).Else-not-is_whole), get_elem?_list_past (cell_of c.args.bytes.now) (cell_count c.args.bytes.now) c.args.k (omega (arith, (f (goal.at.returns-then-f-k c).Else-not-is_whole).cell_count_is, c.if-f-k.true))) refl
+pub returns-then-record-k : goal.returns-then-record-k
+returns-then-record-k c =
+    let bytes = c.in_ok-record.record.bytes.now in
+    let h = c.in_ok-record.ensures.whole in
+    let f = found_in c.in_ok-record.record in
+    let past : cell_count bytes ≤ c.args.k = omega arith in
+    rw (read_as _ _ h.0 h.1, get_elem?_list_past (cell_of bytes) (cell_count bytes) c.args.k past) refl
 
 pub cell-requires : goal.cell-requires
 cell-requires c =
-    at-cell c.args.bytes.now _ _ c.args.k c.locate-f.ensures c.seek.ensures (omega (arith, c.if-f-k.false))
+    let r = c.in_ok-record.record in
+    at-cell r.bytes.now r.fields c.seek-at.result c.args.k r.located c.seek-at.ensures c.if-record-k.false
 
 pub returns : goal.returns
 returns c =
-    rw (parse-whole _ (is_whole (goal.at.returns c).Else-not-is_whole), get_elem?_list (cell_of c.args.bytes.now) (cell_count c.args.bytes.now) c.args.k (omega (arith, (f (goal.at.returns c).Else-not-is_whole).cell_count_is, c.if-f-k.false)))
-    (c.cell.ensures ∙ ap (λ (w : Cursor). cell_read (some (cell_of c.args.bytes.now w.cell))) c.seek.ensures)
+    let bytes = c.in_ok-record.record.bytes.now in
+    let h = c.in_ok-record.ensures.whole in
+    let f = found_in c.in_ok-record.record in
+    let inside : c.args.k < cell_count bytes = omega arith in
+    let cell = c.cell.ensures ∙ ap (λ (w : Cursor). cell_with (cell_of bytes w.cell)) c.seek-at.ensures in
+    rw (read_as _ _ h.0 h.1, get_elem?_list (cell_of bytes) (cell_count bytes) c.args.k inside) (ap (λ x. Ok (Some x)) cell)

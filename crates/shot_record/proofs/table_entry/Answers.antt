@@ -1,27 +1,28 @@
 -- `shot_record::table_entry` meets its contract. Assumes nothing.
-use mathlib.Core.Path.{refl, ap}
-use native.Mathlib.Omega.{arith}
+use Rattle.std.proofs.Common.{◌≡◌, refl, ap, ◌<◌, ◌≤◌, length, Some, Ok, arith}
+use Rattle.std.proofs.lemmas.Result.{err_from_is_err_and}
 use Rattle.shot_record.specs.Shots.{shot}
 use Rattle.shot_record.proofs.Lists.{get_elem?_inside, get_elem?_past}
 use Rattle.shot_record.proofs.Reading.{table_size}
-use Rattle.shot_record.proofs.Whole.{Whole, whole_if, refused_if, parse-whole}
+use Rattle.shot_record.proofs.Whole.{refused, read_as}
 use Rattle.shot_record.proofs.table_entry.Goals as goal
-use Rattle.shot_record.proofs.table_entry.Goals.{Else-not-is_whole}
-use Rattle.std.specs.Prelude.{Some, Ok}
 
-is_whole : (c : Else-not-is_whole) → Whole c.args.bytes.now
-is_whole c = let w = c.is_whole in whole_if _ w.result w.ensures c.if-not-is_whole.false-raw
-
-pub returns-then-not-is_whole : goal.returns-then-not-is_whole
-returns-then-not-is_whole c = let w = c.is_whole in rw (refused_if _ w.result w.ensures c.if-not-is_whole.true-raw) refl
+pub returns-in_err-record : goal.returns-in_err-record
+returns-in_err-record c =
+    let p = err_from_is_err_and c.from_residual.result c.from_residual.ensures.1 in
+    let h = c.in_err-record.ensures.refused in
+    rw (p.1, p.2, h.0, refused _ h.1) refl
 
 pub returns-then-k-gt510 : goal.returns-then-k-gt510
 returns-then-k-gt510 c =
-    let x = c.args in
-    rw (parse-whole _ (is_whole (goal.at.returns-then-k-gt510 c).Else-not-is_whole), get_elem?_past (shot x.bytes.now).table x.k (omega (arith, table_size x.bytes.now, c.if-k-gt510.true))) refl
+    let s = shot c.in_ok-record.record.bytes.now in
+    let h = c.in_ok-record.ensures.whole in
+    let past : length s.table ≤ c.args.k = omega (arith, table_size c.in_ok-record.record.bytes.now) in
+    rw (read_as _ _ h.0 h.1, get_elem?_past s.table c.args.k past) refl
 
 pub returns : goal.returns
 returns c =
-    let x = c.args in
-    rw (parse-whole _ (is_whole (goal.at.returns c).Else-not-is_whole), get_elem?_inside (shot x.bytes.now).table x.k 0 (omega (arith, table_size x.bytes.now, c.if-k-gt510.false)))
-    (ap (λ x. Ok (Some x)) c.table_entry.ensures)
+    let s = shot c.in_ok-record.record.bytes.now in
+    let h = c.in_ok-record.ensures.whole in
+    let inside : c.args.k < length s.table = omega (arith, table_size c.in_ok-record.record.bytes.now) in
+    rw (read_as _ _ h.0 h.1, get_elem?_inside s.table c.args.k 0 inside) (ap (λ x. Ok (Some x)) c.table_entry.ensures)

@@ -1,8 +1,5 @@
 -- `shot_record::bulk::codes` meets its contract. The loop's invariant: the first k elements are their codes, the others 0. Assumes nothing.
-use mathlib.Core.Path.{◌≡◌}
-use Prim.Native.Nat.{ℕ, ◌-◌, ◌≤◌, ◌<◌}
-use mathlib.Core.List.{List}
-use lib.ListN.{get_or}
+use Rattle.std.proofs.Common.{◌≡◌, ℕ, List, ◌≤◌, ◌<◌, get_or}
 use Rattle.shot_record.specs.Shots.{shot}
 use Rattle.shot_record.proofs.Filling.{Filled}
 use Rattle.shot_record.proofs.bulk.codes.Given as goal
@@ -12,7 +9,4 @@ code_of bytes k = get_or (shot bytes).codes k 0
 
 abbrev pub invariant-loop-k : goal.invariant-loop-k
 invariant-loop-k l =
-    (l.k ≤ l.count) × Filled (code_of l.bytes) 0 l.codes 512 l.k × ((i : ℕ) → l.k ≤ i → i < 512 → get_or l.codes i 0 ≡ 0)
-
-abbrev pub decreases-loop-k : goal.decreases-loop-k
-decreases-loop-k l = l.count - l.k
+    record { filled : Filled (code_of l.record.bytes.now) 0 l.codes 512 l.k; clear : (i : ℕ) → l.k ≤ i → i < 512 → get_or l.codes i 0 ≡ 0 }

@@ -1,6 +1,5 @@
--- `shot_record::bulk::put_table` meets its contract. Assumes nothing.
-use Prim.Native.Nat.{ℕ, ◌+◌, ◌-◌, ◌*◌, ◌≤◌}
-use mathlib.Core.List.{List}
+-- `shot_record::bulk::put_table` meets its contract. The loop's invariant: the first k entries are written. Assumes nothing.
+use Rattle.std.proofs.Common.{ℕ, List, ◌+◌, ◌*◌}
 use lib.Ieee.{Float, nan}
 use Rattle.shot_record.specs.Fields.{number}
 use Rattle.shot_record.specs.Answers.{of_pattern}
@@ -14,7 +13,4 @@ abbrev pub entry : List ℕ → ℕ → ℕ → Float
 entry bytes at k = of_pattern (pattern bytes at k)
 
 abbrev pub invariant-loop-k : goal.invariant-loop-k
-invariant-loop-k l = (l.k ≤ 511) × Filled (entry l.bytes l.at) nan l.entries 511 l.k
-
-abbrev pub decreases-loop-k : goal.decreases-loop-k
-decreases-loop-k l = 511 - l.k
+invariant-loop-k l = Filled (entry l.bytes l.at) nan l.entries 511 l.k

@@ -1,6 +1,5 @@
--- `shot_record::index::fill` meets its contract. The loop's invariant: the index has the words of the cells before the cursor, and the elements after
--- all cells are unchanged. Assumes nothing.
-use mathlib.Core.Path.{◌≡◌, refl, ap, ◌∙◌}
+-- `shot_record::index::fill` meets its contract. Assumes nothing.
+use mathlib.Core.Path.{◌≡◌, sym, ap, ◌∙◌}
 use mathlib.Core.Logic.{◌⊎◌, inl, inr}
 use Prim.Native.Nat.{ℕ, ◌+◌, ◌*◌, ◌≤◌, ◌<◌}
 use native.Mathlib.Nat.{eq-or-lt_of_le}
@@ -9,14 +8,14 @@ use mathlib.Core.List.{List}
 use lib.ListN.{length, get_or, set, length-set}
 use lib.Seq.{get_or-set_same, get_or-set_other}
 use Rattle.shot_record.specs.declared.cells.Cursor.{Cursor}
-use Rattle.shot_record.specs.Fields.{cell_count, AtCell}
+use Rattle.shot_record.specs.Fields.{cell_count, cursor_at, AtCell}
 use Rattle.shot_record.specs.Index.{words_of, with_words}
-use Rattle.shot_record.proofs.Reading.{found}
-use Rattle.shot_record.proofs.Walks.{arrived}
+use Rattle.shot_record.proofs.Records.{found_in}
+use Rattle.shot_record.proofs.Walks.{at-cell}
 use Rattle.shot_record.proofs.Entries.{entry_of}
 use Rattle.shot_record.proofs.index.fill.Invariants.{Words}
 use Rattle.shot_record.proofs.index.fill.Goals as goal
-use Rattle.shot_record.proofs.index.fill.Goals.{After-next-c, At-loop-c, In-loop-c, Start}
+use Rattle.shot_record.proofs.index.fill.Goals.{In-loop-k}
 
 -- an index with the words of one more cell
 module _ (bytes index words : List ℕ) (k : ℕ) (inside : k < 256) (size : length index ≡ 768)
@@ -63,64 +62,38 @@ module _ (bytes index words : List ℕ) (k : ℕ) (inside : k < 256) (size : len
             grid = other-words (3 * j + 2) (λ x y. absurd (omega arith)) ∙ old.grid;
           }
 
-  new-size : length (with_words index k words) ≡ 768
-  new-size = length-set two (3 * k + 2) (get_or words 2 0) ∙ two_size
+walk : (c : In-loop-k) → AtCell c.args.record.now.bytes.now c.args.record.now.fields c.loop-k.c
+walk c =
+    let r = c.args.record.now in
+    at-cell r.bytes.now r.fields c.loop-k.c c.loop-k.k r.located c.loop-k.invariant.cursor (omega arith)
 
-pub loop-c-init : goal.loop-c-init
-loop-c-init c =
-    let none = ap (λ (d : Cursor). d.cell) c.first-c.ensures in
-    (omega (arith, none), arrived _ _ 0 c.first-c.ensures, c.requires.2, λ j h. absurd (omega (arith, none)), λ i h. refl)
-
--- in the loop
-module _ (c : In-loop-c) where
-  abbrev bytes : List ℕ
-  bytes = c.args.bytes.now
-
-  abbrev k : ℕ
-  k = c.loop-c.c.cell
-
-  low : (k < c.args.f.cell_count) × (k < 256)
-  low = let n = c.at_most-count.ensures.least in (omega (arith, c.loop-c-test.true, n), omega (arith, c.loop-c-test.true, n))
-
-  inside : k < cell_count bytes
-  inside = omega (arith, low, (found c.args.f bytes c.requires.0).cell_count_is)
-
-  walk : AtCell bytes c.args.f c.loop-c.c
-  walk = (c.requires.0, c.loop-c.invariant.1, low.0)
-
-pub words-words-requires : goal.words-words-requires
-words-words-requires c = (walk c, c.requires.1)
-
-pub put-requires : goal.put-requires
-put-requires c = ((low (goal.at.put-requires c).In-loop-c).1, c.loop-c.invariant.2)
+pub words-requires : goal.words-requires
+words-requires c = (walk (goal.at.words-requires c).In-loop-k, c.requires)
 
 pub next-c-requires : goal.next-c-requires
-next-c-requires c = walk (goal.at.next-c-requires c).In-loop-c
+next-c-requires c = walk (goal.at.next-c-requires c).In-loop-k
 
-further : (c : After-next-c) → c.next-c.result.cell ≡ c.loop-c.c.cell + 1
-further c = ap (λ (d : Cursor). d.cell) c.next-c.ensures
-
-pub loop-c-smaller : goal.loop-c-smaller
-loop-c-smaller c = omega (arith, further c, c.loop-c-test.true)
-
-pub loop-c-preserved : goal.loop-c-preserved
-loop-c-preserved c =
-    let l = c.loop-c in
-    let found = c.words-words in (
-      omega (arith, further c, c.loop-c-test.true),
-      arrived _ _ _ c.next-c.ensures,
-      ap length c.put.ensures ∙ new-size c.args.bytes.now l.index _ c.loop-c.c.cell (low (goal.at.loop-c-preserved c).In-loop-c).1 l.invariant.2 found.ensures,
-      λ j h. rw c.put.ensures (one_more c.args.bytes.now l.index found.result c.loop-c.c.cell (low (goal.at.loop-c-preserved c).In-loop-c).1 l.invariant.2 found.ensures l.invariant.3 j (omega (arith, h, further c))),
-      λ n h. ap (λ (x : List ℕ). get_or x n 0) c.put.ensures
-          ∙ other-words c.args.bytes.now l.index found.result c.loop-c.c.cell (low (goal.at.loop-c-preserved c).In-loop-c).1 l.invariant.2 found.ensures n (λ x y. absurd (omega (arith, h, inside (goal.at.loop-c-preserved c).In-loop-c)))
-          ∙ l.invariant.4 n h,
-    )
-
-pub returns : goal.returns
-returns c =
-    let count = (found c.args.f c.args.bytes.now c.requires.0).cell_count_is in record {
-      filled = λ n h t.
-          let words = c.loop-c.invariant.3 n (omega (arith, c.loop-c-test.false, c.at_most-count.ensures.all n t (omega (arith, h, count)))) in
-          entry_of _ c.loop-c.index n (λ i. (c.type_inv.bytes i).fits) words.point words.fraction words.grid;
-      kept = c.loop-c.invariant.4;
+pub loop-k-preserved : goal.loop-k-preserved
+loop-k-preserved c =
+    let bytes = c.args.record.now.bytes.now in
+    let l = c.loop-k in
+    let k = l.k in
+    let f = found_in c.args.record.now in
+    let low : k < 256 = omega arith in
+    let size : length l.index ≡ 768 = sym (simp length-set at (ap length c.put.ensures)) ∙ c.put.array_long in
+    let cell = ap (λ (d : Cursor). d.cell) l.invariant.cursor in
+    let found : c.words.result ≡ words_of bytes k = c.words.ensures ∙ ap (words_of bytes) cell in
+    record {
+      cursor = c.next-c.ensures ∙ ap (λ (n : ℕ). cursor_at bytes (n + 1)) cell;
+      filled = λ j h. rw c.put.ensures (one_more bytes l.index c.words.result k low size found l.invariant.filled j h);
+      kept = λ n h. ap (λ (x : List ℕ). get_or x n 0) c.put.ensures
+          ∙ other-words bytes l.index c.words.result k low size found n (λ x y. absurd (omega arith))
+          ∙ l.invariant.kept n h;
     }
+
+pub returns-clause-filled : goal.returns-clause-filled
+returns-clause-filled c = λ n h t.
+    let r = c.args.record.now in
+    let f = found_in r in
+    let words = c.loop-k.invariant.filled n (omega arith) in
+    entry_of r.bytes.now c.loop-k.index n r.small words.point words.fraction words.grid

@@ -1,9 +1,6 @@
--- `shot_record::index::fill` meets its contract. The loop's invariant: the index has the words of the cells before the cursor, and the elements after
--- all cells are unchanged. Assumes nothing.
-use mathlib.Core.Path.{◌≡◌}
-use Prim.Native.Nat.{ℕ, ◌-◌, ◌*◌, ◌≤◌, ◌<◌}
-use mathlib.Core.List.{List}
-use lib.ListN.{length, get_or}
+-- `shot_record::index::fill` meets its contract. The loop's invariant: the cursor is at cell k, the index has the words of the cells before it, and the
+-- elements after all cells are unchanged. Assumes nothing.
+use Rattle.std.proofs.Common.{◌≡◌, ℕ, List, ◌*◌, ◌<◌, get_or}
 use Rattle.lent_list.specs.Parts.{KeptFrom}
 use Rattle.shot_record.specs.Fields.{cell_count, cursor_at}
 use Rattle.shot_record.specs.Index.{words_of, point_in, fraction_in, grid_in}
@@ -15,10 +12,10 @@ pub record Words (bytes index : List ℕ) (k : ℕ) : Type 0 where
   pub fraction : fraction_in index k ≡ get_or (words_of bytes k) 1 0
   pub grid : grid_in index k ≡ get_or (words_of bytes k) 2 0
 
-abbrev pub invariant-loop-c : goal.invariant-loop-c
-invariant-loop-c l =
-    (l.c.cell ≤ l.count) × (l.c ≡ cursor_at l.bytes l.c.cell) × (length l.index ≡ 768) × ((j : ℕ) → j < l.c.cell → Words l.bytes l.index j)
-    × KeptFrom 0 (3 * cell_count l.bytes) l.initial.index l.index
-
-abbrev pub decreases-loop-c : goal.decreases-loop-c
-decreases-loop-c l = l.count - l.c.cell
+abbrev pub invariant-loop-k : goal.invariant-loop-k
+invariant-loop-k l =
+    record {
+      cursor : l.c ≡ cursor_at l.record.bytes.now l.k;
+      filled : (j : ℕ) → j < l.k → Words l.record.bytes.now l.index j;
+      kept : KeptFrom 0 (3 * cell_count l.record.bytes.now) l.initial.index l.index;
+    }

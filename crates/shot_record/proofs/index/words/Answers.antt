@@ -1,15 +1,16 @@
 -- `shot_record::index::words` meets its contract. Assumes nothing.
-use mathlib.Core.Path.{◌≡◌, refl, sym, ◌∙◌}
-use mathlib.Core.List.{List, [], ◌∷◌}
-use Prim.Native.Nat.{ℕ, zero, suc, ◌+◌, ◌*◌, ◌≤◌, ◌<◌}
-use native.Mathlib.Omega.{arith}
-use Rattle.shot_record.specs.Fields.{byte, number, cell_count, sampled, Point, point_of, sample_place, threshold_from, grid_from}
+use Rattle.std.proofs.Common.{◌≡◌, refl, sym, ◌∙◌, ℕ, zero, suc, ◌+◌, ◌*◌, ◌≤◌, ◌<◌, List, [], ◌∷◌, true, false, arith}
+use Rattle.shot_record.specs.declared.record.Record.{Record}
+use Rattle.shot_record.specs.declared.cells.Cursor.{Cursor}
+use Rattle.shot_record.specs.Fields.{byte, number, is_set, cell_count, cell_map, sampled, Point, point_of, sample_place, threshold_from, grid_from, AtCell}
+use Rattle.shot_record.specs.Shots.{whole_record}
 use Rattle.shot_record.specs.Index.{point_word, words_from}
+use Rattle.shot_record.proofs.Reading.{flag_set, flag_clear}
 use Rattle.shot_record.proofs.Walks.{walk_inside, walk_start}
-use Rattle.shot_record.proofs.Whole.{Whole, passed}
+use Rattle.shot_record.proofs.Whole.{passed}
 use Rattle.shot_record.proofs.CellReads.{grid_lies}
 use Rattle.shot_record.proofs.index.words.Goals as goal
-use Rattle.shot_record.proofs.index.words.Goals.{After-sample_place-place, After-shared_slice_known-1, Else-sampled-eq0, Start}
+use Rattle.shot_record.proofs.index.words.Goals.{After-sample_place-place}
 
 without : (bytes : List ℕ) (b place : ℕ) (p : Point) (word : ℕ) → b ≡ 0 → word ≡ point_word p → word ∷ 0 ∷ 0 ∷ [] ≡ words_from p b place bytes
 without bytes b place p word e h = rw (e, h) refl
@@ -19,43 +20,34 @@ with_sample : (bytes : List ℕ) (b at place : ℕ) (p : Point) (word f t : ℕ)
 with_sample bytes zero at place p word f t h s x y z = absurd (h refl)
 with_sample bytes (suc b) at place p word f t h s x y z = rw (x, y, z, s) refl
 
-module _ (c : After-shared_slice_known-1) where
-  abbrev start : Start
-  start = c.before.before
+-- the grid of a sampled cell starts inside the record
+lies : (bytes : List ℕ) (k : ℕ) → whole_record bytes ≡ true → k < cell_count bytes → true ≡ is_set (cell_map bytes) k → grid_from (sample_place bytes k) ≤ 65535
+lies bytes k w inside e =
+    let p = passed bytes w in
+    omega (arith, grid_lies bytes p k inside (flag_set (cell_map bytes) k e refl), p.size)
 
-  abbrev bytes : List ℕ
-  bytes = c.args.bytes.now
-
-  abbrev k : ℕ
-  k = c.args.c.cell
-
-  is_whole : Whole bytes
-  is_whole = passed bytes c.requires.1
-
-  inside : k < cell_count bytes
-  inside = walk_inside bytes c.args.f c.args.c c.requires.0
-
-pub returns-then-sampled-eq0 : goal.returns-then-sampled-eq0
-returns-then-sampled-eq0 c =
-    without c.args.bytes.now (sampled c.args.bytes.now c.args.c.cell) (sample_place c.args.bytes.now c.args.c.cell) (point_of c.args.bytes.now c.args.c.cell) c.point-point.result
-    (sym c.sampled.ensures ∙ c.if-sampled-eq0.true) c.point-point.ensures
-
--- a sampled cell
-module _ (c : Else-sampled-eq0) where
-  marked : sampled c.args.bytes.now c.args.c.cell ≡ 0 → ⊥
-  marked z = c.if-sampled-eq0.false (c.sampled.ensures ∙ z)
-
-  lies : grid_from (sample_place c.args.bytes.now c.args.c.cell) ≤ 65535
-  lies = omega (arith, grid_lies c.args.bytes.now (is_whole (record { before = c.before.before.before.before; type_inv = record { bytes = c.type_inv.bytes } })) c.args.c.cell (inside (record { before = c.before.before.before.before; type_inv = record { bytes = c.type_inv.bytes } })) marked, (is_whole (record { before = c.before.before.before.before; type_inv = record { bytes = c.type_inv.bytes } })).size)
+pub returns-then-not-is_sampled : goal.returns-then-not-is_sampled
+returns-then-not-is_sampled c =
+    let bytes = c.args.record.now.bytes.now in
+    let k = c.args.c.cell in
+    without bytes (sampled bytes k) (sample_place bytes k) (point_of bytes k) c.point-point.result
+    (flag_clear (cell_map bytes) k c.is_sampled.ensures c.if-not-is_sampled.true) c.point-point.ensures
 
 pub sample_place-place-requires : goal.sample_place-place-requires
 sample_place-place-requires c =
-    let x = start (goal.at.sample_place-place-requires c).After-shared_slice_known-1 in
-    (x.requires.0, omega (arith, lies c, walk_start c.args.bytes.now x.args.f x.args.c x.requires.0))
+    let bytes = c.args.record.now.bytes.now in
+    let w = c.requires.0 in
+    let inside = walk_inside bytes _ c.args.c w in
+    let start = walk_start bytes _ c.args.c w in
+    let near = lies bytes c.args.c.cell c.requires.1 inside (sym c.if-not-is_sampled.false ∙ c.is_sampled.ensures) in
+    (w, omega arith)
 
 -- its offset is inside the record
 near : (c : After-sample_place-place) → grid_from c.sample_place-place.result ≤ 65535
-near c = omega (arith, c.sample_place-place.ensures, lies (record { before = c.before.before; type_inv = record { bytes = c.type_inv.bytes } }))
+near c =
+    let bytes = c.args.record.now.bytes.now in
+    let inside = walk_inside bytes _ c.args.c c.requires.0 in
+    omega (arith, c.sample_place-place.ensures, lies bytes c.args.c.cell c.requires.1 inside (sym c.if-not-is_sampled.false ∙ c.is_sampled.ensures))
 
 pub overflow_add-grid : goal.overflow_add-grid
 overflow_add-grid c = omega (arith, near c)
@@ -64,7 +56,7 @@ pub overflow_cast-grid : goal.overflow_cast-grid
 overflow_cast-grid c = omega (arith, near c)
 
 pub four_at-requires : goal.four_at-requires
-four_at-requires c = omega (arith, near c)
+four_at-requires c = omega (arith, near (goal.at.four_at-requires c).After-sample_place-place)
 
 pub overflow_mul-result : goal.overflow_mul-result
 overflow_mul-result c = omega (arith, near (goal.at.overflow_mul-result c).After-sample_place-place)
@@ -73,10 +65,12 @@ pub overflow_add-place : goal.overflow_add-place
 overflow_add-place c = omega (arith, near (goal.at.overflow_add-place c).After-sample_place-place)
 
 pub overflow_add-result : goal.overflow_add-result
-overflow_add-result c = omega (arith, near (goal.at.overflow_add-result c).After-sample_place-place, c.byte_at.type_inv)
+overflow_add-result c = omega (arith, near (goal.at.overflow_add-result c).After-sample_place-place)
 
 pub returns : goal.returns
 returns c =
-    with_sample c.args.bytes.now (sampled c.args.bytes.now c.args.c.cell) c.sample_place-place.result (sample_place c.args.bytes.now c.args.c.cell) (point_of c.args.bytes.now c.args.c.cell) c.point-point.result
-    c.four_at.result c.byte_at.result (marked (goal.at.returns c).Else-sampled-eq0) c.sample_place-place.ensures c.point-point.ensures c.four_at.ensures
-    c.byte_at.ensures
+    let bytes = c.args.record.now.bytes.now in
+    let k = c.args.c.cell in
+    with_sample bytes (sampled bytes k) c.sample_place-place.result (sample_place bytes k) (point_of bytes k) c.point-point.result
+    c.four_at.result c.byte_at.result (flag_set (cell_map bytes) k c.is_sampled.ensures c.if-not-is_sampled.false) c.sample_place-place.ensures
+    c.point-point.ensures c.four_at.ensures c.byte_at.ensures

@@ -1,38 +1,30 @@
--- `shot_record::fields::code` meets its contract. Assumes nothing.
-use mathlib.Core.Path.{ap, ◌∙◌}
-use Prim.Native.Nat.{ℕ, ◌+◌, ◌*◌, ◌^◌, ◌≤◌}
-use native.Mathlib.Omega.{arith}
-use mathlib.Core.List.{List}
+-- `shot_record::fields::Record::code` meets its contract. Assumes nothing.
+use Rattle.std.proofs.Common.{ℕ, ◌+◌, ◌*◌, ◌≤◌, ◌<◌, ◌^◌, ap, ◌∙◌, arith}
+use Rattle.shot_record.specs.declared.record.Record.{Record}
 use Rattle.shot_record.specs.Fields.{number, rows_at}
-use Rattle.shot_record.proofs.Reading.{Found, found, Small, head_reach, number-below}
+use Rattle.shot_record.proofs.Reading.{head_reach, number-below}
+use Rattle.shot_record.proofs.Records.{found_in}
 use Rattle.shot_record.proofs.record.Record.code.Goals as goal
-use Rattle.shot_record.proofs.record.Record.code.Goals.{After-shared_slice_known-1}
 
-module _ (c : After-shared_slice_known-1) where
-  abbrev bytes : List ℕ
-  bytes = c.args.bytes.now
-
-  f : Found c.args.f bytes
-  f = found c.args.f bytes c.requires.0
-
-  small : Small bytes
-  small i = (c.type_inv.bytes i).fits
-
-  reach : c.args.f.rows_at + 14 + 8 * c.args.k ≤ 2 ^ 20
-  reach = omega (arith, f.rows_at, f.code_count_is, c.requires.1, head_reach bytes, number-below bytes small 2 (rows_at bytes + 12))
+reach : (r : Record) (k : ℕ) → k < r.fields.code_count → r.fields.rows_at + 14 + 8 * k ≤ 2 ^ 20
+reach r k h =
+    let f = found_in r in
+    let count = number-below r.bytes.now r.small 2 (rows_at r.bytes.now + 12) in
+    omega (arith, head_reach r.bytes.now)
 
 pub returns : goal.returns
 returns c =
-    c.eight_at.ensures ∙ ap (λ (at : ℕ). number 8 (at + 14 + 8 * c.args.k) c.args.bytes.now) (f (goal.at.returns c).After-shared_slice_known-1).rows_at
-
-pub overflow_add-f : goal.overflow_add-f
-overflow_add-f c = omega (arith, reach (goal.at.overflow_add-f c).After-shared_slice_known-1)
+    let r = c.args.self.now in
+    c.eight_at.ensures ∙ ap (λ (at : ℕ). number 8 (at + 14 + 8 * c.args.k) r.bytes.now) (found_in r).rows_at
 
 pub overflow_mul-k : goal.overflow_mul-k
-overflow_mul-k c = omega (arith, reach (goal.at.overflow_mul-k c).After-shared_slice_known-1)
+overflow_mul-k c = omega (arith, reach c.args.self.now c.args.k c.requires)
 
-pub overflow_add-f-2 : goal.overflow_add-f-2
-overflow_add-f-2 c = omega (arith, reach (goal.at.overflow_add-f-2 c).After-shared_slice_known-1)
+pub overflow_add-self : goal.overflow_add-self
+overflow_add-self c = omega (arith, reach c.args.self.now c.args.k c.requires)
+
+pub overflow_add-self-2 : goal.overflow_add-self-2
+overflow_add-self-2 c = omega (arith, reach c.args.self.now c.args.k c.requires)
 
 pub eight_at-requires : goal.eight_at-requires
-eight_at-requires c = omega (arith, reach (goal.at.eight_at-requires c).After-shared_slice_known-1)
+eight_at-requires c = omega (arith, reach c.args.self.now c.args.k c.requires)

@@ -1,8 +1,5 @@
--- `shot_record::cells::point` meets its contract. Assumes nothing.
-use mathlib.Core.Path.{◌≡◌, ap, ◌∙◌}
-use Prim.Native.Nat.{ℕ, ◌+◌, ◌*◌}
-use native.Mathlib.Omega.{arith}
-use mathlib.Core.List.{List}
+-- `shot_record::cells::Record::point` meets its contract. Assumes nothing.
+use Rattle.std.proofs.Common.{◌≡◌, ℕ, List, ◌+◌, ◌*◌, ap, ◌∙◌, arith}
 use Rattle.shot_record.specs.Fields.{number}
 use Rattle.shot_record.proofs.Reading.{number_split}
 use Rattle.shot_record.proofs.Walks.{walk_start, walk_reach}
@@ -13,9 +10,10 @@ halves bytes at = omega (arith, number_split bytes 2 2 at)
 
 pub four_at-requires : goal.four_at-requires
 four_at-requires c =
-    omega (arith, walk_reach c.args.bytes.now c.args.f c.args.c c.requires (λ i. (c.type_inv.bytes i).fits))
+    let r = c.args.self.now in
+    omega (arith, walk_reach r.bytes.now r.fields c.args.c c.requires r.small)
 
 pub returns : goal.returns
 returns c =
-    let bytes = c.args.bytes.now in
-    c.four_at.ensures ∙ ap (λ (at : ℕ). number 4 at bytes) (walk_start bytes c.args.f c.args.c c.requires) ∙ halves bytes _
+    let r = c.args.self.now in
+    c.four_at.ensures ∙ ap (λ (at : ℕ). number 4 at r.bytes.now) (walk_start r.bytes.now r.fields c.args.c c.requires) ∙ halves r.bytes.now _
