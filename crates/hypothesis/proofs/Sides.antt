@@ -27,9 +27,13 @@ pub first_extremes : (f : ℕ → ℤ) (x : ℤ) → x ≡ f 0 → record { leas
 unfolding least_to greatest_to
 first_extremes f x e = λ i. record { least = e i; greatest = e i }
 
-pub next_extremes : (f : ℕ → ℤ) (n : ℕ) (e : Extremes) (x : ℤ) → e ≡ extremes_to f n → x ≡ f (n + 1) → extremes_with e x ≡ extremes_to f (n + 1)
+pub next_extremes : (f : ℕ → ℤ) (n : ℕ) (e : Extremes) (x : ℤ) → 0 < n → e ≡ extremes_to f (n - 1) → x ≡ f n → extremes_with e x ≡ extremes_to f (n + 1 - 1)
 unfolding least_to greatest_to
-next_extremes f n e x p q = let m : suc n ≡ n + 1 = omega arith in rw (p, q, sym m)
+next_extremes f zero e x h p q = absurd (omega arith)
+next_extremes f (suc n) e x h p q =
+    let before : suc n - 1 ≡ n = omega arith in
+    let after : suc n + 1 - 1 ≡ suc n = omega arith in
+    rw (p, q, before, after)
 
 -- ---- the frame
 module _ (s : Shot) where

@@ -40,14 +40,10 @@ pub fn capacity(inputs: Inputs, index: &[u32; 768], alignment: GridAlignment) ->
     requires { (inputs.cells ≤ 256) × NearAlignment alignment }
     ensures { result ≡ capacity_to inputs alignment index.now inputs.cells }
 {
-    let cells = inputs.cells;
-    let board = inputs.board;
-    let most = -score_matrix::null_score(board.bits);
+    let most = -score_matrix::null_score(inputs.board.bits);
     let mut total: f32 = 0.0;
-    let mut k = 0;
-    while k < cells {
+    for k in 0..inputs.cells {
         total = with_cell(total, most, inputs, alignment, index, k);
-        k += 1;
     }
     total
 }

@@ -1,5 +1,5 @@
 // The sums of all placements of one turn, over the cells in record order, with scores computed from the cells' grids.
-ghost use Rattle.std.specs.Prelude.{◌≡◌, true, ◌*◌, ◌<◌, ◌≤◌, length};
+ghost use Rattle.std.specs.Prelude.{◌≡◌, true, ◌*◌, ◌<◌, ◌≤◌};
 ghost use Rattle.std.specs.Float.{nan};
 ghost use Rattle.std.specs.Float.Ieee.{lt};
 ghost use Rattle.floats.specs.Units.{nought};
@@ -22,8 +22,7 @@ use shot_record::index;
 // What each bit of a code adds to the scores of a cell with weight above 0.
 fn likelihoods(adds: &mut [f32; 128], loaded: &LoadedShot<'_>, k: usize, weight: f32)
     requires { (k < cell_total (shot loaded.now.bytes.now)) × (weight ≡ weight_of (shot loaded.now.bytes.now) k)
-        × (length adds.old ≡ 128) }
-    ensures size { length adds.new ≡ 128 }
+ }
     ensures holds { lt nought weight ≡ true → HoldsLikelihoods (table_of (shot loaded.now.bytes.now))
         (samples_of (shot loaded.now.bytes.now) k) (loaded.now.inputs.board.bits * loaded.now.inputs.board.bits) adds.new }
     ensures rest { KeptFrom nan (2 * (loaded.now.inputs.board.bits * loaded.now.inputs.board.bits)) adds.old adds.new }
@@ -49,7 +48,7 @@ fn add_counted(
     codes: &[u64; 512],
 ) -> Contributing
     requires { Stays cell t.across t.down × Small (cell.board.bits * cell.board.bits) sources.now × (t.across * t.down ≤ 1024)
-        × (length sums.old ≡ 1024) × (contributing.even < 256) × (contributing.odd < 256) }
+        × (contributing.even < 256) × (contributing.odd < 256) }
     ensures { Counts cell (code_score cell.board.bits adds.now sources.now codes.now) t.across t.down
         sums.old sums.new contributing result }
 {
@@ -62,9 +61,8 @@ fn add_counted(
 
 // The sums of a turn over all cells in order, and the counts of contributing cells. A turn without moves has no placement.
 pub fn fill(sums: &mut [f32; 1024], loaded: &LoadedShot<'_>, t: Turn) -> Contributing
-    requires { (t ≡ turn_of (shot loaded.now.bytes.now) t.turn) × (length sums.old ≡ 1024) }
-    ensures size { length sums.new ≡ 1024 }
-    ensures summed { Summed (shot loaded.now.bytes.now) t.turn sums.new result }
+    requires { t ≡ turn_of (shot loaded.now.bytes.now) t.turn }
+    ensures { Summed (shot loaded.now.bytes.now) t.turn sums.new result }
 {
     let mut contributing = Contributing { even: 0, odd: 0 };
     let moves = t.across * t.down;

@@ -55,9 +55,7 @@ pub fn cell_sides(index: &[u32; 768], cells: usize) -> Sides
         least: first_v,
         greatest: first_v,
     };
-    let mut k = 0;
-    while k + 1 < cells {
-        k += 1;
+    for k in 1..cells {
         u = extremes_with(u, index::u(index, k));
         v = extremes_with(v, index::v(index, k));
     }

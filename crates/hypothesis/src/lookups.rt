@@ -1,6 +1,6 @@
 // The search by look-up (document 02, 2.6): the scores are in an array, so that it takes no record, table or codes. Its contracts require that
 // some shot has these inputs, index and scores, and state the result for every such shot.
-ghost use Rattle.std.specs.Prelude.{◌≡◌, true, ℕ, ◌+◌, ◌*◌, ◌<◌, ◌≤◌, length, get_or};
+ghost use Rattle.std.specs.Prelude.{◌≡◌, true, ℕ, ◌+◌, ◌*◌, ◌<◌, ◌≤◌, get_or};
 ghost use Rattle.std.specs.Float.{nan};
 ghost use Rattle.shot_record.specs.Shots.{Shot};
 ghost use Rattle.hypothesis.specs.Search.{enumerate};
@@ -34,9 +34,8 @@ fn add_cell(
     scores: &[f32],
     first: usize,
 )
-    requires { Stays cell across down × (across * down ≤ 1024) × (length sums.old ≡ 1024) × InScores cell.board first scores.now }
-    ensures size { length sums.new ≡ 1024 }
-    ensures added { Added cell (λ (m : ℕ). get_or scores.now (first + 4 * m) nan) across down sums.old sums.new }
+    requires { Stays cell across down × (across * down ≤ 1024) × InScores cell.board first scores.now }
+    ensures { Added cell (λ (m : ℕ). get_or scores.now (first + 4 * m) nan) across down sums.old sums.new }
 {
     let mut at = sums::first_move(cell, down);
     while at.a < across {
@@ -55,8 +54,7 @@ fn add_counted(
     scores: &[f32],
     first: usize,
 ) -> Contributing
-    requires { Stays cell t.across t.down × (t.across * t.down ≤ 1024) × (length sums.old ≡ 1024)
-        × InScores cell.board first scores.now × (contributing.even < 256) × (contributing.odd < 256) }
+    requires { Stays cell t.across t.down × (t.across * t.down ≤ 1024) × InScores cell.board first scores.now × (contributing.even < 256) × (contributing.odd < 256) }
     ensures { Counts cell (λ (m : ℕ). get_or scores.now (first + 4 * m) nan) t.across t.down
         sums.old sums.new contributing result }
 {
@@ -75,10 +73,8 @@ fn fill(
     scores: &[f32],
     t: Turn,
 ) -> Contributing
-    requires scored { (s : Shot) × Scored s inputs index.now scores.now × (t ≡ turn_of s t.turn) × (t.turn < 4) }
-    requires sums_len { length sums.old ≡ 1024 }
-    ensures size { length sums.new ≡ 1024 }
-    ensures summed { (s : Shot) → Scored s inputs index.now scores.now → t ≡ turn_of s t.turn
+    requires { (s : Shot) × Scored s inputs index.now scores.now × (t ≡ turn_of s t.turn) × (t.turn < 4) }
+    ensures { (s : Shot) → Scored s inputs index.now scores.now → t ≡ turn_of s t.turn
         → Summed s t.turn sums.new result }
 {
     let mut contributing = Contributing { even: 0, odd: 0 };
@@ -88,13 +84,10 @@ fn fill(
     }
     sums::clear(sums, moves);
     let markers = inputs.board.marker_count() as usize;
-    let cells = inputs.cells;
-    let mut k = 0;
-    while k < cells {
+    for k in 0..inputs.cells {
         let cell = counting::counted(inputs, t, index, k);
         let first = 4 * (k * markers) + t.turn as usize;
         contributing = add_counted(sums, contributing, cell, t, scores, first);
-        k += 1;
     }
     contributing
 }

@@ -1,7 +1,7 @@
 // The sums of all placements of one turn, cell by cell, so that the likelihoods of a cell's bits are looked up once for all of them. With d moves
 // down, the placement whose frame is moved by (a, b) has its sum at index a d + b. A cell changes only the sums of moves that put it on a marker;
 // these are processed eight at a time.
-ghost use Rattle.std.specs.Prelude.{◌≡◌, List, ℕ, ◌+◌, ◌*◌, ◌<◌, ◌≤◌, length, get_or, Float};
+ghost use Rattle.std.specs.Prelude.{◌≡◌, List, ℕ, ◌+◌, ◌*◌, ◌<◌, ◌≤◌, get_or, Float};
 ghost use Rattle.std.specs.Float.{nan};
 ghost use Rattle.score_matrix.specs.Likelihoods.{lane_code};
 ghost use Rattle.hypothesis.specs.Sums.{with_score, Added, Stays, order, OnMarker, FirstMove, next_move, AddedBefore};
@@ -30,13 +30,11 @@ pub struct Move {
 
 // Sets the first `count` sums to 0.
 pub fn clear(sums: &mut [f32; 1024], count: usize)
-    requires { (count ≤ 1024) × (length sums.old ≡ 1024) }
+    requires { count ≤ 1024 }
     ensures { Cleared count sums.new }
 {
-    let mut k = 0;
-    while k < count {
+    for k in 0..count {
         sums[k] = 0.0;
-        k += 1;
     }
 }
 
@@ -110,14 +108,12 @@ fn gather(cell: Counted, first: Move, across: usize, down: usize, codes: &[u64; 
 {
     let mut lanes: [u32; 16] = [0; 16];
     let mut at = first;
-    let mut x = 0;
-    while x < 8 {
+    for x in 0..8 {
         if across <= at.a {
             break;
         }
         put_code(&mut lanes, x, code_after(codes, cell, at));
         at = next_move(down, at);
-        x += 1;
     }
     lanes
 }
@@ -139,14 +135,12 @@ fn add_eight(
         → AddedBefore cell score across down (order result) entry sums.new }
 {
     let mut at = first;
-    let mut x = 0;
-    while x < 8 {
+    for x in 0..8 {
         if across <= at.a {
             break;
         }
         add_score(sums, cell, at, down, scores[x]);
         at = next_move(down, at);
-        x += 1;
     }
     at
 }
@@ -161,9 +155,8 @@ pub fn add_cell(
     sources: &[u8; 64],
     codes: &[u64; 512],
 )
-    requires { Stays cell across down × Small (cell.board.bits * cell.board.bits) sources.now × (across * down ≤ 1024) × (length sums.old ≡ 1024) }
-    ensures size { length sums.new ≡ 1024 }
-    ensures added { Added cell (code_score cell.board.bits likelihoods.now sources.now codes.now) across down
+    requires { Stays cell across down × Small (cell.board.bits * cell.board.bits) sources.now × (across * down ≤ 1024) }
+    ensures { Added cell (code_score cell.board.bits likelihoods.now sources.now codes.now) across down
         sums.old sums.new }
 {
     let mut at = first_move(cell, down);

@@ -94,15 +94,13 @@ fn next_change(
 {
     let best = held.best;
     let runner_up = held.runner_up;
-    let mut b = from;
-    while b < down {
+    for b in from..down {
         let evidence = placement_sum(sums, contributing, down, a, b);
         if !ranking::changes_nothing(best, runner_up, evidence) {
-            break;
+            return b;
         }
-        b += 1;
     }
-    b
+    down
 }
 
 // Ranks the placements of column `a`.
@@ -140,12 +138,9 @@ pub fn rank_turn(
     requires { (t.across ≤ 32) × SmallTurn t × (ranking.total ≤ 3072) }
     ensures { result ≡ ranked_turn ranking sums.now contributing t t.across }
 {
-    let across = t.across;
     let mut held = ranking;
-    let mut a = 0;
-    while a < across {
+    for a in 0..t.across {
         held = rank_column(held, sums, contributing, t, a);
-        a += 1;
     }
     held
 }

@@ -10,13 +10,10 @@ use Rattle.hypothesis.proofs.capacity.capacity.Goals as goal
 
 pub loop-k-init : goal.loop-k-init
 unfolding capacity_to of_bits of_fields odd
-loop-k-init c = (omega arith, refl)
+loop-k-init c = refl
 
 pub with_cell-total-requires : goal.with_cell-total-requires
 with_cell-total-requires c = (c.requires.1, omega (arith, c.loop-k-test.true, c.requires.0))
-
-pub overflow_add-k : goal.overflow_add-k
-overflow_add-k c = record { fits = omega (arith, c.loop-k-test.true, c.requires.0) }
 
 pub loop-k-preserved : goal.loop-k-preserved
 unfolding capacity_to
@@ -24,19 +21,13 @@ loop-k-preserved c =
     let l = c.loop-k in
     let x = c.args in
     let n = c.null_score-most in
-    let next : suc l.k ≡ l.k + 1 = omega arith in (
-      omega (arith, c.loop-k-test.true),
-      c.with_cell-total.ensures
-          ∙ ap (λ (y : Float). with_cell l.total y x.inputs x.alignment x.index.now l.k) (ap (λ (y : Float). neg y) n.ensures)
-          ∙ ap (λ (y : Float). with_cell y (neg (null_score x.inputs.board.bits)) x.inputs x.alignment x.index.now l.k) l.invariant.1
-          ∙ ap (capacity_to x.inputs x.alignment x.index.now) next,
-    )
+    let next : suc l.k ≡ l.k + 1 = omega arith in
+    c.with_cell-total.ensures
+    ∙ ap (λ (y : Float). with_cell l.total y x.inputs x.alignment x.index.now l.k) (ap (λ (y : Float). neg y) n.ensures)
+    ∙ ap (λ (y : Float). with_cell y (neg (null_score x.inputs.board.bits)) x.inputs x.alignment x.index.now l.k) l.invariant
+    ∙ ap (capacity_to x.inputs x.alignment x.index.now) next
 
 pub returns : goal.returns
 returns c =
-    let l = c.loop-k in
     let x = c.args in
-    l.invariant.1 ∙ ap (capacity_to x.inputs x.alignment x.index.now) (le_antisymm l.invariant.0 (omega (arith, c.loop-k-test.false)))
-
-pub loop-k-smaller : goal.loop-k-smaller
-loop-k-smaller c = omega (arith, c.loop-k-test.true)
+    c.loop-k.invariant ∙ ap (capacity_to x.inputs x.alignment x.index.now) (le_antisymm c.loop-k.auto.k-end (omega (arith, c.loop-k-test.false)))

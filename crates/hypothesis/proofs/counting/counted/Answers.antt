@@ -54,12 +54,6 @@ module _ (c : After-turned-p) where
   tv : (word c.args.t.v ≡ c.args.t.v) × (nat_abs (word c.args.t.v) ≤ 2 ^ 29)
   tv = read_small c.args.t.v c.args.t.v refl c.requires.3
 
-pub distance-requires : goal.distance-requires
-distance-requires c = ((u (goal.at.distance-requires c).After-turned-p).1, (tu (goal.at.distance-requires c).After-turned-p).1)
-
-pub distance-requires-2 : goal.distance-requires-2
-distance-requires-2 c = ((v (goal.at.distance-requires-2 c).After-turned-p).1, (tv (goal.at.distance-requires-2 c).After-turned-p).1)
-
 -- from its parts
 all : (i₀ : Inputs) (t : Turn) (index : List ℕ) (k : ℕ) (w null : Float) (i j p q : ℤ) (m n : ℕ) (r : Coord) → r ≡ sends t.turn (point (u_in index k) (v_in index k))
     → p ≡ r.u → q ≡ r.v → i ≡ t.u → j ≡ t.v → m ≡ nat_abs (p -ℤ i) → n ≡ nat_abs (q -ℤ j) → w ≡ weight i₀.config (border_in index k)
@@ -74,8 +68,8 @@ pub returns : goal.returns
 returns c =
     let x = c.args in
     all x.inputs x.t c.args.index.now x.k c.cell_weight.result c.null_score.result (word x.t.u) (word x.t.v) (word c.turned-p.result.u)
-    (word c.turned-p.result.v) c.distance.result c.distance-2.result (to (goal.at.returns c).After-turned-p) refl (u (goal.at.returns c).After-turned-p).0 (v (goal.at.returns c).After-turned-p).0 (tu (goal.at.returns c).After-turned-p).0 (tv (goal.at.returns c).After-turned-p).0 c.distance.ensures
-    c.distance-2.ensures (c.cell_weight.ensures ∙ ap (weight x.inputs.config) c.border.ensures) c.null_score.ensures
+    (word c.turned-p.result.v) c.abs_diff.result c.abs_diff-2.result (to (goal.at.returns c).After-turned-p) refl (u (goal.at.returns c).After-turned-p).0 (v (goal.at.returns c).After-turned-p).0 (tu (goal.at.returns c).After-turned-p).0 (tv (goal.at.returns c).After-turned-p).0 c.abs_diff.ensures
+    c.abs_diff-2.ensures (c.cell_weight.ensures ∙ ap (weight x.inputs.config) c.border.ensures) c.null_score.ensures
 
 pub border-requires : goal.border-requires
 border-requires c = c.requires.4

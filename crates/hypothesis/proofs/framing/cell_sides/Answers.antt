@@ -11,7 +11,7 @@ use Rattle.shot_record.specs.Index.{u_in, v_in}
 use Rattle.hypothesis.specs.Extremes.{extremes_to}
 use Rattle.hypothesis.proofs.Sides.{first_extremes, next_extremes}
 use Rattle.hypothesis.proofs.framing.cell_sides.Goals as goal
-use Rattle.hypothesis.proofs.framing.cell_sides.Goals.{In-loop-k, Start}
+use Rattle.hypothesis.proofs.framing.cell_sides.Goals.{In-loop-k}
 
 -- a looked_up coordinate is the cell's
 looked_up : (z x : ℤ) → mag z < 2 ^ 15 → z ≡ x → half z ≡ x
@@ -23,29 +23,15 @@ loop-k-init c =
     let g = v_in c.args.index.now in
     let u = c.u-first_u in
     let v = c.v-first_v in (
-      c.requires.0,
       first_extremes f (half u.result) (looked_up u.result _ u.type_inv u.ensures),
       first_extremes g (half v.result) (looked_up v.result _ v.type_inv v.ensures),
     )
-
-module _ (c : In-loop-k) where
-  abbrev k : ℕ
-  k = c.loop-k.k
 
 pub u-requires : goal.u-requires
 u-requires c = omega (arith, c.loop-k-test.true, c.requires.1)
 
 pub v-requires : goal.v-requires
 v-requires c = omega (arith, c.loop-k-test.true, c.requires.1)
-
-pub overflow_add-k : goal.overflow_add-k
-overflow_add-k c = record { fits = omega (arith, c.loop-k.invariant.0, c.requires.1) }
-
-pub overflow_add-k-in-loop-k : goal.overflow_add-k-in-loop-k
-overflow_add-k-in-loop-k c = record { fits = omega (arith, c.loop-k-test.true, c.requires.1) }
-
-pub loop-k-smaller : goal.loop-k-smaller
-loop-k-smaller c = omega (arith, c.loop-k-test.true)
 
 pub loop-k-preserved : goal.loop-k-preserved
 loop-k-preserved c =
@@ -54,16 +40,15 @@ loop-k-preserved c =
     let i = c.loop-k.invariant in
     let u = c.u in
     let v = c.v in (
-      c.loop-k-test.true,
-      c.extremes_with-u.ensures ∙ next_extremes f c.loop-k.k _ _ i.1 (looked_up u.result _ u.type_inv u.ensures),
-      c.extremes_with-v.ensures ∙ next_extremes g c.loop-k.k _ _ i.2 (looked_up v.result _ v.type_inv v.ensures),
+      c.extremes_with-u.ensures ∙ next_extremes f c.loop-k.k _ _ c.loop-k.auto.k i.0 (looked_up u.result _ u.type_inv u.ensures),
+      c.extremes_with-v.ensures ∙ next_extremes g c.loop-k.k _ _ c.loop-k.auto.k i.1 (looked_up v.result _ v.type_inv v.ensures),
     )
 
 pub returns : goal.returns
 returns c =
     let l = c.loop-k in
-    let last : l.k ≡ c.args.cells - 1 = omega (arith, l.invariant.0, c.loop-k-test.false) in
+    let last : l.k ≡ c.args.cells = omega (arith, c.loop-k-test.false, c.requires.0) in
     λ i. record {
-      u = (l.invariant.1 ∙ ap (extremes_to (u_in c.args.index.now)) last) i;
-      v = (l.invariant.2 ∙ ap (extremes_to (v_in c.args.index.now)) last) i;
+      u = (l.invariant.0 ∙ ap (λ (n : ℕ). extremes_to (u_in c.args.index.now) (n - 1)) last) i;
+      v = (l.invariant.1 ∙ ap (λ (n : ℕ). extremes_to (v_in c.args.index.now) (n - 1)) last) i;
     }

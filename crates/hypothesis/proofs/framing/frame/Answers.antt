@@ -12,6 +12,9 @@ use Rattle.integers.proofs.Words.{word, word-is, half, read_back}
 use Rattle.grid_alignment.specs.declared.Coord.{Coord}
 use Rattle.grid_alignment.specs.Alignment.{point, sends}
 use Rattle.grid_alignment.proofs.Entries.{sends-small}
+use Rattle.std.specs.Int.{int_min}
+use Rattle.std.proofs.lemmas.Int.{ints}
+use Rattle.integers.specs.Least.{lesser}
 use Rattle.hypothesis.specs.Extremes.{frame_between}
 use Rattle.hypothesis.proofs.framing.frame.Goals as goal
 use Rattle.hypothesis.proofs.framing.frame.Goals.{After-turned-q, Start}
@@ -53,30 +56,28 @@ module _ (c : After-turned-q) where
   q =
       corner c.args.turn c.args.sides.u.greatest c.args.sides.v.greatest second (omega arith) (omega arith) c.turned-q.ensures
 
-pub distance-requires : goal.distance-requires
-distance-requires c = (omega (arith, (q (goal.at.distance-requires c).After-turned-q).near-u), omega (arith, (p (goal.at.distance-requires c).After-turned-q).near-u))
-
 pub overflow_add-result : goal.overflow_add-result
 overflow_add-result c =
-    fits (word c.turned-q.result.u) (word c.turned-p.result.u) c.distance.result (q (goal.at.overflow_add-result c).After-turned-q).near-u (p (goal.at.overflow_add-result c).After-turned-q).near-u c.distance.ensures
-
-pub distance-requires-2 : goal.distance-requires-2
-distance-requires-2 c =
-    (omega (arith, (q (goal.at.distance-requires-2 c).After-turned-q).near-v), omega (arith, (p (goal.at.distance-requires-2 c).After-turned-q).near-v))
+    fits (word c.turned-q.result.u) (word c.turned-p.result.u) c.abs_diff.result (q (goal.at.overflow_add-result c).After-turned-q).near-u (p (goal.at.overflow_add-result c).After-turned-q).near-u c.abs_diff.ensures
 
 pub overflow_add-result-2 : goal.overflow_add-result-2
 overflow_add-result-2 c =
-    fits (word c.turned-q.result.v) (word c.turned-p.result.v) c.distance-2.result (q (goal.at.overflow_add-result-2 c).After-turned-q).near-v (p (goal.at.overflow_add-result-2 c).After-turned-q).near-v c.distance-2.ensures
+    fits (word c.turned-q.result.v) (word c.turned-p.result.v) c.abs_diff-2.result (q (goal.at.overflow_add-result-2 c).After-turned-q).near-v (p (goal.at.overflow_add-result-2 c).After-turned-q).near-v c.abs_diff-2.ensures
+
+-- std's minimum compares by `<`, that of the contract by `≤`
+least_is : (x y : ℤ) → int_min x y ≡ lesser x y
+least_is x y = grind (arith, ints)
 
 pub returns : goal.returns
 returns c =
     let u = c.min in
     let v = c.min-2 in
-    let width = c.distance.ensures in
+    let width = c.abs_diff.ensures in
+    let b = (goal.at.returns c).After-turned-q in
     (λ i. record {
-      u = (read_back u.result u.type_inv ∙ u.ensures) i;
-      v = (read_back v.result v.type_inv ∙ v.ensures) i;
+      u = (read_back u.result u.type_inv ∙ u.ensures.value ∙ least_is (word (first b).u) (word (second b).u)) i;
+      v = (read_back v.result v.type_inv ∙ v.ensures.value ∙ least_is (word (first b).v) (word (second b).v)) i;
       width = width i + 1;
-      height = c.distance-2.ensures i + 1;
+      height = c.abs_diff-2.ensures i + 1;
     })
-    ∙ (λ i. frame_between (point ((p (goal.at.returns c).After-turned-q).u i) ((p (goal.at.returns c).After-turned-q).v i)) (point ((q (goal.at.returns c).After-turned-q).u i) ((q (goal.at.returns c).After-turned-q).v i)))
+    ∙ (λ i. frame_between (point ((p b).u i) ((p b).v i)) (point ((q b).u i) ((q b).v i)))

@@ -15,14 +15,14 @@ score scores first m = get_or scores (first + 4 * m) nan
 pub loop-at-init : goal.loop-at-init
 loop-at-init c =
     let x = c.args in
-    begun x.cell x.across x.down c.requires.0 (score x.scores.now x.first) x.sums.now c.requires.2 c.first_move-at.result c.first_move-at.ensures
+    begun x.cell x.across x.down c.requires.0 (score x.scores.now x.first) x.sums.now (omega arith) c.first_move-at.result c.first_move-at.ensures
 
 pub score_after-score-requires : goal.score_after-score-requires
 score_after-score-requires c =
     let p = c.requires in
     let stays = p.0 in
     let here = c.loop-at.invariant.0 in
-    (stays.cols, stays.rows, omega (arith, stays.wide, c.loop-at-test.true), omega (arith, stays.high, here.row), here.on, p.3)
+    (stays.cols, stays.rows, omega (arith, stays.wide, c.loop-at-test.true), omega (arith, stays.high, here.row), here.on, p.2)
 
 pub add_score-requires : goal.add_score-requires
 add_score-requires c =
@@ -49,10 +49,7 @@ loop-at-smaller c =
     omega (arith, (next (goal.at.loop-at-smaller c).After-next_move-at).later, c.loop-at-test.true, c.loop-at.invariant.0.row, stays.high, stays.rows)
 
 pub returns : goal.returns
-returns c = let i = c.loop-at.invariant.1 in record {
-  size = i.size;
-  added = λ a b l m. i.done a b l m (omega (arith, l, c.loop-at-test.false));
-}
+returns c a b l m = c.loop-at.invariant.1.done a b l m (omega (arith, l, c.loop-at-test.false))
 
 pub loop-at-preserved : goal.loop-at-preserved
 loop-at-preserved c = ((next (goal.at.loop-at-preserved c).After-next_move-at).there, (next (goal.at.loop-at-preserved c).After-next_move-at).sums)

@@ -1,7 +1,6 @@
 -- `hypothesis::lookups::fill` meets its contract. The loop's invariant: the sums are those of the first k cells, of every shot whose scores the array
 -- has. Assumes nothing.
 use mathlib.Core.Path.{◌≡◌}
-use Prim.Native.Nat.{◌-◌, ◌≤◌}
 use Rattle.shot_record.specs.Shots.{Shot}
 use Rattle.hypothesis.specs.Turns.{turn_of}
 use Rattle.hypothesis.specs.Filling.{SumsTo}
@@ -10,7 +9,4 @@ use Rattle.hypothesis.proofs.lookups.fill.Given as goal
 
 abbrev pub invariant-loop-k : goal.invariant-loop-k
 invariant-loop-k l =
-    (l.k ≤ l.cells) × ((s : Shot) → Scored s l.inputs l.index l.scores → l.t ≡ turn_of s l.t.turn → SumsTo s l.t.turn l.k l.sums l.contributing)
-
-abbrev pub decreases-loop-k : goal.decreases-loop-k
-decreases-loop-k l = l.cells - l.k
+    (s : Shot) → Scored s l.inputs l.index l.scores → l.t ≡ turn_of s l.t.turn → SumsTo s l.t.turn l.k l.sums l.contributing

@@ -16,7 +16,7 @@ scores c = let x = c.args in code_score x.cell.board.bits x.likelihoods.now x.so
 pub loop-at-init : goal.loop-at-init
 loop-at-init c =
     let x = c.args in
-    begun x.cell x.across x.down c.requires.0 (scores (goal.at.loop-at-init c).Start) x.sums.now c.requires.3 c.first_move-at.result c.first_move-at.ensures
+    begun x.cell x.across x.down c.requires.0 (scores (goal.at.loop-at-init c).Start) x.sums.now (omega arith) c.first_move-at.result c.first_move-at.ensures
 
 pub loop-at-preserved : goal.loop-at-preserved
 loop-at-preserved c =
@@ -33,7 +33,4 @@ loop-at-preserved c =
     )
 
 pub returns : goal.returns
-returns c = let i = c.loop-at.invariant.1 in record {
-  size = i.size;
-  added = λ a b l m. i.done a b l m (omega (arith, l, c.loop-at-test.false));
-}
+returns c a b l m = c.loop-at.invariant.1.done a b l m (omega (arith, l, c.loop-at-test.false))

