@@ -1,6 +1,6 @@
 -- `board_match::load` meets its contract. Assumes nothing.
 use mathlib.Core.Path.{◌≡◌, refl, sym, ap, subst, ◌∙◌}
-use mathlib.Core.Bool.{true, false}
+use mathlib.Core.Bool.{true}
 use mathlib.Core.List.{List, map}
 use mathlib.Core.Option.{Option as Maybe, none}
 use Prim.Native.Nat.{ℕ}
@@ -11,7 +11,7 @@ use Rattle.shot_record.specs.Shots.{Shot, first_codes, shot, whole_record}
 use Rattle.shot_record.specs.Answers.{of_pattern}
 use Rattle.shot_record.specs.Index.{Index}
 use Rattle.shot_record.proofs.Reading.{Small}
-use Rattle.shot_record.proofs.Whole.{passed, parse-whole, refused_if}
+use Rattle.shot_record.proofs.Whole.{passed, parse-whole, refused}
 use Rattle.hypothesis.specs.declared.Inputs.{Inputs}
 use Rattle.hypothesis.specs.Inputs.{Loaded}
 use Rattle.board_match.specs.Questions.{asked_before15, after_record, asked_with}
@@ -27,7 +27,7 @@ returns-in_err-record-clause-refused c =
     let p = err_from_is_err_and c.from_residual.result c.from_residual.ensures.1 in
     let e = c.in_err-record.ensures.refused in
     let bytes = c.args.bytes.now in
-    rw (p.1, p.2, e.0) (ap (λ (o : Maybe Shot). after_record o c.args.words) (refused_if bytes false (sym e.1) refl))
+    rw (p.1, p.2, e.0) (ap (λ (o : Maybe Shot). after_record o c.args.words) (refused bytes e.1))
 
 -- the questions after it
 pub returns-in_err-inputs-clause-refused : goal.returns-in_err-inputs-clause-refused
@@ -36,8 +36,8 @@ returns-in_err-inputs-clause-refused c =
     let w = c.in_ok-record.ensures.whole in
     let bytes = c.args.bytes.now in
     let words = c.args.words in
-    let refused = subst (λ (b : List ℕ). Err c.in_err-inputs.field-0.0 ≡ asked_with (asked_before15 (shot b) words) (shot b)) w.0 c.in_err-inputs.ensures in
-    rw (p.1, p.2) (ap (λ (o : Maybe Shot). after_record o words) (parse-whole bytes (passed bytes w.1)) ∙ told-refused (shot bytes) words _ refused)
+    let answer = subst (λ (b : List ℕ). Err c.in_err-inputs.field-0.0 ≡ asked_with (asked_before15 (shot b) words) (shot b)) w.0 c.in_err-inputs.ensures in
+    rw (p.1, p.2) (ap (λ (o : Maybe Shot). after_record o words) (parse-whole bytes (passed bytes w.1)) ∙ told-refused (shot bytes) words _ answer)
 
 -- what was read
 module _ (words : ℕ) (i : Inputs) (index : List ℕ) (table : List Float) (codes : List ℕ) where
