@@ -22,18 +22,18 @@ use Rattle.std.specs.Prelude.{Result, Ok, Err}
 
 nothing_refused : (o : Maybe Refusal) → Ok tt ≡ told_answer o → o ≡ none
 nothing_refused none e = refl
-nothing_refused (some r) e = let z : ◌≡◌ {A = ℕ} 0 1 = cc in absurd (omega arith)
+nothing_refused (some r) e = absurd (grind arith)
 
 that_refused : (o : Maybe Refusal) (r : Refusal) → Err r ≡ told_answer o → o ≡ some r
-that_refused none r e = let z : ◌≡◌ {A = ℕ} 0 1 = cc in absurd (omega arith)
+that_refused none r e = absurd (grind arith)
 that_refused (some q) r e = cc
 
 passed_if : (o : Maybe Refusal) (t : Shot) (i : Inputs) → asked_with o t ≡ Ok i → (o ≡ none) × (i ≡ inputs_of t)
 passed_if none t i e = (refl, cc)
-passed_if (some r) t i e = let z : ◌≡◌ {A = ℕ} 0 1 = cc in absurd (omega arith)
+passed_if (some r) t i e = absurd (grind arith)
 
 refused_if : (o : Maybe Refusal) (t : Shot) (r : Refusal) → asked_with o t ≡ Err r → o ≡ some r
-refused_if none t r e = let z : ◌≡◌ {A = ℕ} 0 1 = cc in absurd (omega arith)
+refused_if none t r e = absurd (grind arith)
 refused_if (some q) t r e = cc
 
 same_inputs : {m n g h : ℕ} {b d : Board} {c e : BoardMatchConfig} → m ≡ n → g ≡ h → b ≡ d → c ≡ e
