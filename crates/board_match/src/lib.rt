@@ -2,12 +2,12 @@
 
 #![tactic(auto)]
 
-ghost use Rattle.std.specs.Prelude.{◌≡◌, IfOk, IfErr, map, length, replicate};
+ghost use Rattle.std.specs.Prelude.{◌≡◌, true, IfOk, IfErr, map, length, replicate};
 ghost use Rattle.std.proofs.Math.Option.{none, some};
 ghost use Rattle.score_matrix.specs.Table.{built_in};
-ghost use Rattle.shot_record.specs.Shots.{first_codes, shot, parse};
+ghost use Rattle.shot_record.specs.Shots.{first_codes, shot, whole_record, parse};
 ghost use Rattle.shot_record.specs.Answers.{of_pattern};
-ghost use Rattle.shot_record.specs.Index.{Indexed};
+ghost use Rattle.shot_record.specs.Index.{Index};
 ghost use Rattle.hypothesis.specs.Search.{enumerate};
 ghost use Rattle.hypothesis.specs.declared.Inputs.{Inputs};
 ghost use Rattle.hypothesis.specs.Inputs.{Loaded};
@@ -45,7 +45,7 @@ fn before_15(
     index: &[u32; 768],
     words: usize,
 ) -> Result<Inputs, Refusal>
-    requires { Indexed record.now.bytes.now record.now.fields index.now
+    requires { Index record.now.bytes.now index.now × (whole_record record.now.bytes.now ≡ true)
         × (table.now ≡ map of_pattern (shot record.now.bytes.now).table)
         × (codes.now ≡ first_codes (shot record.now.bytes.now)) }
     ensures { result ≡ asked_with (asked_before15 (shot record.now.bytes.now) words) (shot record.now.bytes.now) }

@@ -1,10 +1,10 @@
 // The checks of Match after those of the board (documents 01 and 02): questions 9 to 14 and 23 before the search, and 16.
-ghost use Rattle.std.specs.Prelude.{◌≡◌, ◌&&◌, map, ◌≤◌};
+ghost use Rattle.std.specs.Prelude.{◌≡◌, ◌&&◌, true, map, ◌≤◌};
 ghost use Rattle.std.proofs.Math.Option.{none};
 ghost use Rattle.integers.specs.Tests.{every};
-ghost use Rattle.shot_record.specs.Shots.{shot};
+ghost use Rattle.shot_record.specs.Shots.{shot, whole_record};
 ghost use Rattle.shot_record.specs.Answers.{of_pattern, config_of};
-ghost use Rattle.shot_record.specs.Index.{Indexed};
+ghost use Rattle.shot_record.specs.Index.{Index};
 ghost use Rattle.integers.specs.Distance.{is_within};
 ghost use Rattle.board_match.specs.Questions.{in_unit_interval, settings_answer, table_answer, asked_from9, told_answer};
 ghost use Rattle.board_match.specs.Entries.{placed_in, border_answer, sampled_in};
@@ -80,7 +80,7 @@ pub fn from_9(
     index: &[u32; 768],
     words: usize,
 ) -> Result<(), Refusal>
-    requires { Indexed record.now.bytes.now record.now.fields index.now × (config ≡ config_of (shot record.now.bytes.now))
+    requires { Index record.now.bytes.now index.now × (whole_record record.now.bytes.now ≡ true) × (config ≡ config_of (shot record.now.bytes.now))
         × (entries.now ≡ map of_pattern (shot record.now.bytes.now).table) }
     ensures { result ≡ told_answer (asked_from9 (shot record.now.bytes.now) words none) }
 {
