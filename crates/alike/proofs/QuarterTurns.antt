@@ -9,7 +9,7 @@ use lib.Pow.{pow-add, pow_pos, pow_mono, split, high, low, shr_lt, shl_exact}
 use Rattle.matcher.specs.declared.Place.{Place}
 use Rattle.matcher.specs.Codes.{bit, from_bits, bit_place, index_of, source, source_bit, turned}
 use Rattle.matcher.proofs.Bits.{bit-small, from_ext, from-below, bit-from, bits_determine}
-use Rattle.matcher.proofs.Turns.{Inside, place_inside, index_below, place-index, source-inside, sources, bit-turned, turned-turned}
+use Rattle.matcher.proofs.Turns.{Inside, same_place, place_inside, index_below, place-index, source-inside, sources, bit-turned, turned-turned}
 use Rattle.integers.proofs.Distances.{lt_or_le}
 use Rattle.alike.specs.Quarters.{half, quarter, quarter_source, quarters, moved_on}
 
@@ -169,18 +169,15 @@ module _ (n : ℕ) (some : 0 < n) where
       back : (a b : ℕ) → a ≡ n - 1 - b → b < n → n - 1 - a ≡ b
       back a b e l = omega arith
 
-      same : {a b c d : ℕ} → a ≡ c → b ≡ d → ◌≡◌ {A = Place} (record { x = a; y = b }) (record { x = c; y = d })
-      same s t = λ k. record { x = s k; y = t k }
-
       go : (q.x < half n) ⊎ (half n ≤ q.x) → (q.y < half n) ⊎ (half n ≤ q.y) → Found n (index_of n q)
       go (inl a) (inl b) = found_by_lem 0 q q (omega arith) (record { column = a; row = b }) refl
       go (inl a) (inr b) =
-          found_by_lem 1 (record { x = n - 1 - q.y; y = q.x }) q (omega arith) (record { column = omega (arith, i.row); row = a }) (same refl (back _ q.y refl i.row))
+          found_by_lem 1 (record { x = n - 1 - q.y; y = q.x }) q (omega arith) (record { column = omega (arith, i.row); row = a }) (same_place refl (back _ q.y refl i.row))
       go (inr a) (inr b) =
           found_by_lem 2 (record { x = n - 1 - q.x; y = n - 1 - q.y }) q (omega arith)
-          (record { column = omega (arith, i.column); row = omega (arith, i.row) }) (same (back _ q.x refl i.column) (back _ q.y refl i.row))
+          (record { column = omega (arith, i.column); row = omega (arith, i.row) }) (same_place (back _ q.x refl i.column) (back _ q.y refl i.row))
       go (inr a) (inl b) =
-          found_by_lem 3 (record { x = q.y; y = n - 1 - q.x }) q (omega arith) (record { column = b; row = omega (arith, i.column) }) (same (back _ q.x refl i.column) refl)
+          found_by_lem 3 (record { x = q.y; y = n - 1 - q.x }) q (omega arith) (record { column = b; row = omega (arith, i.column) }) (same_place (back _ q.x refl i.column) refl)
 
   pub quarters_determine : (a b : ℕ) → a < 2 ^ (n * n) → b < 2 ^ (n * n) → quarters n a ≡ quarters n b → a ≡ b
   quarters_determine a b ha hb e =

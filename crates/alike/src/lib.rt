@@ -8,14 +8,16 @@ ghost use Rattle.alike.specs.Quarters.{HasLeast};
 
 mod quarters;
 
+use quarters::Quarters;
+
 // The canonical keys of the first codes; a code past the last is 0.
 fn put_least(least: &mut [u64; 512], codes: &[u64], n: usize, bits: u8)
     requires { (1 ≤ bits) × (bits ≤ 8) × (n ≤ 512) }
     ensures { HasLeast bits codes.now n least.new }
 {
-    let sources = quarters::sources(bits);
+    let quarters = Quarters::new(bits);
     for k in 0..n {
-        least[k] = quarters::least_turn(&sources, bits, code_at(codes, k));
+        least[k] = quarters.least_turn(code_at(codes, k));
     }
 }
 

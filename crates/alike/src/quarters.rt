@@ -34,18 +34,6 @@ fn source(bits: u8, k: usize) -> u8
     (place.y * n + place.x) as u8
 }
 
-pub fn sources(bits: u8) -> [u8; 64]
-    requires { (1 ≤ bits) × (bits ≤ 8) }
-    ensures { QuarterSources bits (4 * quarter_of bits) result }
-{
-    let count = 4 * quarter(bits);
-    let mut sources: [u8; 64] = [0; 64];
-    for k in 0..count {
-        sources[k] = source(bits, k);
-    }
-    sources
-}
-
 // The number formed by the first `count` bits that `sources` selects.
 fn picked(sources: &[u8; 64], count: usize, code: u64) -> u64
     requires { (count ≤ 64) × ((k : ℕ) → k < count → get_or sources.now k 0 < 64) }
@@ -67,15 +55,36 @@ fn moved_on(m: usize, w: u64) -> u64
     high + (low << 3 * m)
 }
 
-// The canonical key of a code: the least number of the four rotations.
-pub fn least_turn(sources: &[u8; 64], bits: u8, code: u64) -> u64
-    requires { (1 ≤ bits) × (bits ≤ 8) × QuarterSources bits (4 * quarter_of bits) sources.now }
-    ensures { result ≡ least_turn bits code }
-{
-    let m = quarter(bits);
-    let as_is = picked(sources, 4 * m, code);
-    let once = moved_on(m, as_is);
-    let twice = moved_on(m, once);
-    let thrice = moved_on(m, twice);
-    as_is.min(once).min(twice.min(thrice))
+// For the codes of one side: which bit of a code each bit of its quarters is.
+#[derive(Drop)]
+pub struct Quarters {
+    bits: u8,
+    sources: [u8; 64],
+    ghost held: { (1 ≤ bits) × (bits ≤ 8) × QuarterSources bits (4 * quarter_of bits) sources },
+}
+
+impl Quarters {
+    pub fn new(bits: u8) -> Quarters
+        requires { (1 ≤ bits) × (bits ≤ 8) }
+        ensures { result.bits ≡ bits }
+    {
+        let count = 4 * quarter(bits);
+        let mut sources: [u8; 64] = [0; 64];
+        for k in 0..count {
+            sources[k] = source(bits, k);
+        }
+        Quarters { bits, sources }
+    }
+
+    // The canonical key of a code: the least number of the four rotations.
+    pub fn least_turn(&self, code: u64) -> u64
+        ensures { result ≡ least_turn self.now.bits code }
+    {
+        let m = quarter(self.bits);
+        let as_is = picked(&self.sources, 4 * m, code);
+        let once = moved_on(m, as_is);
+        let twice = moved_on(m, once);
+        let thrice = moved_on(m, twice);
+        as_is.min(once).min(twice.min(thrice))
+    }
 }

@@ -22,7 +22,7 @@ fn is_nan_pattern(bits: u32) -> bool
     0x7F80_0000 < bits % 0x8000_0000
 }
 
-// The exponent field is not all ones.
+// The exponent field is not all ones. One comparison; `is_finite(from_bits(bits))` also tests for a NaN.
 pub fn is_finite_pattern(bits: u32) -> bool
     ensures { result ≡ finite (of_bits binary32 bits) }
 {

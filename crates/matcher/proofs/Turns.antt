@@ -14,8 +14,8 @@ pub record Inside (n : ℕ) (p : Place) : Type 0 where
   pub column : p.x < n
   pub row : p.y < n
 
-same : {a b c d : ℕ} → a ≡ c → b ≡ d → ◌≡◌ {A = Place} (record { x = a; y = b }) (record { x = c; y = d })
-same p q = λ i. record { x = p i; y = q i }
+pub same_place : {a b c d : ℕ} → a ≡ c → b ≡ d → ◌≡◌ {A = Place} (record { x = a; y = b }) (record { x = c; y = d })
+same_place p q = λ i. record { x = p i; y = q i }
 
 side_pos : (n k : ℕ) → k < n * n → 0 < n
 side_pos zero k h = absurd (omega arith)
@@ -29,7 +29,7 @@ pub index_below : (n : ℕ) (p : Place) → Inside n p → index_of n p < n * n
 index_below n p h = digits_lt h.row h.column
 
 pub place-index : (n : ℕ) (p : Place) → p.x < n → bit_place n (index_of n p) ≡ p
-place-index n p h = same (digits_mod p.y h) (digits_div p.y h)
+place-index n p h = same_place (digits_mod p.y h) (digits_div p.y h)
 
 -- what holds of each of the four holds of the one selected
 pub by_turn_lem : {A : Type 0} (P : A → Type 0) (r : ℕ) {a b c d : A} → P a → P b → P c → P d → P (by_turn r a b c d)
@@ -65,7 +65,7 @@ step : (n r : ℕ) (p : Place) → Inside n p → source n (suc r) p ≡ source 
 unfolding source
 step n r p h =
     sym (source_mod n (suc r) p) ∙ ap (λ (m : ℕ). source n m p) (suc-mod r 4) ∙ source_mod n (suc (r % 4)) p
-    ∙ each_turn (λ m. source n (suc m) p ≡ source n 1 (source n m p)) refl refl (same refl (omega (arith, h.column))) (same refl (omega (arith, h.row))) r
+    ∙ each_turn (λ m. source n (suc m) p ≡ source n 1 (source n m p)) refl refl (same_place refl (omega (arith, h.column))) (same_place refl (omega (arith, h.row))) r
     ∙ ap (source n 1) (source_mod n r p)
 
 pub sources : (n r s : ℕ) (p : Place) → Inside n p → source n r (source n s p) ≡ source n (r + s) p

@@ -1,4 +1,3 @@
 pub mod Rearranging
-pub mod Sifting
 pub mod Comparing
 pub mod Front

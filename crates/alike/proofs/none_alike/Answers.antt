@@ -15,9 +15,6 @@ use Rattle.alike.proofs.none_alike.Goals.{After-min-n}
 few : (c : After-min-n) → c.min-n.result ≤ 512
 few c = subst (λ (n : ℕ). n ≤ 512) (sym c.min-n.ensures) (min-le_right c.args.count 512)
 
-pub put_least-requires : goal.put_least-requires
-put_least-requires c = (c.requires.0, c.requires.1, few (goal.at.put_least-requires c).After-min-n)
-
 pub returns : goal.returns
 returns c =
     let n = c.min-n.result in

@@ -1,20 +1,13 @@
 -- `matcher::with_row` meets its contract. The loop's invariant: `sum` has the bits of the rows above and of the first x columns of this row.
 -- Assumes nothing.
-use mathlib.Core.Path.{◌≡◌, ap, ap₂, sym, subst, ◌∙◌}
+use mathlib.Core.Path.{◌≡◌, ap₂, sym, subst, ◌∙◌}
 use Prim.Native.Nat.{ℕ, ◌+◌, ◌*◌, ◌/◌, ◌%◌, ◌^◌, ◌<◌}
-use native.Mathlib.Nat.{add-zero}
 use native.Mathlib.Omega.{arith}
 use Rattle.matcher.specs.declared.Place.{Place}
 use Rattle.matcher.specs.Codes.{from_bits, bit, index_of, turned_bit}
 use Rattle.matcher.proofs.Turns.{rank_small, source-small, next_turned_bit, next_below}
 use Rattle.matcher.proofs.with_row.Goals as goal
 use Rattle.matcher.proofs.with_row.Goals.{After-source_place-p, Start}
-
-pub loop-x-init : goal.loop-x-init
-loop-x-init c = c.requires.2 ∙ ap (from_bits (turned_bit c.args.n c.args.turn c.args.code)) (sym (add-zero (c.args.y * c.args.n)))
-
-pub source_place-p-requires : goal.source_place-p-requires
-source_place-p-requires c = (c.loop-x-test.true, c.requires.1)
 
 -- after the call, in the loop
 module _ (c : After-source_place-p) where
@@ -61,23 +54,8 @@ overflow_add-sum c = omega (arith, from-small (goal.at.overflow_add-sum c).After
 pub overflow_shr-sum : goal.overflow_shr-sum
 overflow_shr-sum c = from-small (goal.at.overflow_shr-sum c).After-source_place-p
 
-pub overflow_mul-sum-in-loop-x : goal.overflow_mul-sum-in-loop-x
-overflow_mul-sum-in-loop-x c = omega (arith, to-small (goal.at.overflow_mul-sum-in-loop-x c).After-source_place-p)
-
-pub overflow_add-sum-in-loop-x : goal.overflow_add-sum-in-loop-x
-overflow_add-sum-in-loop-x c = omega (arith, to-small (goal.at.overflow_add-sum-in-loop-x c).After-source_place-p)
-
-pub overflow_shl-sum : goal.overflow_shl-sum
-overflow_shl-sum c = to-small (goal.at.overflow_shl-sum c).After-source_place-p
-
 pub overflow_add-sum-in-loop-x-2 : goal.overflow_add-sum-in-loop-x-2
 overflow_add-sum-in-loop-x-2 c = record { fits = sum_fits (goal.at.overflow_add-sum-in-loop-x-2 c).After-source_place-p }
 
 pub loop-x-preserved : goal.loop-x-preserved
 loop-x-preserved c = sum (goal.at.loop-x-preserved c).After-source_place-p
-
-pub returns : goal.returns
-returns c =
-    let all : c.loop-x.x ≡ c.args.n = omega (arith, c.loop-x-test.false, c.loop-x.auto.x-end) in
-    c.loop-x.invariant
-    ∙ ap (λ (k : ℕ). from_bits (turned_bit c.args.n c.args.turn c.args.code) (c.args.y * c.args.n + k)) all

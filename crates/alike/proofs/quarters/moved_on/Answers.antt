@@ -1,11 +1,7 @@
 -- `alike::quarters::moved_on` meets its contract. Assumes nothing.
 use native.Mathlib.Omega.{arith}
-use lib.Pow.{split}
-use Rattle.alike.proofs.QuarterTurns.{moved-below, word_fits, high_part, moved_word}
+use Rattle.alike.proofs.QuarterTurns.{moved-below, word_fits, moved_word}
 use Rattle.alike.proofs.quarters.moved_on.Goals as goal
-
-pub overflow_sub-low : goal.overflow_sub-low
-overflow_sub-low c = let x = c.args in omega (arith, high_part x.m x.w c.requires.1 c.requires.0, split x.w x.m)
 
 pub overflow_add-result : goal.overflow_add-result
 overflow_add-result c =

@@ -17,9 +17,6 @@ pub loop-k-init : goal.loop-k-init
 unfolding from_bits
 loop-k-init c = refl
 
-pub bounds-sources-k : goal.bounds-sources-k
-bounds-sources-k c = omega (arith, c.loop-k-test.true, c.requires.0)
-
 -- in the loop
 module _ (c : After-sum-1) where
   abbrev f : ℕ → ℕ
@@ -44,21 +41,6 @@ module _ (c : After-sum-1) where
 
   sum_fits : c.loop-k.sum + f k * 2 ^ k % 2 ^ 64 < 2 ^ 64
   sum_fits = rw sum (word_below f (picks_bits c.args.sources.now c.args.code) (k + 1) (omega (arith, small)))
-
-pub returns : goal.returns
-returns c =
-    let x = c.args in
-    let all : c.loop-k.k ≡ x.count = omega (arith, c.loop-k.auto.k-end, c.loop-k-test.false) in
-    c.loop-k.invariant ∙ ap (from_bits (picks x.sources.now x.code)) all
-
-pub overflow_cast-sum : goal.overflow_cast-sum
-overflow_cast-sum c = omega (arith, from-small c)
-
-pub overflow_shr-sum : goal.overflow_shr-sum
-overflow_shr-sum c = from-small c
-
-pub overflow_shl-sum : goal.overflow_shl-sum
-overflow_shl-sum c = small c
 
 pub overflow_add-sum : goal.overflow_add-sum
 overflow_add-sum c = record { fits = sum_fits c }

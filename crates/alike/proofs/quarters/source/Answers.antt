@@ -1,7 +1,7 @@
 -- `alike::quarters::source` meets its contract. Assumes nothing.
 use mathlib.Core.Path.{◌≡◌, sym, ap, subst, ◌∙◌}
 use Prim.Native.Nat.{ℕ, ◌/◌, ◌%◌, ◌<◌}
-use native.Mathlib.Nat.{mul-le-mul, div-le_self}
+use native.Mathlib.Nat.{mul-le-mul}
 use native.Mathlib.Omega.{arith}
 use Rattle.matcher.specs.Codes.{bit_place, index_of, source}
 use Rattle.matcher.proofs.Turns.{Inside}
@@ -41,24 +41,6 @@ module _ (c : After-source_place-place) where
   below =
       let q = c.before.before in
       omega (arith, is, quarter_source-below c.args.bits c.requires.0 c.args.k, mul-le-mul {n₂ = 8} {m₂ = 8} c.requires.1 c.requires.1)
-
-pub nonzero_rem-at : goal.nonzero_rem-at
-nonzero_rem-at c = some c
-
-pub nonzero_div-k : goal.nonzero_div-k
-nonzero_div-k c = some c
-
-pub overflow_cast-k : goal.overflow_cast-k
-overflow_cast-k c = omega (arith, div-le_self c.args.k c.quarter-m.result, c.requires.2)
-
-pub nonzero_rem-at-2 : goal.nonzero_rem-at-2
-nonzero_rem-at-2 c = half-above c
-
-pub nonzero_div-at : goal.nonzero_div-at
-nonzero_div-at c = half-above c
-
-pub source_place-place-requires : goal.source_place-place-requires
-source_place-place-requires c = ((place_inside c).column, (place_inside c).row)
 
 pub overflow_mul-result : goal.overflow_mul-result
 overflow_mul-result c = omega (arith, below (goal.at.overflow_mul-result c).After-source_place-place)

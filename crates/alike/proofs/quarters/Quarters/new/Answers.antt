@@ -1,4 +1,4 @@
--- `alike::quarters::sources` meets its contract. The loop's invariant: the array holds the sources of the first k bits. Assumes nothing.
+-- `alike::quarters::Quarters::new` meets its contract. The loop's invariant: the array holds the sources of the first k bits. Assumes nothing.
 use mathlib.Core.Path.{◌≡◌, refl, ◌∙◌}
 use Prim.Native.Nat.{◌<◌}
 use native.Mathlib.Omega.{arith}
@@ -7,8 +7,8 @@ use lib.Seq.{get_or-set_same, get_or-set_other}
 use borrow.Author.Count.{below_none, below_more}
 use Rattle.alike.specs.Quarters.{quarter_source}
 use Rattle.alike.proofs.QuarterTurns.{quarter-small}
-use Rattle.alike.proofs.quarters.sources.Goals as goal
-use Rattle.alike.proofs.quarters.sources.Goals.{In-loop-k}
+use Rattle.alike.proofs.quarters.Quarters.new.Goals as goal
+use Rattle.alike.proofs.quarters.Quarters.new.Goals.{In-loop-k}
 
 pub overflow_mul-count : goal.overflow_mul-count
 overflow_mul-count c = omega (arith, c.quarter-count.ensures, quarter-small c.args.bits c.requires.1)
@@ -30,17 +30,12 @@ loop-k-preserved c =
     let before = c.loop-k.sources in
     let held = c.loop-k.invariant in
     let k = c.loop-k.k in
-    let x = c.source.result in
-    (
+    let x = c.source.result in (
       length-set before k x ∙ held.0,
       below_more (λ j. get_or (set before k x) j 0 ≡ quarter_source bits j) k
           (λ j h. get_or-set_other before k j x 0 (λ e. absurd (omega (arith, h, e))) ∙ held.1 j h)
           (get_or-set_same before k x 0 (rw held.0 (small (goal.at.loop-k-preserved c).In-loop-k)) ∙ c.source.ensures),
     )
-
-pub returns : goal.returns
-returns c k h =
-    c.loop-k.invariant.1 k (omega (arith, h, c.quarter-count.ensures, c.loop-k.auto.k-end, c.loop-k-test.false))
 
 pub quarter-count-requires : goal.quarter-count-requires
 quarter-count-requires c = c.requires.1
