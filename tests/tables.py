@@ -127,8 +127,6 @@ BLOCKS = {
     "docs/AUDIT.md": {"reading-lines": documents.reading_lines, "must-fail": documents.must_fail_list},
     "docs/PROVING.md": {"requires": documents.requires_list},
     "docs/CHANGING.md": {"crates": documents.crate_list},
-    "crates/refusal/proofs/Refusal/number/Answers.antt": {"returns-in": proofs.proof_number},
-    "crates/refusal/proofs/Refusal/value/Answers.antt": {"nothing": proofs.proof_nothing},
     "crates/charuco/proofs/Giving.antt": {"values-are": partial(proofs.proof_cases, "values-are", "refl")},
     "crates/place_text/proofs/Lengths.antt": {"number_small": partial(proofs.proof_cases, "number_small", "lit< tt")},
 }

@@ -89,7 +89,11 @@ fn keeps_place(held: Option<Hypothesis>, evidence: Option<f32>) -> bool
 
 // Does a placement with this evidence leave best and runner-up unchanged?
 // To check the runner-up alone would do for finite evidence, which each caller would have to require.
-pub fn changes_nothing(best: Option<Hypothesis>, runner_up: Option<Hypothesis>, evidence: Option<f32>) -> bool
+pub fn changes_nothing(
+    best: Option<Hypothesis>,
+    runner_up: Option<Hypothesis>,
+    evidence: Option<f32>,
+) -> bool
     ensures { result ≡ changes_nothing best runner_up evidence }
 {
     keeps_place(runner_up, evidence) && keeps_place(best, evidence)
@@ -114,6 +118,7 @@ pub fn margin(best: Option<f32>, best_capacity: f32, runner_up: Option<Hypothesi
     let Some(y) = second.evidence else {
         return 1.0;
     };
+    // Not `best_capacity.max(EPSILON)`: the two differ if the capacity is NaN, and the definition (`at_least`) may not change.
     if best_capacity < EPSILON {
         (x - y) / EPSILON
     } else {

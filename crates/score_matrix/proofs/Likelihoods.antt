@@ -3,10 +3,11 @@ use mathlib.Core.Path.{◌≡◌, ap, sym, ◌∙◌}
 use mathlib.Core.List.{List}
 use Prim.Native.Nat.{ℕ, zero, suc, ◌+◌, ◌*◌, ◌<◌}
 use native.Mathlib.Nat.{add-zero}
+use native.Mathlib.Numerals.{add-one}
 use native.Mathlib.Omega.{arith}
 use lib.ListN.{length, get_or, set, length-set}
 use lib.Seq.{get_or-set_same, get_or-set_other}
-use lib.Ieee.{Float, nan}
+use lib.Ieee.{Float, nan, binary32, add}
 use borrow.Author.Count.{below_more}
 use Rattle.floats.specs.Units.{sum_to}
 use Rattle.floats.proofs.Folds.{sum_ext}
@@ -75,3 +76,8 @@ pub turned-score : (table : List Float) (s : Samples) (turn : ℕ) (l : List Flo
     → sum_to (picked_from l sources code) (bit_count s) ≡ score table s (turned s.bits turn code)
 turned-score table s turn l sources code holds from =
     sum_ext (picked_from l sources code) (term table s (turned s.bits turn code)) (bit_count s) (λ k h. from-term table s turn l sources code k holds from h)
+
+-- a sum of k terms and one more
+pub one_more_term : (t : ℕ → Float) (k : ℕ) (total next : Float) → total ≡ sum_to t k → next ≡ add binary32 total (t k) → next ≡ sum_to t (k + 1)
+unfolding sum_to
+one_more_term t k total next e f = f ∙ ap (λ (y : Float). add binary32 y (t k)) e ∙ ap (sum_to t) (sym (add-one k))

@@ -1,4 +1,5 @@
 // The score of one cell, and the code read from it. A grid is a slice of the caller's record.
+// A grid and its sizes stay parameters: each caller has them in another place (index, board, C arrays) and would build a struct for one call.
 ghost use Rattle.std.specs.Prelude.{◌≡◌, cond, ℕ, ◌+◌, ◌*◌, ◌<◌, ◌≤◌, ltb, length};
 ghost use Rattle.std.specs.Float.{nan};
 ghost use Rattle.floats.specs.Units.{sum_to};

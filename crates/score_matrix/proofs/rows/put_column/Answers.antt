@@ -2,12 +2,9 @@
 use mathlib.Core.Path.{◌≡◌, refl}
 use native.Mathlib.Omega.{arith}
 use lib.ListN.{get_or}
-use Rattle.lent_list.proofs.Scattered.{wrote_none, wrote_next}
+use Rattle.lent_list.proofs.Scattered.{wrote_next}
 use lib.Ieee.{nan}
 use Rattle.score_matrix.proofs.rows.put_column.Goals as goal
-
-pub loop-i-init : goal.loop-i-init
-loop-i-init c = wrote_none c.args.rows.now (λ j h. absurd (omega (arith, h)))
 
 pub loop-i-preserved : goal.loop-i-preserved
 loop-i-preserved c =

@@ -7,7 +7,7 @@ use native.Mathlib.Omega.{arith}
 use lib.ListN.{length, get_or}
 use lib.Ieee.{Float, nan}
 use borrow.Author.Rules.{rules}
-use borrow.Author.Tests.{tests, eq-eqb, ne_eqb}
+use borrow.Author.Tests.{tests, eq-eqb}
 use Rattle.std.specs.List.{AllWithin, HoldsAt}
 use Rattle.std.specs.Bool.{MatchBool}
 use Rattle.std.proofs.lemmas.Iterator.{cases_from_all, YieldsList-from_slice}
@@ -43,9 +43,3 @@ returns-then-table-eq511 c =
     (cases_from_all _ _ _ (Answered true) (Answered false) c.all.ensures.ran (YieldsList-from_slice table cc) (λ x q k. search (rules, tests))
     (λ x q k. search (rules, tests))) in
     e ∙ ap (λ (b : Bool). b && entries_in_range table) (sym (eq-eqb (length table) 511 c.if-table-eq511.true))
-
-pub returns-else-table-eq511 : goal.returns-else-table-eq511
-returns-else-table-eq511 c =
-    let table = c.args.table.now in
-    let e = ne_eqb (length table) 511 c.if-table-eq511.false in
-    e ∙ ap (λ (b : Bool). b && entries_in_range table) (sym e)

@@ -1,5 +1,5 @@
 -- `score_matrix::turned::add_bit` meets its contract. The loop's invariant: the first x scores have the bit added. Assumes nothing.
-use mathlib.Core.Path.{◌≡◌, refl, sym, ap, ap₂, ◌∙◌}
+use mathlib.Core.Path.{◌≡◌, sym, ap, ap₂, ◌∙◌}
 use mathlib.Core.List.{List}
 use Prim.Native.Nat.{ℕ, zero, suc, ◌+◌, ◌*◌, ◌/◌, ◌%◌, ◌^◌, ◌<◌}
 use native.Mathlib.Nat.{le_refl, zero-add, one-mul, add_comm, mul_comm, div-add-mod}
@@ -9,7 +9,7 @@ use lib.ListN.{get_or, set, length-set}
 use lib.Pow.{shr-shr, shl_exact}
 use lib.Seq.{get_or-set_same, get_or-set_other}
 use lib.Ieee.{Float, nan, binary32, add}
-use borrow.Author.Count.{below_none, below_more}
+use borrow.Author.Count.{below_more}
 use Rattle.matcher.specs.Codes.{bit}
 use Rattle.matcher.proofs.Bits.{bit-under}
 use Rattle.score_matrix.specs.Likelihoods.{by_bit, lane_code}
@@ -26,9 +26,6 @@ half-bit lanes x (suc zero) r h k l =
     let code : (2 ^ 32 * get_or lanes (8 + x) 0 + low) / 2 ^ 32 ≡ get_or lanes (8 + x) 0 = omega arith in
     rw (add_comm low, add_comm x 8, ← shr-shr, code)
 half-bit lanes x (suc (suc q)) r h k l = absurd (omega arith)
-
-pub loop-x-init : goal.loop-x-init
-loop-x-init c = (c.told-sums, below_none _, λ i h. refl)
 
 -- in the loop
 module _ (c : After-chosen) where

@@ -1,5 +1,5 @@
 -- `score_matrix::turned::source_bit` meets its contract. Assumes nothing.
-use mathlib.Core.Path.{ap, sym, subst}
+use mathlib.Core.Path.{sym, subst}
 use Prim.Native.Nat.{◌<◌}
 use native.Mathlib.Omega.{arith}
 use Rattle.matcher.specs.Codes.{index_of}
@@ -27,6 +27,3 @@ overflow_add-result c = record { fits = omega (arith, small (goal.at.overflow_ad
 
 pub overflow_cast-result : goal.overflow_cast-result
 overflow_cast-result c = record { fits = omega (arith, small (goal.at.overflow_cast-result c).After-source_place-q) }
-
-pub returns : goal.returns
-returns c = ap (index_of c.args.n) c.source_place-q.ensures
