@@ -60,6 +60,7 @@ pub struct Surrounding {
 
 impl Board {
     // The questions 1 to 7, which need only the number of codes.
+    #[tactic(auto, unfolding(crate::specs::Questions::asked_of_size))]
     pub fn sized(spec: CharucoBoardSpec, count: usize) -> Result<Board, Refusal>
         ensures { result ≡ sized_board spec count }
     {

@@ -1,5 +1,5 @@
 -- The link entry point (document 01, "The questions asked"): the board's questions, 19, then 14 with three places for each link.
-use Rattle.std.specs.Prelude.{ℕ, ◌*◌, List, leb, length, Result, Ok, Err}
+use Rattle.std.specs.Prelude.{ℕ, zero, suc, ◌*◌, List, leb, length, Result, Ok, Err}
 use Rattle.std.proofs.Math.Option.{Option, none, some}
 use Rattle.lent_list.specs.Front.{at_exit}
 use Rattle.refusal.specs.declared.Refusal.{Refusal}
@@ -9,8 +9,14 @@ use Rattle.board.specs.declared.CharucoBoardSpec.{CharucoBoardSpec}
 use Rattle.board.specs.declared.Board.{Board}
 use Rattle.board.specs.Questions.{board_of, asked_of_board}
 use Rattle.link_check.specs.declared.LinkCheckMode.{LinkCheckMode}
+use Rattle.link_check.specs.declared.LinkCheckMode.TheVariants as mode
 use Rattle.link_check.specs.Links.{link_count}
 use Rattle.link_check.specs.Violations.{Violation, expectation, violations, words_of_violations}
+
+-- how strictly links are checked, by a number
+abbrev pub mode_of : ℕ → LinkCheckMode
+mode_of zero = mode.SubsetOk
+mode_of (suc n) = mode.MustMatchAll4
 
 -- the violations of the links on a board
 abbrev pub violations_on : Board → LinkCheckMode → List ℕ → List Violation

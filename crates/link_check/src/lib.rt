@@ -6,7 +6,7 @@ ghost use Rattle.std.specs.Prelude.{◌≡◌, ◌*◌, ◌≤◌, length};
 ghost use Rattle.lent_list.specs.Front.{Put};
 ghost use Rattle.link_check.specs.Links.{link_count};
 ghost use Rattle.link_check.specs.Violations.{kind_number, words_of_violations};
-ghost use Rattle.link_check.specs.Entry.{violations_on, check_links, check_links_list};
+ghost use Rattle.link_check.specs.Entry.{mode_of, violations_on, check_links, check_links_list};
 
 mod chained_links;
 mod chains;
@@ -30,6 +30,18 @@ pub enum LinkCheckMode {
     SubsetOk,
     // They are its four.
     MustMatchAll4,
+}
+
+// 0 is `SubsetOk`, every other number `MustMatchAll4`.
+impl From<u32> for LinkCheckMode {
+    ghost from_gives = { λ number mode. mode ≡ mode_of number };
+
+    fn from(number: u32) -> LinkCheckMode {
+        if number == 0 {
+            return LinkCheckMode::SubsetOk;
+        }
+        LinkCheckMode::MustMatchAll4
+    }
 }
 
 #[derive(Clone, Copy)]

@@ -22,7 +22,15 @@ pub fn put_of_link(
     requires { at + 12 ≤ length violations.old }
     ensures { Put violations.old violations.new at result (violation_words (of_link kind marker corner expected)) }
 {
-    words::put_violation(marker, kind, corner, expected, Missing::NONE, violations, at)
+    words::put_violation(
+        marker,
+        kind,
+        corner,
+        expected,
+        Missing::NONE,
+        violations,
+        at,
+    )
 }
 
 pub fn put_own(board: Board, marker: u32, corner: u32, violations: &mut [u32], at: usize) -> usize

@@ -23,7 +23,13 @@ pub fn put_own_entries(board: Board, links: ChainedLinks, violations: &mut [u32]
     let mut end = 0;
     for k in 0..links.count {
         let marker = chains::marker_of(links.words, k);
-        end = own::put_own(board, marker, chains::corner_of(links.words, k), violations, end);
+        end = own::put_own(
+            board,
+            marker,
+            chains::corner_of(links.words, k),
+            violations,
+            end,
+        );
     }
     end
 }

@@ -1,11 +1,9 @@
 -- `board::Board::around` meets its contract: none on the rim, and the numbers off it. Assumes nothing.
 use mathlib.Core.Path.{sym}
-use Prim.Native.Nat.{◌+◌, ◌-◌, ◌*◌, ◌≤◌}
 use native.Mathlib.Omega.{arith}
-use Rattle.board.proofs.Formulas.{area_small}
 use Rattle.board.proofs.Surroundings.{off_rim, rim_left, rim_top, rim_right, rim_bottom}
 use Rattle.board.proofs.Board.around.Goals as goal
-use Rattle.board.proofs.Board.around.Goals.{Else-self-j, then-i-lt1-via-then-i-lt1, then-i-lt1-via-else-i-lt1+then-j-lt1}
+use Rattle.board.proofs.Board.around.Goals.{then-i-lt1-via-then-i-lt1, then-i-lt1-via-else-i-lt1+then-j-lt1}
 use Rattle.board.proofs.Board.around.Goals.{then-i-lt1-via-else-i-lt1+else-j-lt1+then-width-i}
 use Rattle.board.proofs.Board.around.Goals.{then-i-lt1-via-else-i-lt1+else-j-lt1+else-width-i+then-self-j}
 
@@ -14,37 +12,12 @@ returns-then-i-lt1 c =
     let b = c.args.self in
     let p = c.args.place in
     sym
-    (elim c.then-i-lt1.branch
-    [ then-i-lt1-via-then-i-lt1 w ↦ rim_left b.rows b.cols p.i p.j (omega arith)
-    | then-i-lt1-via-else-i-lt1+then-j-lt1 w ↦ rim_top b.rows b.cols p.i p.j (omega arith)
-    | then-i-lt1-via-else-i-lt1+else-j-lt1+then-width-i w ↦ rim_right b.rows b.cols p.i p.j (omega arith)
-    | then-i-lt1-via-else-i-lt1+else-j-lt1+else-width-i+then-self-j w ↦ rim_bottom b.rows b.cols p.i p.j (omega arith) ])
-
--- no number overflows
-small : (c : Else-self-j) → let b = c.args.self in let p = c.args.place in
-    (p.j - 1) * (b.cols - 1) + (p.i - 1) + (b.cols - 1) + 1 ≤ 65536 + 512
-small c =
-    let b = c.args.self in
-    let p = c.args.place in
-    omega (arith, area_small (p.j - 1) (b.cols - 1) (omega arith) (omega arith))
-
-pub overflow_mul-top_left : goal.overflow_mul-top_left
-overflow_mul-top_left c = omega (arith, small c)
-
-pub overflow_add-top_left : goal.overflow_add-top_left
-overflow_add-top_left c = omega (arith, small c)
-
-pub overflow_add-result : goal.overflow_add-result
-overflow_add-result c = omega (arith, small c)
-
-pub overflow_add-result-2 : goal.overflow_add-result-2
-overflow_add-result-2 c = omega (arith, small c)
-
-pub overflow_add-result-3 : goal.overflow_add-result-3
-overflow_add-result-3 c = omega (arith, small c)
-
-pub overflow_add-result-4 : goal.overflow_add-result-4
-overflow_add-result-4 c = omega (arith, small c)
+    (elim c.then-i-lt1.branch [
+      | then-i-lt1-via-then-i-lt1 w ↦ rim_left b.rows b.cols p.i p.j (omega arith)
+      | then-i-lt1-via-else-i-lt1+then-j-lt1 w ↦ rim_top b.rows b.cols p.i p.j (omega arith)
+      | then-i-lt1-via-else-i-lt1+else-j-lt1+then-width-i w ↦ rim_right b.rows b.cols p.i p.j (omega arith)
+      | then-i-lt1-via-else-i-lt1+else-j-lt1+else-width-i+then-self-j w ↦ rim_bottom b.rows b.cols p.i p.j (omega arith)
+    ])
 
 pub returns : goal.returns
 returns c =

@@ -24,12 +24,6 @@ overflow_sub-stride c = omega (arith, (has (goal.at.overflow_sub-stride c).Else-
 pub nonzero_rem-result : goal.nonzero_rem-result
 nonzero_rem-result c = omega (arith, (has (goal.at.nonzero_rem-result c).Else-corner_count-id).column)
 
-pub overflow_add-result : goal.overflow_add-result
-overflow_add-result c = omega (arith, (has (goal.at.overflow_add-result c).Else-corner_count-id).column)
-
-pub overflow_add-result-2 : goal.overflow_add-result-2
-overflow_add-result-2 c = omega (arith, (has (goal.at.overflow_add-result-2 c).Else-corner_count-id).row)
-
 pub returns : goal.returns
 returns c = sym (has-place inner _ _ _ _ _ (has (goal.at.returns c).Else-corner_count-id))
 

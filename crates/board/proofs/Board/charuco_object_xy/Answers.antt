@@ -1,9 +1,7 @@
 -- `board::Board::charuco_object_xy` meets its contract. Assumes nothing.
-use mathlib.Core.Path.{◌≡◌, sym, ap, ap₂, ◌∙◌}
+use mathlib.Core.Path.{sym, ◌∙◌}
 use native.Mathlib.Omega.{arith}
-use Rattle.std.specs.Prelude.{Float, Some}
-use Rattle.board.specs.declared.ObjectPoint.{ObjectPoint}
-use Rattle.board.specs.Layout.{inner, scaled_point}
+use Rattle.board.specs.Layout.{inner}
 use Rattle.board.proofs.Places.{Has, place-has-number}
 use Rattle.board.proofs.Board.charuco_object_xy.Goals as goal
 use Rattle.board.proofs.Board.charuco_object_xy.Goals.{In_ok-place}
@@ -20,11 +18,3 @@ squares-requires c = omega (arith, (on-board c).column)
 
 pub squares-requires-2 : goal.squares-requires-2
 squares-requires-2 c = omega (arith, (on-board (goal.at.squares-requires-2 c).In_ok-place).row)
-
-pub returns : goal.returns
-returns c =
-    ap₂ (λ (x y : Float). Some (point x y)) c.squares.ensures c.squares-2.ensures
-    ∙ ap (scaled_point c.args.self.cell_size) (sym c.in_ok-place.was ∙ c.board_corner.ensures)
-  where
-    point : Float → Float → ObjectPoint
-    point x y = record { x = x; y = y }

@@ -1,13 +1,8 @@
 -- `board::Board::corner_count` meets its contract. Assumes nothing.
 use mathlib.Core.Path.{ap₂, sym, ◌∙◌}
 use Prim.Native.Nat.{ℕ, ◌*◌}
-use native.Mathlib.Omega.{arith}
-use Rattle.board.proofs.Formulas.{area_small}
 use Rattle.board.proofs.Corners.{corner-total}
 use Rattle.board.proofs.Board.corner_count.Goals as goal
-
-pub overflow_mul-result : goal.overflow_mul-result
-overflow_mul-result c = omega (arith, area_small c.saturating_sub.result c.saturating_sub-2.result (omega arith) (omega arith))
 
 pub returns : goal.returns
 returns c =

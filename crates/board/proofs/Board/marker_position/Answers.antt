@@ -2,7 +2,7 @@
 use mathlib.Core.Path.{◌≡◌, sym, ◌∙◌}
 use mathlib.Core.Bool.{false≢true}
 use Prim.Native.Nat.{ℕ, zero, suc, ◌+◌, ◌-◌, ◌*◌, ◌/◌, ◌<◌}
-use native.Mathlib.Nat.{mul-zero, mod-le, div-le_self}
+use native.Mathlib.Nat.{mul-zero}
 use native.Mathlib.Omega.{arith}
 use lib.Dec.{eqb→eq}
 use borrow.Author.Tests.{eq-eqb}
@@ -45,12 +45,6 @@ module _ (c : Else-marker_count-id) where
 
 pub overflow_mul-k : goal.overflow_mul-k
 overflow_mul-k c = omega (arith, small (goal.at.overflow_mul-k c).Else-marker_count-id)
-
-pub overflow_cast-i : goal.overflow_cast-i
-overflow_cast-i c = omega (arith, small (goal.at.overflow_cast-i c).Else-marker_count-id, mod-le (2 * c.args.id) c.args.self.cols)
-
-pub overflow_cast-j : goal.overflow_cast-j
-overflow_cast-j c = omega (arith, small (goal.at.overflow_cast-j c).Else-marker_count-id, div-le_self (2 * c.args.id) c.args.self.cols)
 
 pub returns-then-holds_marker : goal.returns-then-holds_marker
 returns-then-holds_marker c =

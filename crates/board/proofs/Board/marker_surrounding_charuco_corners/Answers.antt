@@ -1,6 +1,6 @@
 -- `board::Board::marker_surrounding_charuco_corners` meets its contract. Assumes nothing.
-use mathlib.Core.Path.{sym, ap, ◌∙◌}
-use Rattle.board.specs.Layout.{parity_of, holds_marker, around}
+use mathlib.Core.Path.{sym, ◌∙◌}
+use Rattle.board.specs.Layout.{parity_of, holds_marker}
 use Rattle.board.proofs.Places.{Has, place-has-number}
 use Rattle.board.proofs.Board.marker_surrounding_charuco_corners.Goals as goal
 
@@ -11,8 +11,3 @@ around-requires c =
     let has : Has (holds_marker (parity_of b)) b.cols b.rows p.i p.j c.args.id =
     place-has-number (holds_marker (parity_of b)) b.cols b.rows c.args.id p.i p.j (sym c.marker_position.ensures ∙ c.in_ok-place.was) in
     (has.column, has.row)
-
-pub returns : goal.returns
-returns c =
-    let b = c.args.self in
-    c.around.ensures ∙ ap (around b.rows b.cols) (sym c.in_ok-place.was ∙ c.marker_position.ensures)

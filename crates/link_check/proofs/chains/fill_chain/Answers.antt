@@ -1,10 +1,10 @@
 -- `link_check::chains::fill_chain` meets its contract. The loop's invariant: the links from k on are chained. Assumes nothing.
 use mathlib.Core.Path.{◌≡◌, ap, ap₂, subst, ◌∙◌}
-use mathlib.Core.List.{List, ◌++◌}
+use mathlib.Core.List.{List}
 use Prim.Native.Nat.{ℕ, ◌+◌, ◌-◌}
 use native.Mathlib.Omega.{arith}
-use lib.ListN.{length, get_or, take, drop, replicate, length-append, length-drop, get_or-append}
-use Rattle.std.proofs.lemmas.List.{length-take-le, get_or-replicate}
+use lib.ListN.{length, get_or, length-append, length-drop, get_or-append}
+use Rattle.std.proofs.lemmas.List.{length-take, get_or-replicate}
 use Rattle.link_check.specs.Chains.{key_for, key_of, ChainedFrom}
 use Rattle.link_check.proofs.Chained.{none_chained, one_chained}
 use Rattle.link_check.proofs.chains.fill_chain.Goals as goal
@@ -12,12 +12,10 @@ use Rattle.link_check.proofs.chains.fill_chain.Goals as goal
 pub loop-k-init : goal.loop-k-init
 loop-k-init c =
     let a = c.args in
-    let front : length (take 4096 a.chain.now) ≡ 4096 = length-take-le 4096 a.chain.now (omega arith) in
-    let cleared : c.fill.new.self ≡ replicate 4096 a.n = rw front at (c.fill.ensures.after (λ y e. e)) in
-    let rest = drop 4096 a.chain.now in
-    none_chained (key_of a.by a.links.now) a.n (c.fill.new.self ++ rest)
-    (omega (arith, length-append c.fill.new.self rest, length-drop 4096 a.chain.now))
-    (λ b h. get_or-append c.fill.new.self rest 0 b (omega arith) ∙ ap (λ (l : List ℕ). get_or l b 0) cleared ∙ get_or-replicate 4096 b a.n 0 h)
+    let lengths : length c.fill.new.self ≡ 4096 = omega (arith, length-take {A = ℕ}) in
+    none_chained (key_of a.by a.links.now) a.n _ (omega (arith, length-append {A = ℕ}, length-drop {A = ℕ}, length-take {A = ℕ}))
+    (λ b h. get_or-append c.fill.new.self _ 0 b (omega arith) ∙ ap (λ (l : List ℕ). get_or l b 0) (c.fill.ensures.after (λ y e. e))
+    ∙ get_or-replicate _ b a.n 0 (omega arith))
 
 pub loop-k-preserved : goal.loop-k-preserved
 loop-k-preserved c =

@@ -6,7 +6,10 @@ use Rattle.link_check.proofs.chains.key_for.Goals as goal
 use Rattle.link_check.proofs.chains.key_for.Goals.{in-Marker, in-MarkerAndCorner}
 
 pub returns : goal.returns
-returns c =
-    (elim c.match-by.branch
-    [ in-Marker w ↦ rw w.in-Marker.is (ap (λ (n : ℕ). n % 4096) w.sum-is)
-    | in-MarkerAndCorner w ↦ rw w.in-MarkerAndCorner.is (ap (λ (n : ℕ). n % 4096) w.sum-is) ], omega arith)
+returns c = (
+  elim c.match-by.branch [
+    | in-Marker w ↦ rw w.in-Marker.is (ap (λ (n : ℕ). n % 4096) w.sum-is)
+    | in-MarkerAndCorner w ↦ rw w.in-MarkerAndCorner.is (ap (λ (n : ℕ). n % 4096) w.sum-is)
+  ],
+  omega arith,
+)

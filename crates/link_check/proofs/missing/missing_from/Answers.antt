@@ -63,13 +63,14 @@ loop-corner-preserved c =
     let long : length x.four ≡ 4 = search rules in
     let more : (b : Bool) → seen corner ≡ b → without seen (take (i + 1) x.four) ≡ ms ++ unless b corner =
     λ b e. next seen x.four i (omega arith) ∙ ap (λ (t : Bool). ms ++ unless t corner) e in
-    (elim c.if-not-is_reported.branch
-    [ then-not-is_reported w ↦
-        w.missing-is ∙ w.with-missing.ensures ms c.loop-corner.invariant
-        ∙ ap padded (sym (more false (sym c.is_reported.ensures ∙ w.if-not-is_reported.true)))
-    | else-not-is_reported w ↦
-        w.missing-is ∙ c.loop-corner.invariant
-        ∙ ap padded (sym (more true (sym c.is_reported.ensures ∙ w.if-not-is_reported.false) ∙ append-nil ms)) ])
+    (elim c.if-not-is_reported.branch [
+      | then-not-is_reported w ↦
+          w.missing-is ∙ w.with-missing.ensures ms c.loop-corner.invariant
+          ∙ ap padded (sym (more false (sym c.is_reported.ensures ∙ w.if-not-is_reported.true)))
+      | else-not-is_reported w ↦
+          w.missing-is ∙ c.loop-corner.invariant
+          ∙ ap padded (sym (more true (sym c.is_reported.ensures ∙ w.if-not-is_reported.false) ∙ append-nil ms))
+    ])
 
 pub returns : goal.returns
 returns c =

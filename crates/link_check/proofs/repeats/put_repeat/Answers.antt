@@ -19,11 +19,12 @@ unfolding flat_map
 returns-then-marker_of-expected c =
     let x = c.args in
     let none = nothing_put x.violations.now x.at in
-    (elim c.then-marker_of-expected.branch
-    [ then-marker_of-expected-via-then-marker_of-expected w ↦
-        rw (ne_eqb (link_marker x.links.words.now x.k) x.expected.marker (λ q. w.if-marker_of-expected.true (c.marker_of.ensures ∙ q))) none
-    | then-marker_of-expected-via-else-marker_of-expected+then-not-is_repeated w ↦
-        rw (sym w.is_repeated.ensures ∙ w.if-not-is_repeated.true, and-false) none ])
+    (elim c.then-marker_of-expected.branch [
+      | then-marker_of-expected-via-then-marker_of-expected w ↦
+          rw (ne_eqb (link_marker x.links.words.now x.k) x.expected.marker (λ q. w.if-marker_of-expected.true (c.marker_of.ensures ∙ q))) none
+      | then-marker_of-expected-via-else-marker_of-expected+then-not-is_repeated w ↦
+          rw (sym w.is_repeated.ensures ∙ w.if-not-is_repeated.true, and-false) none
+    ])
 
 -- after both tests
 words_are : (c : After-corner_of) → let x = c.args in
