@@ -44,7 +44,7 @@ module _ (x : Input) where
   pub stored-below : (id n c : ℕ) → choice_of c ≡ chosen_to x id n → c ≤ n
   unfolding chosen_to
   stored-below id zero zero e = omega arith
-  stored-below id zero (suc c) e = let z : ◌≡◌ {A = ℕ} 0 1 = cc in absurd (omega arith)
+  stored-below id zero (suc c) e = cc
   stored-below id (suc n) c e = go (stored-below id n c) (bears x n id && greater x.scores (chosen_to x id n) n) e
     where
       last : (d : ℕ) → choice_of d ≡ some n → d ≤ suc n

@@ -11,6 +11,7 @@ use lib.Dec.{T}
 use lib.ListN.{length}
 use lib.Ieee.{Float, lt}
 use lib.Ieee.Scale.{finite as is_finite}
+use Rattle.std.proofs.lemmas.Bool.{both_ways, false_from_ne_true, true_from_ne_false}
 use Rattle.floats.specs.Units.{Finite}
 use Rattle.floats.proofs.Order.{lt_self, lt_trans, not_lt_trans}
 use Rattle.integers.proofs.Tests.{both}
@@ -24,24 +25,6 @@ finite_at [] k e h = absurd (omega arith)
 finite_at (s ∷ ss) zero e h = subst T (sym (both (is_finite s) (finite_scores ss) e).0) tt
 finite_at (s ∷ ss) (suc k) e h = finite_at ss k (both (is_finite s) (finite_scores ss) e).1 (le_of_suc-le-suc h)
 
-clash : {P : Type 0} (t : Bool) → t ≡ false → t ≡ true → P
-clash t p q = absurd (false≢true (sym p ∙ q))
-
--- a test that cannot hold, and one that cannot fail
-fails : (t : Bool) → (t ≡ true → ⊥) → t ≡ false
-fails true f = absurd (f refl)
-fails false f = refl
-
-holds : (t : Bool) → (t ≡ false → ⊥) → t ≡ true
-holds true f = refl
-holds false f = absurd (f refl)
-
-none_not : {k : ℕ} {P : Type 0} → none ≡ some k → P
-none_not e = let z : ◌≡◌ {A = ℕ} 0 1 = cc in absurd (omega arith)
-
-same_index : {j k : ℕ} → some j ≡ some k → j ≡ k
-same_index e = cc
-
 module _ (x : Input) (id : ℕ) where
   abbrev score : ℕ → Float
   score k = score_of x.scores k
@@ -52,12 +35,12 @@ module _ (x : Input) (id : ℕ) where
   none_before (suc n) e k h = go (none_before n) (bears x n id) refl (eq-or-lt_of_le (le_of_suc-le-suc h))
     where
       met_none : (o : Option ℕ) → replaced (greater x.scores o n) n o ≡ none → ⊥
-      met_none none q = none_not (sym q)
+      met_none none q = cc
       met_none (some j) q = kept-some (greater x.scores (some j) n) q
         where
           kept-some : (t : Bool) → replaced t n (some j) ≡ none → ⊥
-          kept-some true r = none_not (sym r)
-          kept-some false r = none_not (sym r)
+          kept-some true r = cc
+          kept-some false r = cc
 
       go : (chosen_to x id n ≡ none → (k : ℕ) → k < n → bears x k id ≡ false) → (t : Bool) → bears x n id ≡ t → (k ≡ n) ⊎ (k < n) → bears x k id ≡ false
       go before true t w = absurd (met_none (chosen_to x id n) (sym (met x n id t) ∙ e))
@@ -103,23 +86,23 @@ module _ (x : Input) (id : ℕ) where
           let j₀ = finite j (omega (arith, l, inside)) in
           let n₀ = finite n inside in
           let m = g.most j l c in (
-            fails _ (λ p. clash _ m (lt_trans (score k) (score n) (score j) k₀ n₀ j₀ t p)),
-            holds _ (λ p. clash _ (not_lt_trans (score k) (score j) (score n) k₀ j₀ n₀ m p) t),
+            false_from_ne_true _ (λ p. both_ways _ m (lt_trans (score k) (score n) (score j) k₀ n₀ j₀ t p)),
+            true_from_ne_false _ (λ p. both_ways _ (not_lt_trans (score k) (score j) (score n) k₀ j₀ n₀ m p) t),
           )
 
       -- by the earlier choice, if corner n has the id
       decided : (o : Option ℕ) (k : ℕ) → bears x n id ≡ true → ((j : ℕ) → o ≡ some j → GreatestScore x id n j)
           → (o ≡ none → (j : ℕ) → j < n → bears x j id ≡ false) → replaced (greater x.scores o n) n o ≡ some k → GreatestScore x id (suc n) k
-      decided none k b g f e = subst (GreatestScore x id (suc n)) (same_index e) (comes b (λ j l c. clash _ (f refl j l) c))
+      decided none k b g f e = subst (GreatestScore x id (suc n)) (cc) (comes b (λ j l c. absurd (both_ways _ (f refl j l) c)))
       decided (some i) k b g f e = go (lt (score i) (score n)) refl e
         where
           go : (t : Bool) → lt (score i) (score n) ≡ t → replaced t n (some i) ≡ some k → GreatestScore x id (suc n) k
-          go true t q = subst (GreatestScore x id (suc n)) (same_index q) (comes b (above i (g i refl) t))
-          go false t q = subst (GreatestScore x id (suc n)) (same_index q) (stays i (g i refl) (λ c. t))
+          go true t q = subst (GreatestScore x id (suc n)) (cc) (comes b (above i (g i refl) t))
+          go false t q = subst (GreatestScore x id (suc n)) (cc) (stays i (g i refl) (λ c. t))
 
     pub greatest_to_lem : (n : ℕ) → n ≤ length x.scores → (k : ℕ) → chosen_to x id n ≡ some k → GreatestScore x id n k
     unfolding chosen_to
-    greatest_to_lem zero h k e = none_not e
+    greatest_to_lem zero h k e = cc
     greatest_to_lem (suc n) h k e = go (greatest_to_lem n (omega (arith, h))) (bears x n id) refl
       where
         inside : n < length x.scores
@@ -127,4 +110,4 @@ module _ (x : Input) (id : ℕ) where
 
         go : ((k : ℕ) → chosen_to x id n ≡ some k → GreatestScore x id n k) → (t : Bool) → bears x n id ≡ t → GreatestScore x id (suc n) k
         go before true t = decided n inside (chosen_to x id n) k t before (none_before n) (sym (met x n id t) ∙ e)
-        go before false t = stays n inside k (before k (sym (passed x n id t) ∙ e)) (λ c. clash _ t c)
+        go before false t = stays n inside k (before k (sym (passed x n id t) ∙ e)) (λ c. absurd (both_ways _ t c))

@@ -37,14 +37,11 @@ pub record Placed (t : ℕ → ℕ → Bool) (w h : ℕ) (u v : ℤ) (id : ℕ) 
   pub v-is : v ≡ pos j
   pub number : number_at t w h i j ≡ Some id
 
-absent_not : {id : ℕ} {P : Type 0} → None ≡ Some id → P
-absent_not e = let z : ◌≡◌ {A = ℕ} 0 1 = cc in absurd (omega arith)
-
 pub placed_at : (t : ℕ → ℕ → Bool) (w h : ℕ) (u v : ℤ) (id : ℕ) → number_atℤ t w h u v ≡ Some id → Placed t w h u v id
 unfolding number_atℤ
 placed_at t w h (pos i) (pos j) id e = record { i = i; j = j; u-is = refl; v-is = refl; number = e }
-placed_at t w h (pos i) (negsuc j) id e = absent_not e
-placed_at t w h (negsuc i) v id e = absent_not e
+placed_at t w h (pos i) (negsuc j) id e = cc
+placed_at t w h (negsuc i) v id e = cc
 
 -- a board of at most 32 by 32 squares has fewer than 1,024 inner corners
 pub few-corners : (rows cols : ℕ) → rows ≤ 32 → cols ≤ 32 → corner_count rows cols ≤ 961
@@ -77,7 +74,7 @@ module _ (b : Board) (a : GridAlignment) (grid : List ℤ) (k : ℕ) where
     where
       go : (l : Bool) → label ≡ l → cond l there None ≡ Some id → Has id
       go true q f = record { has-point = q; corner = f }
-      go false q f = absent_not f
+      go false q f = cc
 
   pub on-corner : (id : ℕ) → id_of b a grid k ≡ Some id → Placed inner b.cols b.rows (board_corner a grid k).u (board_corner a grid k).v id
   on-corner id e = placed_at inner b.cols b.rows (board_corner a grid k).u (board_corner a grid k).v id (has id e).corner

@@ -17,7 +17,7 @@ use Rattle.matcher.proofs.Turns.{each_turn}
 use Rattle.grid_alignment.specs.Alignment.{point, applied, corner, corner_alignment}
 use Rattle.grid_alignment.proofs.Entries.{small-corners}
 use Rattle.grid_alignment.proofs.Laws.{corners-land}
-use Rattle.board.specs.Numbering.{number_at, number_atℤ}
+use Rattle.board.specs.Numbering.{number_at, number_atℤ, position}
 use Rattle.board.specs.Layout.{holds_marker, parity_of, inner, corner_at, corner_count, scaled_point}
 use Rattle.board.proofs.Laws.{markers, corners, Four, four_are}
 use Rattle.lent_list.proofs.Front.{up_to_as}
@@ -64,14 +64,14 @@ board_corners_named x id k e =
     let b = x.board in
     let n = on-corner b x.alignment x.grid k id (is_id_lem (id_of b x.alignment x.grid k) id e) in
     let place = (corners b.rows b.cols).place_of n.i n.j id n.number in
+    let at = Some (position n.i n.j) in
     record {
       i = n.i;
       j = n.j;
       there = ap₂ point n.u-is n.v-is;
       has_id = n.number;
       of_id = place;
-      told = sym (words_are b id k (Some n.i n.j) (scaled_point b.cell_size (Some n.i n.j)) (sym place)
-          (ap (scaled_point b.cell_size) (sym place)));
+      told = sym (words_are b id k at (scaled_point b.cell_size at) (sym place) (ap (scaled_point b.cell_size) (sym place)));
     }
 
 -- ---- the corners of a cell

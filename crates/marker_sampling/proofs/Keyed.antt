@@ -6,6 +6,8 @@ use native.Mathlib.Nat.{mod-lt, div-lt_iff_lt-mul}
 use native.Mathlib.Omega.{arith}
 use lib.Arith.{digits_lt, digits_div, digits_mod}
 use lib.IntN.{pos, ◌+ℤ◌, ◌-ℤ◌, +ℤ_idr}
+use Rattle.std.specs.Cmp.{both_ways}
+use Rattle.std.proofs.lemmas.Bool.{false_from_ne_true}
 use borrow.Author.Tests.{lt-ltb, eq-eqb, ne_eqb, eqb-true}
 use Rattle.integers.proofs.Parts.{plus, minus, add_is, sub_is_parts, ext}
 use Rattle.grid_alignment.specs.declared.Coord.{Coord}
@@ -15,7 +17,7 @@ use Rattle.integers.proofs.Distances.{same_refl, same_eq}
 use Rattle.marker_sampling.specs.Cells.{Corners, word, labelled, stands}
 use Rattle.marker_sampling.specs.Keys.{key_side, range_point, HasKey}
 use Rattle.integers.proofs.Tests.{both}
-use Rattle.marker_sampling.proofs.Tests.{agree, fails, offset_only}
+use Rattle.marker_sampling.proofs.Offsets.{offset_only}
 
 -- rows of w: an index determines row and column
 digits_same : (w : ℕ) {u v a b : ℕ} → u < w → a < w → v * w + u ≡ b * w + a → (u ≡ a) × (v ≡ b)
@@ -58,10 +60,10 @@ module _ (m : ℕ) (c : Corners) (k : ℕ) where
     pub keyed : HasKey m c k (b * key_side m + a)
     keyed = record {
       at = λ u v hu hv.
-          agree _ _ (λ e. let o = only u v e in eq-eqb (b * key_side m + a) (v * key_side m + u) (ap₂ (λ (x y : ℕ). y * key_side m + x) o.0 o.1))
+          both_ways _ _ (λ e. let o = only u v e in eq-eqb (b * key_side m + a) (v * key_side m + u) (ap₂ (λ (x y : ℕ). y * key_side m + x) o.0 o.1))
           (λ e. let o = digits_same (key_side m) ha hu (eqb-true (b * key_side m + a) (v * key_side m + u) e) in stands-there u v o.0 o.1);
-      right = λ u v l. fails _ (λ e. let o = only u v e in omega arith);
-      under = λ u v l. fails _ (λ e. let o = only u v e in omega arith);
+      right = λ u v l. false_from_ne_true _ (λ e. let o = only u v e in omega arith);
+      under = λ u v l. false_from_ne_true _ (λ e. let o = only u v e in omega arith);
       most = let l = digits_lt hb ha in omega arith;
       small = λ l. hk;
     }

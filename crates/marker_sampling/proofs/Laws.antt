@@ -17,7 +17,7 @@ use Rattle.grid_alignment.specs.Alignment.{point}
 use Rattle.marker_sampling.specs.Cells.{whole_cell, point_at}
 use Rattle.marker_sampling.specs.Keys.{key_side}
 use Rattle.marker_sampling.specs.Rules.{PassingInOrder, CellsInOrder, EveryPoint}
-use Rattle.marker_sampling.proofs.Tests.{offset_of, offset_small, offset_back, offset_only}
+use Rattle.marker_sampling.proofs.Offsets.{offset_of, offset_small, offset_back, offset_only}
 
 module _ {A : Type 0} where
   map_snoc : (f : ℕ → A) (xs : List ℕ) (x : ℕ) → map f (xs ++ x ∷ []) ≡ map f xs ++ f x ∷ []

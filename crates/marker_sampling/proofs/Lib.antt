@@ -1,4 +1,4 @@
-pub mod Tests
+pub mod Offsets
 pub mod Placing
 pub mod Keyed
 pub mod Holders

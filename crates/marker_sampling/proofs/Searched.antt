@@ -29,23 +29,6 @@ none_before map x = record { inside = omega arith; below = λ k h. absurd (omega
 pub at_start : (map : List ℕ) → LowerBound map 0 0
 at_start map = record { inside = omega arith; below = λ k h. absurd (omega arith); above = λ k h g. omega arith }
 
--- ---- the next key
-module _ {map : List ℕ} {end from p : ℕ} (low : from ≤ end) (r : Rising map (length map)) (h : (j : ℕ) → j < length map → get_or map j 0 / 1024 ≤ end)
-    (b : LowerBound map (from * 1024) p) where
-  pub next_key : p < length map → Next map end from (get_or map p 0 / 1024)
-  next_key l = record {
-    least = omega (arith, b.above p (omega arith) l);
-    most = h p l;
-    passed = λ j g less. go j g less (lt_or_le j p);
-  }
-    where
-      go : (j : ℕ) → j < length map → get_or map j 0 / 1024 < get_or map p 0 / 1024 → (j < p) ⊎ (p ≤ j) → get_or map j 0 / 1024 < from
-      go j g less (inl d) = omega (arith, b.below j d)
-      go j g less (inr d) = absurd (omega (arith, r p j d g))
-
-  pub no_key : length map ≤ p → Next map end from end
-  no_key l = record { least = low; most = omega arith; passed = λ j g less. omega (arith, b.below j (omega arith)) }
-
 -- ---- the last inlier at a key
 module _ (m : ℕ) (c : Corners) (inliers map : List ℕ) (h : MapOf m c inliers map) (u v : ℕ) (hu : u < key_side m) (hv : v < key_side m) where
   abbrev key : ℕ

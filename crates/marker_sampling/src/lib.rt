@@ -18,13 +18,9 @@ use refusal::Refusal;
 pub fn corners_in_range(scores: &[f32], grid: &[i32]) -> bool
     ensures { result ≡ corners_answer scores.now grid.now }
 {
-    if 1024 < scores.len() {
-        return false;
-    }
-    if !questions::all_placed(scores.len(), grid) {
-        return false;
-    }
-    questions::all_finite(scores)
+    scores.len() <= 1024
+        && questions::all_placed(scores.len(), grid)
+        && questions::all_finite(scores)
 }
 
 // Writes the whole cells in row-major order, six words each, to the start of the output array, and returns their number; on a refusal the array is

@@ -1,10 +1,9 @@
 -- `corner_mapping::choice::CornerInput::choose_next` meets its contract: by whether corner k has an id. Assumes nothing.
 use mathlib.Core.Path.{◌≡◌, sym, ◌∙◌}
-use Prim.Native.Nat.{ℕ, ◌<◌}
+use Prim.Native.Nat.{◌<◌}
 use native.Mathlib.Omega.{arith}
 use Rattle.corner_mapping.specs.Corners.{Input, id_of}
 use Rattle.corner_mapping.specs.Entry.{input}
-use Rattle.corner_mapping.specs.Inner.{InputInRange}
 use Rattle.corner_mapping.proofs.Ids.{id_below, few-corners}
 use Rattle.corner_mapping.proofs.Choices.{stored-below, chosen-same, chosen_more}
 use Rattle.corner_mapping.proofs.choice.CornerInput.choose_next.Goals as goal

@@ -53,10 +53,10 @@ returns c =
     let p = c.apply-corner.result in
     let at = (goal.at.returns c).Else-not-labelled in
     let there : p ≡ applied x.alignment (point (coordinate at 1) (coordinate at 2)) =
-        c.apply-corner.ensures
-        ∙ ap₂ (λ (u v : ℤ). applied x.alignment (point u v))
-        (ap half (read_back c.word-u.result c.word-u.type_inv ∙ c.word-u.ensures) ∙ to_z-of_z w16 (coordinate at 1) (u-fits at))
-        (ap half (read_back c.word-v.result c.word-v.type_inv ∙ c.word-v.ensures) ∙ to_z-of_z w16 (coordinate at 2) (v-fits at)) in
+    c.apply-corner.ensures
+    ∙ ap₂ (λ (u v : ℤ). applied x.alignment (point u v))
+    (ap half (read_back c.word-u.result c.word-u.type_inv ∙ c.word-u.ensures) ∙ to_z-of_z w16 (coordinate at 1) (u-fits at))
+    (ap half (read_back c.word-v.result c.word-v.type_inv ∙ c.word-v.ensures) ∙ to_z-of_z w16 (coordinate at 2) (v-fits at)) in
     c.charuco_corner_id_from_board_corner.ensures
     ∙ ap₂ (corner_at x.board.rows x.board.cols)
     (to_z-of_z w32 p.u (record { sfits = omega arith }) ∙ ap (λ (r : Coord). r.u) there)

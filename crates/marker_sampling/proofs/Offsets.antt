@@ -1,4 +1,4 @@
--- Tests of Booleans and of integers, as equations. Assumes nothing.
+-- An integer from −m to m as an offset from −m. Assumes nothing.
 use mathlib.Core.Path.{◌≡◌, refl, sym, ap, ◌∙◌}
 use mathlib.Core.Bool.{Bool, true, false, not}
 use Prim.Native.Nat.{ℕ, ◌+◌, ◌*◌, ◌≤◌, ◌<◌}
@@ -10,21 +10,6 @@ use Rattle.integers.proofs.Tests.{both}
 use Rattle.integers.proofs.Parts.{plus, minus, plus_neg, minus_neg, add_is, sub_is_parts, abs_is, no_minus, ext}
 use Rattle.integers.proofs.Distances.{le_z→Le}
 use Rattle.integers.specs.Distance.{is_within}
-
--- two equivalent tests
-pub agree : (a b : Bool) → (a ≡ true → b ≡ true) → (b ≡ true → a ≡ true) → a ≡ b
-agree true b f g = sym (f refl)
-agree false true f g = g refl
-agree false false f g = refl
-
-pub fails : (a : Bool) → (a ≡ true → ⊥) → a ≡ false
-fails true f = absurd (f refl)
-fails false f = refl
-
--- the sign test
-pub not_negative : (z : ℤ) → le_z (pos 0) z ≡ not (lt_z z (pos 0))
-not_negative (pos n) = leb-zero n ∙ sym (ap not (leb-suc-zero n))
-not_negative (negsuc n) = refl
 
 -- an integer from −m to m is some n from 0 to 2m, less m
 pub offset_of : ℕ → ℤ → ℕ
