@@ -18,12 +18,12 @@ use Rattle.board.specs.Layout.{marker_total}
 use Rattle.board.specs.Questions.{board_of, asked_of_board}
 use Rattle.board.proofs.Laws.{same_count}
 use Rattle.board.proofs.Asked.{Asked, made, made_if}
-use Rattle.shot_record.specs.declared.fields.Fields.{Fields}
+use Rattle.shot_record.specs.declared.record.Record.{Record}
 use Rattle.shot_record.specs.Fields.{map_byte, codes_at}
 use Rattle.shot_record.specs.Shots.{Shot, list, shot}
 use Rattle.shot_record.specs.Answers.{spec_of}
 use Rattle.shot_record.specs.Writing.{little_endian, each, Bytes}
-use Rattle.shot_record.proofs.Reading.{Small, found}
+use Rattle.shot_record.proofs.Records.{found_in}
 use Rattle.shot_record.proofs.Whole.{Whole, passed}
 use Rattle.shot_record.proofs.Lists.{length-list, get_d_list, last_listed, list_as}
 use Rattle.shot_record.proofs.LittleEndian.{le_length, all_bytes}
@@ -63,12 +63,15 @@ turned-code bits n k r codes h e =
     e ∙ ap (λ (t : Bool). cond t (turned bits 2 (get_or codes (n - 1 - k) 0)) 0) (le-leb bits 8 h)
 
 -- ---- a record whose board passed its questions
-module _ (bytes : List ℕ) (board : Board) (f : Fields) (codes : List ℕ) (r : Restatable bytes board f codes) (small : Small bytes) where
+module _ (read : Record) (board : Board) (codes : List ℕ) (r : Restatable read.bytes.now board codes) where
+  abbrev bytes : List ℕ
+  bytes = read.bytes.now
+
   abbrev s : Shot
   s = shot bytes
 
   abbrev b : Bytes bytes
-  b = all_bytes bytes small
+  b = all_bytes bytes read.small
 
   abbrev w : Whole bytes
   w = passed bytes r.whole
@@ -97,11 +100,11 @@ module _ (bytes : List ℕ) (board : Board) (f : Fields) (codes : List ℕ) (r :
           omega (arith, all, same_count (board_of (spec_of s)), mul-le-mul {n₂ = 32} {m₂ = 32} size.rows size.cols)
       go (inr none_is) = omega (arith, none_is)
 
-  pub codes_at_lem : f.rows_at + 14 ≡ codes_at bytes
-  codes_at_lem = ap (λ (k : ℕ). k + 14) (found f bytes r.fields).rows_at
+  pub codes_at_lem : read.fields.rows_at + 14 ≡ codes_at bytes
+  codes_at_lem = ap (λ (k : ℕ). k + 14) (found_in read).rows_at
 
-  map_is : f.map ≡ map_byte bytes
-  map_is = (found f bytes r.fields).map
+  map_is : read.fields.map ≡ map_byte bytes
+  map_is = (found_in read).map
 
   module _ (n : ℕ) (e : n ≡ reversed_on board) where
     same-count_of-codes : n ≡ reversed_count s
@@ -125,15 +128,15 @@ module _ (bytes : List ℕ) (board : Board) (f : Fields) (codes : List ℕ) (r :
         ap (each (little_endian 8)) (list_as (new_code board.bits n codes) (new_code s.bits n s.codes) n same_code)
         ∙ ap (λ (m : ℕ). each (little_endian 8) (list (new_code s.bits m s.codes) m)) same-count_of-codes
 
-    module _ {lent l₁ : List ℕ} {i₁ : ℕ} (room : length bytes ≤ length lent) (p₁ : Put lent l₁ 0 i₁ (without_flag f.map ∷ [])) where
+    module _ {lent l₁ : List ℕ} {i₁ : ℕ} (room : length bytes ≤ length lent) (p₁ : Put lent l₁ 0 i₁ (without_flag read.fields.map ∷ [])) where
       pub first-place : i₁ ≡ 1
       first-place = omega (arith, p₁.end)
 
       pub first-long : length l₁ ≡ length lent
       first-long = put_length p₁ (omega arith) (omega (arith, first-place, room, reach))
 
-      module _ {l₂ : List ℕ} {i₂ : ℕ} (p₂ : Put l₁ l₂ i₁ i₂ (take (f.rows_at + 14 - i₁) (drop i₁ bytes))) where
-        head-is : take (f.rows_at + 14 - i₁) (drop i₁ bytes) ≡ take (codes_at bytes - 1) (drop 1 bytes)
+      module _ {l₂ : List ℕ} {i₂ : ℕ} (p₂ : Put l₁ l₂ i₁ i₂ (take (read.fields.rows_at + 14 - i₁) (drop i₁ bytes))) where
+        head-is : take (read.fields.rows_at + 14 - i₁) (drop i₁ bytes) ≡ take (codes_at bytes - 1) (drop 1 bytes)
         head-is = ap₂ (λ (a i : ℕ). take (a - i) (drop i bytes)) codes_at_lem first-place
 
         pub second-place : i₂ ≡ codes_at bytes

@@ -28,10 +28,7 @@ fn layout_differs(board: Board) -> bool
 fn sides(board: Board) -> bool
     ensures { result ≡ sides_answer board }
 {
-    if !layout_differs(board) {
-        return true;
-    }
-    !is_even(board.cols)
+    !(layout_differs(board) && is_even(board.cols))
 }
 
 // The number of codes that are listed in reverse.
@@ -73,7 +70,7 @@ fn put_codes(sheet: &mut [u8], at: usize, codes: &[u64; 512], bits: u8, n: usize
 
 // Writes the new record: the map byte, the bytes up to the codes, the codes that change, and the rest.
 fn put_restated(board: Board, record: &Record<'_>, codes: &[u64; 512], sheet: &mut [u8])
-    requires { Restatable record.now.bytes.now board record.now.fields codes.now
+    requires { Restatable record.now.bytes.now board codes.now
         × (length record.now.bytes.now ≤ length sheet.old) }
     ensures { sheet.new ≡ in_front (restated_bytes record.now.bytes.now (shot record.now.bytes.now)) sheet.old }
 {
@@ -93,7 +90,7 @@ pub fn restate_on(
     codes: &[u64; 512],
     sheet: &mut [u8],
 ) -> Result<usize, Refusal>
-    requires { Restatable record.now.bytes.now board record.now.fields codes.now }
+    requires { Restatable record.now.bytes.now board codes.now }
     ensures answer { result
         ≡ converted_by (asked_from25 board (length record.now.bytes.now) (length sheet.old)) (length record.now.bytes.now) }
     ensures list { sheet.new ≡ at_exit (asked_from25 board (length record.now.bytes.now) (length sheet.old))

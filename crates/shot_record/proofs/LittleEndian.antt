@@ -8,6 +8,8 @@ use lib.Dec.{lit<}
 use lib.Pow.{shr_lt}
 use lib.ListN.{length, take, drop}
 use lib.Seq.{drop-cons, get_or-drop}
+use Rattle.std.specs.Int.{w64, to_le_bytes}
+use Rattle.std.proofs.Math.Nat.{div-div-eq-div-mul}
 use Rattle.shot_record.specs.Fields.{number}
 use Rattle.shot_record.specs.Writing.{little_endian, Bytes}
 use Rattle.shot_record.proofs.Reading.{Small}
@@ -30,6 +32,11 @@ pub le_bytes : (n x : ℕ) → Bytes (little_endian n x)
 unfolding little_endian
 le_bytes zero x = tt
 le_bytes (suc n) x = (omega arith, le_bytes n (x / 256))
+
+-- the library's bytes of a 64-bit number
+pub eight_bytes : (x : ℕ) → to_le_bytes w64 x ≡ little_endian 8 x
+unfolding little_endian
+eight_bytes x = simp div-div-eq-div-mul
 
 -- ---- parsing an encoded number
 number-drop : (n at k : ℕ) (bytes : List ℕ) → number n (at + k) bytes ≡ number n k (drop at bytes)

@@ -139,6 +139,6 @@ fields_of bytes =
 abbrev pub cursor_at : List ℕ → ℕ → Cursor
 cursor_at bytes k = record { cell = k; start = cell_at bytes k }
 
--- the fields are this record's, and the iteration is at one of its cells
-abbrev pub AtCell : List ℕ → Fields → Cursor → Type 0
-AtCell bytes f c = (f ≡ fields_of bytes) × (c ≡ cursor_at bytes c.cell) × (c.cell < f.cell_count)
+-- the iteration is at a cell of the record
+abbrev pub AtCell : List ℕ → Cursor → Type 0
+AtCell bytes c = (c ≡ cursor_at bytes c.cell) × (c.cell < cell_count bytes)

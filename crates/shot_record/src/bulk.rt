@@ -1,5 +1,5 @@
 // The lists before the cells, each read at once: the likelihood table and the codes.
-ghost use Rattle.std.specs.Prelude.{◌≡◌, map, ◌^◌, ◌≤◌, length, replicate};
+ghost use Rattle.std.specs.Prelude.{◌≡◌, map, ◌^◌, ◌≤◌, replicate};
 ghost use Rattle.score_matrix.specs.Table.{built_in};
 ghost use Rattle.shot_record.specs.Shots.{numbers as numbers_of, first_codes, shot};
 ghost use Rattle.shot_record.specs.Answers.{of_pattern};

@@ -1,7 +1,7 @@
 // The cells of a record: which are sampled, an iteration over them, and question 21, which covers all of them.
 ghost use Rattle.std.specs.Prelude.{◌≡◌, ℕ, true, false, IfOk, IfErr, ◌+◌, ◌-◌, ◌^◌, ◌<◌, ◌≤◌, length, take, drop};
 ghost use Rattle.matcher.specs.Codes.{bit};
-ghost use Rattle.shot_record.specs.Fields.{is_set, cell_map, cell_length, point_size, point_of, sample_place, cursor_at, AtCell};
+ghost use Rattle.shot_record.specs.Fields.{is_set, cell_count, cell_map, cell_length, point_size, point_of, sample_place, cursor_at, AtCell};
 ghost use Rattle.shot_record.specs.Shots.{whole_record, parse, cell_of};
 ghost use Rattle.shot_record.specs.Answers.{cell_with, grid_answer, part_answer};
 ghost use Rattle.shot_record.specs.Index.{point_word};
@@ -30,7 +30,7 @@ fn cell_length(is_sampled: bool, grid_size: usize) -> usize
 impl<'a> Record<'a> {
     // Is cell k sampled?
     pub fn is_sampled(&self, k: usize) -> bool
-        requires { k < self.now.fields.cell_count }
+        requires { k < cell_count self.now.bytes.now }
         ensures { result ≡ is_set (cell_map self.now.bytes.now) k }
     {
         maps::is_set(self.bytes, self.fields.cell_map_at, k)
@@ -46,7 +46,7 @@ impl<'a> Record<'a> {
     }
 
     pub fn next(&self, c: Cursor) -> Cursor
-        requires { AtCell self.now.bytes.now self.now.fields c }
+        requires { AtCell self.now.bytes.now c }
         ensures { result ≡ cursor_at self.now.bytes.now (c.cell + 1) }
     {
         Cursor {
@@ -69,7 +69,7 @@ impl<'a> Record<'a> {
 
     // The cell's grid point as one word: u in the low half, v in the high half.
     pub fn point(&self, c: Cursor) -> u32
-        requires { AtCell self.now.bytes.now self.now.fields c }
+        requires { AtCell self.now.bytes.now c }
         ensures { result ≡ point_word (point_of self.now.bytes.now c.cell) }
     {
         numbers::four_at(self.bytes, c.start)
@@ -77,7 +77,7 @@ impl<'a> Record<'a> {
 
     // The offset of the cell's sample, if it has one.
     pub fn sample_place(&self, c: Cursor) -> usize
-        requires { AtCell self.now.bytes.now self.now.fields c × (c.start ≤ 2 ^ 39) }
+        requires { AtCell self.now.bytes.now c }
         ensures { result ≡ sample_place self.now.bytes.now c.cell }
     {
         c.start + 4
@@ -116,7 +116,7 @@ impl<'a> Record<'a> {
     }
 
     pub fn cell(&self, c: Cursor) -> ReadCell
-        requires { AtCell self.now.bytes.now self.now.fields c }
+        requires { AtCell self.now.bytes.now c }
         ensures { result ≡ cell_with (cell_of self.now.bytes.now c.cell) }
     {
         let point = self.point(c);

@@ -12,7 +12,7 @@ use super::{Record, numbers};
 
 // The words of one cell of a well-formed record.
 fn words(record: &Record<'_>, c: Cursor) -> [u32; 3]
-    requires { AtCell record.now.bytes.now record.now.fields c × (whole_record record.now.bytes.now ≡ true) }
+    requires { AtCell record.now.bytes.now c × (whole_record record.now.bytes.now ≡ true) }
     ensures { result ≡ words_of record.now.bytes.now c.cell }
 {
     let point = record.point(c);

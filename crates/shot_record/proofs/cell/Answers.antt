@@ -1,5 +1,5 @@
 -- `shot_record::cell` meets its contract. Assumes nothing.
-use Rattle.std.proofs.Common.{◌≡◌, refl, ap, ◌∙◌, ℕ, List, ◌<◌, ◌≤◌, Some, Ok, arith}
+use Rattle.std.proofs.Common.{refl, ap, ◌∙◌, ◌<◌, ◌≤◌, Some, Ok, arith}
 use Rattle.std.proofs.lemmas.Result.{err_from_is_err_and}
 use Rattle.shot_record.specs.declared.cells.Cursor.{Cursor}
 use Rattle.shot_record.specs.Fields.{cell_count}
@@ -26,9 +26,7 @@ returns-then-record-k c =
     rw (read_as _ _ h.0 h.1, get_elem?_list_past (cell_of bytes) (cell_count bytes) c.args.k past) refl
 
 pub cell-requires : goal.cell-requires
-cell-requires c =
-    let r = c.in_ok-record.record in
-    at-cell r.bytes.now r.fields c.seek-at.result c.args.k r.located c.seek-at.ensures c.if-record-k.false
+cell-requires c = at-cell c.in_ok-record.record c.seek-at.result c.args.k c.seek-at.ensures c.if-record-k.false
 
 pub returns : goal.returns
 returns c =

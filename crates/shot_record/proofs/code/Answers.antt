@@ -1,5 +1,5 @@
 -- `shot_record::code` meets its contract. Assumes nothing.
-use Rattle.std.proofs.Common.{◌≡◌, refl, ap, ℕ, List, ◌+◌, ◌*◌, ◌<◌, ◌≤◌, Some, Ok, arith}
+use Rattle.std.proofs.Common.{refl, ap, ℕ, List, ◌+◌, ◌*◌, ◌<◌, ◌≤◌, Some, Ok, arith}
 use Rattle.std.proofs.lemmas.Result.{err_from_is_err_and}
 use Rattle.shot_record.specs.Fields.{number, codes_at, code_count}
 use Rattle.shot_record.proofs.Lists.{get_elem?_list, get_elem?_list_past}

@@ -1,5 +1,5 @@
 -- `shot_record::table_entry` meets its contract. Assumes nothing.
-use Rattle.std.proofs.Common.{◌≡◌, refl, ap, ◌<◌, ◌≤◌, length, Some, Ok, arith}
+use Rattle.std.proofs.Common.{refl, ap, ◌<◌, ◌≤◌, length, Some, Ok, arith}
 use Rattle.std.proofs.lemmas.Result.{err_from_is_err_and}
 use Rattle.shot_record.specs.Shots.{shot}
 use Rattle.shot_record.proofs.Lists.{get_elem?_inside, get_elem?_past}

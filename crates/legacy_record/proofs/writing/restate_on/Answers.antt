@@ -1,61 +1,45 @@
 -- `legacy_record::writing::restate_on` meets its contract: by the results of questions 25 and 14. Assumes nothing.
-use mathlib.Core.Path.{◌≡◌, refl, sym, ◌∙◌}
-use mathlib.Core.Bool.{Bool, true, false}
-use mathlib.Core.List.{List}
-use mathlib.Core.Option.{none, some}
-use Prim.Native.Nat.{ℕ}
-use native.Mathlib.Omega.{arith}
-use lib.Dec.{leb}
-use lib.ListN.{length}
-use borrow.Author.Tests.{not-true, not-false, lt-leb, le-leb}
+use Rattle.std.proofs.Common.{◌≡◌, refl, sym, ◌∙◌, Bool, true, false, length, leb}
+use Rattle.std.proofs.Math.Option.{Option, none, some}
+use borrow.Author.Tests.{lt-leb, le-leb}
+use Rattle.refusal.specs.declared.Refusal.{Refusal}
 use Rattle.refusal.specs.declared.Refusal.TheVariants as refusal
 use Rattle.refusal.specs.Questions.{ask}
-use Rattle.board.specs.declared.Board.{Board}
+use Rattle.lent_list.specs.Front.{at_exit}
 use Rattle.shot_record.specs.Shots.{shot}
-use Rattle.legacy_record.specs.Restating.{restated_bytes, sides_answer, asked_from25}
+use Rattle.legacy_record.specs.Restating.{restated_bytes, sides_answer, asked_from25, converted_by}
 use Rattle.legacy_record.proofs.Answered.{asked, told}
 use Rattle.legacy_record.proofs.writing.restate_on.Goals as goal
-use Rattle.legacy_record.proofs.writing.restate_on.Goals.{Else-not-sides, Start}
+use Rattle.legacy_record.proofs.writing.restate_on.Goals.{Start}
 
-module _ (s : Start) where
-  abbrev board : Board
-  board = s.args.board
+-- what was promised, from the answers of the two questions
+module _ (c : Start) where
+  abbrev last : Option Refusal
+  last = asked_from25 c.args.board (length c.args.record.now.bytes.now) (length c.args.sheet.now)
 
-  abbrev bytes : List ℕ
-  bytes = s.args.bytes.now
-
-  abbrev lent : List ℕ
-  lent = s.args.sheet.now
-
-  -- the answers of the two questions
-  questions : (a b : Bool) → sides_answer board ≡ a → leb (length bytes) (length lent) ≡ b
-      → asked_from25 board (length bytes) (length lent) ≡ ask a refusal.EvenLegacyBoard (ask b refusal.ListTooShort none)
-  questions = asked board (length bytes) (restated_bytes bytes (shot bytes)) lent
+  answered : (a b : Bool) (o : Option Refusal) → sides_answer c.args.board ≡ a → leb (length c.args.record.now.bytes.now) (length c.args.sheet.now) ≡ b
+      → ask a refusal.EvenLegacyBoard (ask b refusal.ListTooShort none) ≡ o
+      → (converted_by o (length c.args.record.now.bytes.now) ≡ converted_by last (length c.args.record.now.bytes.now))
+      × (at_exit o (restated_bytes c.args.record.now.bytes.now (shot c.args.record.now.bytes.now)) c.args.sheet.now
+      ≡ at_exit last (restated_bytes c.args.record.now.bytes.now (shot c.args.record.now.bytes.now)) c.args.sheet.now)
+  answered a b o e f g =
+      let bytes = c.args.record.now.bytes.now in
+      let new = restated_bytes bytes (shot bytes) in
+      told c.args.board (length bytes) new c.args.sheet.now o (asked c.args.board (length bytes) new c.args.sheet.now a b e f ∙ g)
 
 pub returns-then-not-sides : goal.returns-then-not-sides
 returns-then-not-sides c =
-    record {
-      answer = (told c.args.board (length c.args.bytes.now) (restated_bytes c.args.bytes.now (shot c.args.bytes.now)) c.args.sheet.now (some refusal.EvenLegacyBoard) (questions (goal.at.returns-then-not-sides c).Start false _ (sym c.sides.ensures ∙ not-true _ c.if-not-sides.true-raw) refl)).0;
-      list = (told c.args.board (length c.args.bytes.now) (restated_bytes c.args.bytes.now (shot c.args.bytes.now)) c.args.sheet.now (some refusal.EvenLegacyBoard) (questions (goal.at.returns-then-not-sides c).Start false _ (sym c.sides.ensures ∙ not-true _ c.if-not-sides.true-raw) refl)).1;
-    }
-
-module _ (c : Else-not-sides) where
-  sides_pass : sides_answer c.args.board ≡ true
-  sides_pass = sym c.sides.ensures ∙ not-false _ c.if-not-sides.false-raw
+    let t = answered (goal.at.returns-then-not-sides c).Start false _ (some refusal.EvenLegacyBoard) (sym c.sides.ensures ∙ c.if-not-sides.true) refl refl in
+    record { answer = t.0; list = t.1 }
 
 pub returns-then-sheet-size : goal.returns-then-sheet-size
 returns-then-sheet-size c =
-    record {
-      answer = (told c.args.board (length c.args.bytes.now) (restated_bytes c.args.bytes.now (shot c.args.bytes.now)) c.args.sheet.now (some refusal.ListTooShort) (questions (goal.at.returns-then-sheet-size c).Start true false (sides_pass (goal.at.returns-then-sheet-size c).Else-not-sides) (lt-leb (length c.args.bytes.now) (length c.args.sheet.now) c.if-sheet-size.true))).0;
-      list = (told c.args.board (length c.args.bytes.now) (restated_bytes c.args.bytes.now (shot c.args.bytes.now)) c.args.sheet.now (some refusal.ListTooShort) (questions (goal.at.returns-then-sheet-size c).Start true false (sides_pass (goal.at.returns-then-sheet-size c).Else-not-sides) (lt-leb (length c.args.bytes.now) (length c.args.sheet.now) c.if-sheet-size.true))).1;
-    }
-
-pub put_restated-requires : goal.put_restated-requires
-put_restated-requires c = (c.requires, omega (arith, c.if-sheet-size.false))
+    let short = lt-leb (length c.args.record.now.bytes.now) (length c.args.sheet.now) c.if-sheet-size.true in
+    let t = answered (goal.at.returns-then-sheet-size c).Start true false (some refusal.ListTooShort) (sym c.sides.ensures ∙ c.if-not-sides.false) short refl in
+    record { answer = t.0; list = t.1 }
 
 pub returns : goal.returns
 returns c =
-    let t = told c.args.board (length c.args.bytes.now) (restated_bytes c.args.bytes.now (shot c.args.bytes.now)) c.args.sheet.now none (questions (goal.at.returns c).Start true true (sides_pass (goal.at.returns c).Else-not-sides) (le-leb (length c.args.bytes.now) (length c.args.sheet.now) (omega (arith, c.if-sheet-size.false)))) in record {
-      answer = t.0;
-      list = c.put_restated.ensures ∙ t.1;
-    }
+    let room = le-leb (length c.args.record.now.bytes.now) (length c.args.sheet.now) c.if-sheet-size.false in
+    let t = answered (goal.at.returns c).Start true true none (sym c.sides.ensures ∙ c.if-not-sides.false) room refl in
+    record { answer = t.0; list = c.put_restated.ensures ∙ t.1 }

@@ -1,5 +1,5 @@
 -- `shot_record::bulk::codes` meets its contract. Assumes nothing.
-use Rattle.std.proofs.Common.{◌≡◌, refl, sym, ap, ◌∙◌, ℕ, ◌≤◌, ◌<◌, List, length, get_or, arith}
+use Rattle.std.proofs.Common.{◌≡◌, refl, sym, ap, ◌∙◌, ℕ, ◌≤◌, ◌<◌, List, get_or, arith}
 use lib.ListN.{get_or-replicate, get_or-eq_default}
 use lib.Seq.{get_or-set_other}
 use Rattle.shot_record.specs.Shots.{shot}

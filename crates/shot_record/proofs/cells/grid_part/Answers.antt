@@ -1,6 +1,5 @@
 -- `shot_record::cells::grid_part` meets its contract. Assumes nothing.
-use Rattle.std.proofs.Common.{◌≡◌, refl, sym, ap, ap₂, ◌∙◌, ℕ, ◌+◌, ◌-◌, ◌≤◌, ◌<◌, ◌*◌, List, true, length, take, drop, arith}
-use Rattle.shot_record.specs.declared.record.Record.{Record}
+use Rattle.std.proofs.Common.{◌≡◌, refl, ap, ap₂, ◌∙◌, ℕ, ◌+◌, ◌-◌, ◌≤◌, ◌<◌, ◌*◌, List, true, length, take, drop, arith}
 use Rattle.shot_record.specs.declared.cells.Part.{Part}
 use Rattle.shot_record.specs.declared.cells.Cursor.{Cursor}
 use Rattle.shot_record.specs.Fields.{bits_of, border_of, grid_size, cell_count, cell_map, sampled, sample_place, grid_from}
@@ -8,7 +7,7 @@ use Rattle.shot_record.specs.Shots.{cell_of, whole_record}
 use Rattle.shot_record.proofs.Lists.{get_elem?_list, get_elem?_list_past}
 use Rattle.shot_record.proofs.Reading.{flag_set, flag_clear, start_reach, count_reach, grid_reach}
 use Rattle.shot_record.proofs.Records.{found_in}
-use Rattle.shot_record.proofs.Walks.{at-cell, walk_reach}
+use Rattle.shot_record.proofs.Walks.{at-cell}
 use Rattle.shot_record.proofs.CellReads.{without-grid, with_grid, without-part, with_part, grid_lies}
 use Rattle.shot_record.proofs.Whole.{refused, passed, read_as}
 use Rattle.shot_record.proofs.cells.grid_part.Goals as goal
@@ -42,6 +41,9 @@ returns-then-record-k-clause-place c =
     let past : cell_count bytes ≤ c.args.k = omega arith in
     rw (read_as _ _ h.0 h.1, get_elem?_list_past (cell_of bytes) (cell_count bytes) c.args.k past) refl
 
+pub is_sampled-requires : goal.is_sampled-requires
+is_sampled-requires c = omega (arith, (found_in c.in-Ok.record).cell_count_is)
+
 pub returns-then-not-is_sampled-clause-holds : goal.returns-then-not-is_sampled-clause-holds
 returns-then-not-is_sampled-clause-holds c =
     let bytes = c.in-Ok.record.bytes.now in
@@ -63,10 +65,7 @@ returns-then-not-is_sampled-clause-place c =
     (without-part (sampled bytes k) (size bytes) (sample_place bytes k) bytes (flag_clear (cell_map bytes) k c.is_sampled.ensures c.if-not-is_sampled.true))
 
 pub sample_place-first-requires : goal.sample_place-first-requires
-sample_place-first-requires c =
-    let r = c.in-Ok.record in
-    let walk = at-cell r.bytes.now r.fields c.seek.result c.args.k r.located c.seek.ensures c.if-record-k.false in
-    (walk, walk_reach r.bytes.now r.fields c.seek.result walk r.small)
+sample_place-first-requires c = at-cell c.in-Ok.record c.seek.result c.args.k c.seek.ensures c.if-record-k.false
 
 -- the offset of the sample, and its bound
 place : (c : After-sample_place-first) → c.sample_place-first.result ≡ sample_place c.in-Ok.record.bytes.now c.args.k

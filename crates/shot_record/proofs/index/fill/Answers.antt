@@ -8,7 +8,7 @@ use mathlib.Core.List.{List}
 use lib.ListN.{length, get_or, set, length-set}
 use lib.Seq.{get_or-set_same, get_or-set_other}
 use Rattle.shot_record.specs.declared.cells.Cursor.{Cursor}
-use Rattle.shot_record.specs.Fields.{cell_count, cursor_at, AtCell}
+use Rattle.shot_record.specs.Fields.{cursor_at, AtCell}
 use Rattle.shot_record.specs.Index.{words_of, with_words}
 use Rattle.shot_record.proofs.Records.{found_in}
 use Rattle.shot_record.proofs.Walks.{at-cell}
@@ -62,10 +62,8 @@ module _ (bytes index words : List ℕ) (k : ℕ) (inside : k < 256) (size : len
             grid = other-words (3 * j + 2) (λ x y. absurd (omega arith)) ∙ old.grid;
           }
 
-walk : (c : In-loop-k) → AtCell c.args.record.now.bytes.now c.args.record.now.fields c.loop-k.c
-walk c =
-    let r = c.args.record.now in
-    at-cell r.bytes.now r.fields c.loop-k.c c.loop-k.k r.located c.loop-k.invariant.cursor (omega arith)
+walk : (c : In-loop-k) → AtCell c.args.record.now.bytes.now c.loop-k.c
+walk c = at-cell c.args.record.now c.loop-k.c c.loop-k.k c.loop-k.invariant.cursor (omega arith)
 
 pub words-requires : goal.words-requires
 words-requires c = (walk (goal.at.words-requires c).In-loop-k, c.requires)

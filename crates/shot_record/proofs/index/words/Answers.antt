@@ -1,12 +1,9 @@
 -- `shot_record::index::words` meets its contract. Assumes nothing.
 use Rattle.std.proofs.Common.{◌≡◌, refl, sym, ◌∙◌, ℕ, zero, suc, ◌+◌, ◌*◌, ◌≤◌, ◌<◌, List, [], ◌∷◌, true, false, arith}
-use Rattle.shot_record.specs.declared.record.Record.{Record}
-use Rattle.shot_record.specs.declared.cells.Cursor.{Cursor}
-use Rattle.shot_record.specs.Fields.{byte, number, is_set, cell_count, cell_map, sampled, Point, point_of, sample_place, threshold_from, grid_from, AtCell}
+use Rattle.shot_record.specs.Fields.{byte, number, is_set, cell_count, cell_map, sampled, Point, point_of, sample_place, threshold_from, grid_from}
 use Rattle.shot_record.specs.Shots.{whole_record}
 use Rattle.shot_record.specs.Index.{point_word, words_from}
 use Rattle.shot_record.proofs.Reading.{flag_set, flag_clear}
-use Rattle.shot_record.proofs.Walks.{walk_inside, walk_start}
 use Rattle.shot_record.proofs.Whole.{passed}
 use Rattle.shot_record.proofs.CellReads.{grid_lies}
 use Rattle.shot_record.proofs.index.words.Goals as goal
@@ -33,21 +30,11 @@ returns-then-not-is_sampled c =
     without bytes (sampled bytes k) (sample_place bytes k) (point_of bytes k) c.point-point.result
     (flag_clear (cell_map bytes) k c.is_sampled.ensures c.if-not-is_sampled.true) c.point-point.ensures
 
-pub sample_place-place-requires : goal.sample_place-place-requires
-sample_place-place-requires c =
-    let bytes = c.args.record.now.bytes.now in
-    let w = c.requires.0 in
-    let inside = walk_inside bytes _ c.args.c w in
-    let start = walk_start bytes _ c.args.c w in
-    let near = lies bytes c.args.c.cell c.requires.1 inside (sym c.if-not-is_sampled.false ∙ c.is_sampled.ensures) in
-    (w, omega arith)
-
 -- its offset is inside the record
 near : (c : After-sample_place-place) → grid_from c.sample_place-place.result ≤ 65535
 near c =
     let bytes = c.args.record.now.bytes.now in
-    let inside = walk_inside bytes _ c.args.c c.requires.0 in
-    omega (arith, c.sample_place-place.ensures, lies bytes c.args.c.cell c.requires.1 inside (sym c.if-not-is_sampled.false ∙ c.is_sampled.ensures))
+    omega (arith, c.sample_place-place.ensures, lies bytes c.args.c.cell c.requires.1 c.requires.0.1 (sym c.if-not-is_sampled.false ∙ c.is_sampled.ensures))
 
 pub overflow_add-grid : goal.overflow_add-grid
 overflow_add-grid c = omega (arith, near c)

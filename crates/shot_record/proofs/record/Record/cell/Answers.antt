@@ -1,5 +1,5 @@
 -- `shot_record::cells::Record::cell` meets its contract. Assumes nothing.
-use Rattle.std.proofs.Common.{◌≡◌, refl, ap, sym, ◌∙◌, ℕ, zero, suc, ◌+◌, ◌/◌, ◌%◌, ◌^◌, ◌≤◌, List, arith}
+use Rattle.std.proofs.Common.{◌≡◌, refl, ap, ◌∙◌, ℕ, zero, suc, ◌/◌, ◌%◌, List, arith}
 use lib.IntN.{ℤ}
 use lib.Ieee.{Float}
 use mir.Syntax.{w16}
@@ -68,20 +68,15 @@ returns-then-not-is_sampled c =
     unsampled-alike (read_u s) (read_v s)
     ∙ without (here s) bytes (sample_place bytes k) (sampled bytes k) (size bytes) (flag_clear (cell_map bytes) k c.is_sampled.ensures c.if-not-is_sampled.true)
 
-pub sample_place-place-requires : goal.sample_place-place-requires
-sample_place-place-requires c =
-    let r = c.args.self.now in
-    (c.requires, walk_reach r.bytes.now r.fields c.args.c c.requires r.small)
-
 pub float_at-requires : goal.float_at-requires
 float_at-requires c =
     let r = c.args.self.now in
-    omega (arith, c.sample_place-place.ensures, walk_reach r.bytes.now r.fields c.args.c c.requires r.small, walk_start r.bytes.now r.fields c.args.c c.requires)
+    omega (arith, c.sample_place-place.ensures, walk_reach r c.args.c c.requires, walk_start r c.args.c c.requires)
 
 pub overflow_add-place : goal.overflow_add-place
 overflow_add-place c =
     let r = c.args.self.now in
-    omega (arith, c.sample_place-place.ensures, walk_reach r.bytes.now r.fields c.args.c c.requires r.small, walk_start r.bytes.now r.fields c.args.c c.requires)
+    omega (arith, c.sample_place-place.ensures, walk_reach r c.args.c c.requires, walk_start r c.args.c c.requires)
 
 pub returns : goal.returns
 returns c =

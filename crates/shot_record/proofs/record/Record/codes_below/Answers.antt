@@ -1,5 +1,5 @@
 -- `shot_record::questions::Record::codes_below` meets its contract. Assumes nothing.
-use Rattle.std.proofs.Common.{◌≡◌, refl, ap, sym, ◌∙◌, ℕ, List, ◌+◌, ◌≤◌, Bool, true, false, ◌&&◌, length, drop, arith}
+use Rattle.std.proofs.Common.{◌≡◌, ap, sym, ◌∙◌, ◌+◌, ◌≤◌, Bool, true, false, ◌&&◌, length, drop, arith}
 use lib.ListN.{drop_of_length-le}
 use Rattle.board.specs.Questions.{code_in_range, codes_answer}
 use Rattle.board.proofs.Asked.{codes_step}

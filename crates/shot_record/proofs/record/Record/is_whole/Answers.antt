@@ -1,5 +1,5 @@
 -- `shot_record::cells::Record::is_whole` meets its contract. Assumes nothing.
-use Rattle.std.proofs.Common.{◌≡◌, ap, ap₂, sym, ◌∙◌, ℕ, ◌^◌, ◌<◌, ◌≤◌, Bool, true, false, List, length, leb, ltb, eqb, arith}
+use Rattle.std.proofs.Common.{◌≡◌, ap, ap₂, sym, ◌∙◌, ℕ, ◌^◌, ◌<◌, ◌≤◌, Bool, true, false, length, leb, ltb, eqb, arith}
 use Prim.Native.Nat.{zero-le}
 use borrow.Author.Tests.{le-leb, lt-leb, lt-ltb, le-ltb, ne_eqb}
 use Rattle.shot_record.specs.declared.record.Record.{Record}

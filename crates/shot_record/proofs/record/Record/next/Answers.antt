@@ -4,14 +4,14 @@ use Rattle.shot_record.specs.declared.cells.Cursor.{Cursor}
 use Rattle.shot_record.specs.Fields.{cell_length, point_size, cell_map, sampled, cell_at}
 use Rattle.shot_record.proofs.Reading.{grid_reach, count_reach, start_reach}
 use Rattle.shot_record.proofs.Records.{found_in}
-use Rattle.shot_record.proofs.Walks.{walk_inside, walk_start}
+use Rattle.shot_record.proofs.Walks.{walk_start}
 use Rattle.shot_record.proofs.record.Record.next.Goals as goal
 use Rattle.shot_record.proofs.record.Record.next.Goals.{After-cell_length}
 
 pub overflow_add-result : goal.overflow_add-result
 overflow_add-result c =
     let r = c.args.self.now in
-    omega (arith, walk_inside r.bytes.now r.fields c.args.c c.requires, count_reach r.bytes.now r.small)
+    omega (arith, c.requires.1, count_reach r.bytes.now r.small)
 
 pub cell_length-requires : goal.cell_length-requires
 cell_length-requires c =
@@ -24,7 +24,7 @@ unfolding cell_at
 ends c =
     let r = c.args.self.now in
     let k = c.args.c.cell in
-    ap₂ ◌+◌ (walk_start r.bytes.now r.fields c.args.c c.requires)
+    ap₂ ◌+◌ (walk_start r c.args.c c.requires)
     (c.cell_length.ensures (cell_map r.bytes.now) k c.is_sampled.ensures
     ∙ ap (cell_length point_size (sampled r.bytes.now k)) (found_in r).grid_size_is)
 
@@ -35,7 +35,7 @@ overflow_add-result-2 c =
       arith,
       ends (goal.at.overflow_add-result-2 c).After-cell_length,
       start_reach r.bytes.now r.small (suc c.args.c.cell),
-      walk_inside r.bytes.now r.fields c.args.c c.requires,
+      c.requires.1,
       count_reach r.bytes.now r.small,
     )
 

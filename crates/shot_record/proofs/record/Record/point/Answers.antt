@@ -11,9 +11,9 @@ halves bytes at = omega (arith, number_split bytes 2 2 at)
 pub four_at-requires : goal.four_at-requires
 four_at-requires c =
     let r = c.args.self.now in
-    omega (arith, walk_reach r.bytes.now r.fields c.args.c c.requires r.small)
+    omega (arith, walk_reach r c.args.c c.requires)
 
 pub returns : goal.returns
 returns c =
     let r = c.args.self.now in
-    c.four_at.ensures ∙ ap (λ (at : ℕ). number 4 at r.bytes.now) (walk_start r.bytes.now r.fields c.args.c c.requires) ∙ halves r.bytes.now _
+    c.four_at.ensures ∙ ap (λ (at : ℕ). number 4 at r.bytes.now) (walk_start r c.args.c c.requires) ∙ halves r.bytes.now _

@@ -1,14 +1,12 @@
 -- `shot_record::cells::Record::seek` meets its contract. Assumes nothing.
-use Rattle.std.proofs.Common.{◌≡◌, ℕ, ap, ◌∙◌, ◌+◌, arith}
+use Rattle.std.proofs.Common.{ap, ◌∙◌, ◌+◌, arith}
 use Rattle.shot_record.specs.declared.cells.Cursor.{Cursor}
 use Rattle.shot_record.specs.Fields.{cursor_at}
 use Rattle.shot_record.proofs.Walks.{at-cell}
 use Rattle.shot_record.proofs.record.Record.seek.Goals as goal
 
 pub next-c-requires : goal.next-c-requires
-next-c-requires c =
-    let r = c.args.self.now in
-    at-cell r.bytes.now r.fields c.loop.c c.loop.counter r.located c.loop.invariant (omega arith)
+next-c-requires c = at-cell c.args.self.now c.loop.c c.loop.counter c.loop.invariant (omega arith)
 
 pub loop-preserved : goal.loop-preserved
 loop-preserved c = c.next-c.ensures ∙ ap (λ (d : Cursor). cursor_at c.args.self.now.bytes.now (d.cell + 1)) c.loop.invariant
