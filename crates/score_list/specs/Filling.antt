@@ -1,5 +1,5 @@
 -- How the array of scores is filled: eight cells side by side, all markers, and of each the four turns.
-use Rattle.std.specs.Prelude.{List, cond, ℕ, ◌+◌, ◌*◌, ◌<◌, ltb, get_or, Float}
+use Rattle.std.specs.Prelude.{List, ℕ, ◌+◌, ◌*◌, ◌<◌, get_or, Float}
 use Rattle.std.proofs.Math.Option.{Option, none, some}
 use Rattle.std.specs.Float.{nan}
 use Rattle.floats.specs.Units.{nought}
@@ -17,9 +17,6 @@ adds_with s (some x) k b = likelihood (table_of s) (samples_with s (some x)) k b
 
 unfoldable pub adds_of : Shot → ℕ → ℕ → ℕ → Float
 adds_of s k = adds_with s (cell s k).sample
-
-abbrev pub at_most_eight : ℕ → ℕ
-at_most_eight n = cond (ltb 8 n) 8 n
 
 -- of one marker: a cell of the eight, and a turn; the index of its score in the array, and its sum
 pub record Lane : Type 0 where

@@ -32,22 +32,18 @@ pub fn has_room(inputs: Inputs, places: usize) -> bool
 
 // Sets what the bits add to 0.
 fn clear(adds: &mut [f32; 128])
-    requires { length adds.old ≡ 128 }
     ensures { Wrote nan (λ (i : ℕ). i < 128) (λ (i : ℕ). i) (λ (i : ℕ). nought) adds.old adds.new }
 {
-    let mut i = 0;
-    while i < 128 {
+    for i in 0..128 {
         adds[i] = 0.0;
-        i += 1;
     }
 }
 
 // What the bits of a code add to the scores of cell k: 0 if it is unsampled, so that its scores are 0. Writes to an array of the caller, so that none
 // is copied.
 fn cell_adds(adds: &mut [f32; 128], loaded: &LoadedShot<'_>, k: usize)
-    requires { (k < cell_total (shot loaded.now.bytes.now)) × (length adds.old ≡ 128) }
-    ensures size { length adds.new ≡ 128 }
-    ensures holds { Adds (adds_of (shot loaded.now.bytes.now) k) (loaded.now.inputs.board.bits * loaded.now.inputs.board.bits)
+    requires { k < cell_total (shot loaded.now.bytes.now) }
+    ensures { Adds (adds_of (shot loaded.now.bytes.now) k) (loaded.now.inputs.board.bits * loaded.now.inputs.board.bits)
         adds.new }
 {
     let inputs = loaded.inputs;
@@ -64,9 +60,8 @@ fn cell_adds(adds: &mut [f32; 128], loaded: &LoadedShot<'_>, k: usize)
 
 // The rows of up to eight cells from `first` on: each cell is a column.
 fn fill_rows(rows: &mut [f32; 1024], loaded: &LoadedShot<'_>, first: usize, count: usize)
-    requires { (first + count ≤ cell_total (shot loaded.now.bytes.now)) × (count ≤ 8) × (length rows.old ≡ 1024) }
-    ensures size { length rows.new ≡ 1024 }
-    ensures columns { (x : ℕ) → x < count → Column (adds_of (shot loaded.now.bytes.now) (first + x))
+    requires { (first + count ≤ cell_total (shot loaded.now.bytes.now)) × (count ≤ 8) }
+    ensures { (x : ℕ) → x < count → Column (adds_of (shot loaded.now.bytes.now) (first + x))
         (loaded.now.inputs.board.bits * loaded.now.inputs.board.bits) rows.new x }
 {
     let board = loaded.inputs.board;
@@ -103,10 +98,8 @@ fn put_cells(
     requires { (m < markers) × (count ≤ 8) × ((first + count) * markers * 4 ≤ length scores.old) }
     ensures { Wrote nan (LaneIn count) (lane_place markers first m) (lane_sum sums.now) scores.old scores.new }
 {
-    let mut x = 0;
-    while x < count {
+    for x in 0..count {
         put_four(scores, sums, ((first + x) * markers + m) * 4, x);
-        x += 1;
     }
 }
 
@@ -126,11 +119,9 @@ fn fill_block(
         (spot_score rows.now sources.now board.bits codes.now) scores.old scores.new }
 {
     let markers = board.marker_count() as usize;
-    let mut m = 0;
-    while m < markers {
+    for m in 0..markers {
         let sums = rows::sum_turns(rows, sources, board.bits, codes[m]);
         put_cells(scores, &sums, markers, m, first, count);
-        m += 1;
     }
 }
 
@@ -143,11 +134,10 @@ pub fn fill(scores: &mut [f32], loaded: &LoadedShot<'_>)
     let cells = loaded.inputs.cells;
     let sources = rows::four_sources(board.bits);
     let mut lanes: [f32; 1024] = [0.0; 1024];
-    let mut first = 0;
-    while first < cells {
+    for block in 0..cells.div_ceil(8) {
+        let first = 8 * block;
         let count = 8.min(cells - first);
         fill_rows(&mut lanes, loaded, first, count);
         fill_block(scores, &lanes, &sources, board, loaded.codes, first, count);
-        first += count;
     }
 }

@@ -6,7 +6,7 @@ use native.Mathlib.Omega.{arith}
 use lib.ListN.{length}
 use Rattle.lent_list.specs.Front.{up_to}
 use Rattle.lent_list.proofs.Front.{put_as, put_front}
-use Rattle.lent_list.proofs.Loops.{none_to, to-length, to_room, to_more}
+use Rattle.lent_list.proofs.Loops.{none_to, to_room, to_more}
 use Rattle.shot_record.specs.Shots.{Shot, shot}
 use Rattle.hypothesis.specs.Placements.{cell_total}
 use Rattle.hypothesis.proofs.IndexedCells.{cells_are}
@@ -19,7 +19,7 @@ use Rattle.emit.proofs.emit_markers.Goals.{After-expected_in-expected, In-loop-k
 
 module _ (s : Start) where
   abbrev shown : Shot
-  shown = shot s.args.bytes.now
+  shown = shot s.args.loaded.now.bytes.now
 
   abbrev here : ℕ → List Marker
   here = emitted shown s.args.alignment
@@ -31,36 +31,34 @@ module _ (s : Start) where
   room : 0 + length (flat_map marker_words (up_to here (cell_total shown))) ≤ length lent
   room = omega (arith, all_words (markers shown s.args.alignment), one_per_cell shown s.args.alignment, s.requires.bytes_in_bounds)
 
-  counted : s.args.inputs.cells ≡ cell_total shown
-  counted = cells_are shown s.args.inputs s.requires.loaded.0.ready.is
+  counted : s.args.loaded.now.inputs.cells ≡ cell_total shown
+  counted = cells_are shown _ s.args.loaded.now.loaded.ready.is
 
 pub loop-k-init : goal.loop-k-init
-loop-k-init c = (omega arith, none_to marker_words (here (goal.at.loop-k-init c).Start) c.args.markers.now 0 (cell_total (shown (goal.at.loop-k-init c).Start)) (room (goal.at.loop-k-init c).Start))
+loop-k-init c =
+    let b = (goal.at.loop-k-init c).Start in none_to marker_words (here b) (lent b) 0 (cell_total (shown b)) (room b)
 
-module _ (c : In-loop-k) where
-  abbrev k : ℕ
-  k = c.loop-k.k
-
-  inside : k < cell_total (shot c.args.bytes.now)
-  inside = omega (arith, c.loop-k-test.true, cells_are (shot c.args.bytes.now) c.args.inputs c.requires.loaded.0.ready.is)
+inside : (c : In-loop-k) → c.loop-k.k < cell_total (shot c.args.loaded.now.bytes.now)
+inside c = omega (arith, c.loop-k-test.true, counted (goal.at.In-loop-k c).Start)
 
 pub expected_in-expected-requires : goal.expected_in-expected-requires
-expected_in-expected-requires c =
-    let h = c.requires.loaded in (h.0.ready, h.0.codes_are, h.1, inside (goal.at.expected_in-expected-requires c).In-loop-k)
+expected_in-expected-requires c = (c.requires.near, inside (goal.at.expected_in-expected-requires c).In-loop-k)
 
 -- what the cell emits
-module _ (c : After-expected_in-expected) where
-  emits : emitted_for (shot c.args.bytes.now) c.expected_in-expected.result ≡ emitted (shot c.args.bytes.now) c.args.alignment c.loop-k.k
-  emits =
-      ap (emitted_for (shot c.args.bytes.now)) c.expected_in-expected.ensures ∙ same-emitted (shot c.args.bytes.now) c.args.alignment c.loop-k.k
+emits : (c : After-expected_in-expected) → let s = shot c.args.loaded.now.bytes.now in
+    emitted_for s c.expected_in-expected.result ≡ emitted s c.args.alignment c.loop-k.k
+emits c =
+    let s = shot c.args.loaded.now.bytes.now in
+    ap (emitted_for s) c.expected_in-expected.ensures ∙ same-emitted s c.args.alignment c.loop-k.k
 
 pub emit_expected-at-requires : goal.emit_expected-at-requires
 emit_expected-at-requires c =
-    let h = c.requires.loaded.0 in
-    let i = c.loop-k.invariant in record {
-      ready = (h.ready, h.table_is, subst (OfCell (shown (goal.at.emit_expected-at-requires c).Start)) (sym c.expected_in-expected.ensures) (of_cell (shown (goal.at.emit_expected-at-requires c).Start) c.args.alignment c.loop-k.k (inside (goal.at.emit_expected-at-requires c).In-loop-k)));
+    let b = (goal.at.emit_expected-at-requires c).Start in
+    let k = c.loop-k.k in
+    let within = inside (goal.at.emit_expected-at-requires c).In-loop-k in record {
+      of_cell = subst (OfCell (shown b)) (sym c.expected_in-expected.ensures) (of_cell (shown b) c.args.alignment k within);
       expected_in_bounds = fits _ _ (emits (goal.at.emit_expected-at-requires c).After-expected_in-expected) c.loop-k.at c.loop-k.markers
-          (to_room marker_words (here (goal.at.emit_expected-at-requires c).Start) c.args.markers.now 0 (cell_total (shown (goal.at.emit_expected-at-requires c).Start)) (room (goal.at.emit_expected-at-requires c).Start) c.loop-k.k i.1 (inside (goal.at.emit_expected-at-requires c).In-loop-k));
+          (to_room marker_words (here b) (lent b) 0 (cell_total (shown b)) (room b) k c.loop-k.invariant within);
     }
   where
     fits : (ms ns : List Marker) → ms ≡ ns → (at : ℕ) (l : List ℕ) → at + length (flat_map marker_words ns) ≤ length l
@@ -69,17 +67,16 @@ emit_expected-at-requires c =
 
 pub loop-k-preserved : goal.loop-k-preserved
 loop-k-preserved c =
+    let b = (goal.at.loop-k-preserved c).Start in
     let put = put_as (ap (flat_map marker_words) (emits (goal.at.loop-k-preserved c).After-expected_in-expected)) c.emit_expected-at.ensures in
-    (omega (arith, inside (goal.at.loop-k-preserved c).In-loop-k), to_more marker_words (here (goal.at.loop-k-preserved c).Start) c.args.markers.now 0 (cell_total (shown (goal.at.loop-k-preserved c).Start)) (room (goal.at.loop-k-preserved c).Start) c.loop-k.k c.loop-k.invariant.1 put)
-
-pub shape_of-markers : goal.shape_of-markers
-shape_of-markers c =
-    to-length marker_words (here (goal.at.shape_of-markers c).Start) c.args.markers.now 0 (cell_total (shown (goal.at.shape_of-markers c).Start)) (room (goal.at.shape_of-markers c).Start) c.loop-k.k c.loop-k.invariant.1 c.loop-k.invariant.0
+    to_more marker_words (here b) (lent b) 0 (cell_total (shown b)) (room b) c.loop-k.k c.loop-k.invariant put
 
 pub returns : goal.returns
 returns c =
-    let all : c.loop-k.k ≡ cell_total (shown (goal.at.returns c).Start) = omega (arith, c.loop-k-test.false, counted (goal.at.returns c).Start, c.loop-k.invariant.0) in
-    let p = put_as (ap (λ (j : ℕ). flat_map marker_words (up_to (here (goal.at.returns c).Start) j)) all) c.loop-k.invariant.1 in record {
-      count = omega (arith, p.end, all_words (markers (shown (goal.at.returns c).Start) c.args.alignment));
-      list = put_front (omega (arith, p.end, room (goal.at.returns c).Start)) p;
+    let b = (goal.at.returns c).Start in
+    let k = c.loop-k in
+    let all : k.k ≡ cell_total (shown b) = omega (arith, c.loop-k-test.false, counted b, k.auto.k-end) in
+    let p = put_as (ap (λ (j : ℕ). flat_map marker_words (up_to (here b) j)) all) k.invariant in record {
+      count = omega (arith, p.end, all_words (markers (shown b) c.args.alignment));
+      list = put_front (omega (arith, p.end, room b)) p;
     }

@@ -4,7 +4,8 @@ use mathlib.Core.List.{List}
 use Prim.Native.Nat.{ℕ, ◌*◌, ◌≤◌, ◌<◌}
 use lib.Ieee.{Float}
 use native.Mathlib.Nat.{mul-le-mul}
-use Rattle.shot_record.specs.Shots.{Shot, shot}
+use borrow.Author.Rules.{rules}
+use Rattle.shot_record.specs.Shots.{shot}
 use Rattle.shot_record.specs.Answers.{border_with}
 use Rattle.shot_record.specs.Index.{border_in}
 use Rattle.hypothesis.specs.declared.Inputs.{Inputs}
@@ -18,16 +19,10 @@ use Rattle.std.specs.Prelude.{Option, Some}
 
 module _ (c : Start) where
   abbrev bytes : List ℕ
-  bytes = c.args.bytes.now
+  bytes = c.args.loaded.now.bytes.now
 
-  abbrev s : Shot
-  s = shot bytes
-
-  abbrev k : ℕ
-  k = c.args.k
-
-  ready : Ready bytes c.args.inputs c.args.index.now
-  ready = c.requires.0
+  ready : Ready bytes c.args.loaded.now.inputs c.args.loaded.now.index.now
+  ready = c.args.loaded.now.loaded.ready
 
 -- the border that was looked up is the cell's
 its_border : (bytes : List ℕ) (i : Inputs) (index : List ℕ) (k : ℕ) → Ready bytes i index → k < cell_total (shot bytes)
@@ -38,39 +33,35 @@ area : {m : ℕ} → m ≤ 8 → m * m ≤ 64
 area h = mul-le-mul {n₂ = 8} {m₂ = 8} h h
 
 -- the sample of a sampled cell is looked up
-module _ (c : After-threshold-threshold) where
-  abbrev fraction : Float
-  fraction = c.in-Some.field-0
-
-  has-border : border_with (cell (shot c.args.bytes.now) c.args.k).sample ≡ Some fraction
-  has-border = sym (its_border c.args.bytes.now c.args.inputs c.args.index.now c.args.k c.requires.0 c.requires.2 _ c.border-border.ensures) ∙ c.in-Some.is
+has-border : (c : After-threshold-threshold) → border_with (cell (shot c.args.loaded.now.bytes.now) c.args.k).sample ≡ Some c.in-Some.field-0
+has-border c =
+    sym (its_border c.args.loaded.now.bytes.now _ _ c.args.k c.args.loaded.now.loaded.ready c.requires _ c.border.ensures) ∙ c.in-Some.is
 
 pub grid-grid-requires : goal.grid-grid-requires
-grid-grid-requires c =
-    has-grid c.args.bytes.now c.args.inputs c.args.index.now (ready (goal.at.grid-grid-requires c).Start) c.args.k c.requires.2
+grid-grid-requires c = let b = (goal.at.grid-grid-requires c).Start in has-grid (bytes b) _ _ (ready b) c.args.k c.requires
 
 pub bit_likelihoods-requires : goal.bit_likelihoods-requires
 bit_likelihoods-requires c =
-    let a = c.args in record {
-      bits_bound = (few_bits c.args.bytes.now a.inputs a.index.now (ready (goal.at.bit_likelihoods-requires c).Start), c.requires.3);
-      grid_len = grid-whole c.args.bytes.now a.inputs a.index.now (ready (goal.at.bit_likelihoods-requires c).Start) c.args.k c.requires.2 c.threshold-threshold.result c.grid-grid.result.now
-          c.threshold-threshold.ensures c.grid-grid.ensures (sampled-grid (s (goal.at.bit_likelihoods-requires c).Start) c.args.k c.in-Some.field-0 (has-border (goal.at.bit_likelihoods-requires c).After-threshold-threshold) (ready (goal.at.bit_likelihoods-requires c).Start).passed);
+    let b = (goal.at.bit_likelihoods-requires c).Start in
+    let few : c.args.loaded.now.inputs.board.bits ≤ 8 = few_bits (bytes b) _ _ (ready b) in
+    let border = has-border (goal.at.bit_likelihoods-requires c).After-threshold-threshold in record {
+      bits_bound = search rules;
+      grid_len = grid-whole (bytes b) _ _ (ready b) c.args.k c.requires c.threshold-threshold.result c.grid-grid.result.now
+          c.threshold-threshold.ensures c.grid-grid.ensures (sampled-grid (shot (bytes b)) c.args.k c.in-Some.field-0 border (ready b).passed);
     }
 
 pub returns-in-None : goal.returns-in-None
 returns-in-None c =
-    let w = c.clear.ensures in record {
-      size = w.size ∙ c.requires.3;
-      holds = unsampled_adds (s (goal.at.returns-in-None c).Start) c.args.k _ c.clear.new.adds (area (few_bits c.args.bytes.now c.args.inputs c.args.index.now (ready (goal.at.returns-in-None c).Start))) w.done (sym (its_border c.args.bytes.now c.args.inputs c.args.index.now c.args.k c.requires.0 c.requires.2 _ c.border-border.ensures) ∙ c.in-None.is);
-    }
+    let b = (goal.at.returns-in-None c).Start in
+    let none = sym (its_border (bytes b) _ _ c.args.k (ready b) c.requires _ c.border.ensures) ∙ c.in-None.is in
+    unsampled_adds (shot (bytes b)) c.args.k _ c.clear.new.adds (area (few_bits (bytes b) _ _ (ready b))) c.clear.ensures.done none
 
 pub returns-in-Some : goal.returns-in-Some
 returns-in-Some c =
-    let a = c.args in
+    let b = (goal.at.returns-in-Some c).Start in
+    let a = c.args.loaded.now in
     let n = a.inputs.board.bits * a.inputs.board.bits in
-    let done = c.bit_likelihoods in record {
-      size = done.ensures.size;
-      holds = sampled_adds (s (goal.at.returns-in-Some c).Start) c.args.k c.in-Some.field-0 (has-border (goal.at.returns-in-Some c).After-threshold-threshold) n done.new.likelihoods
-          (likelihoods_are c.args.bytes.now a.inputs a.index.now (ready (goal.at.returns-in-Some c).Start) c.args.k c.requires.2 c.threshold-threshold.result c.grid-grid.result.now
-          c.threshold-threshold.ensures c.grid-grid.ensures a.table.now c.requires.1 n done.new.likelihoods done.ensures.holds);
-    }
+    let done = c.bit_likelihoods in
+    sampled_adds (shot (bytes b)) c.args.k c.in-Some.field-0 (has-border (goal.at.returns-in-Some c).After-threshold-threshold) n done.new.likelihoods
+    (likelihoods_are (bytes b) _ _ (ready b) c.args.k c.requires c.threshold-threshold.result c.grid-grid.result.now
+    c.threshold-threshold.ensures c.grid-grid.ensures a.table.now a.loaded.table_is n done.new.likelihoods done.ensures.holds)

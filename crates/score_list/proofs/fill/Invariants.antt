@@ -1,7 +1,6 @@
--- `score_list::fill` meets its contract. The loop's invariant: the scores of the cells below `first` are written. Assumes nothing.
-use mathlib.Core.Path.{◌≡◌}
-use Prim.Native.Nat.{◌-◌, ◌≤◌}
-use lib.ListN.{length}
+-- `score_list::fill` meets its contract. The loop's invariant: the scores of the cells of the first `block` blocks of eight are written. Assumes
+-- nothing.
+use Prim.Native.Nat.{◌*◌, min}
 use lib.Ieee.{Float, nan}
 use Rattle.lent_list.specs.Scattered.{Wrote}
 use Rattle.shot_record.specs.Shots.{Shot, shot}
@@ -13,9 +12,7 @@ use Rattle.score_list.proofs.fill.Given as goal
 abbrev pub score_at_spot : Shot → Spot → Float
 score_at_spot s p = score_in s p.cell p.marker p.turn
 
-abbrev pub invariant-loop-first : goal.invariant-loop-first
-invariant-loop-first l =
-    (l.first ≤ l.cells) × (length l.lanes ≡ 1024) × Wrote nan (SpotIn (marker_total_in (shot l.bytes)) l.first) (whole_place (marker_total_in (shot l.bytes))) (score_at_spot (shot l.bytes)) l.initial.scores l.scores
-
-abbrev pub decreases-loop-first : goal.decreases-loop-first
-decreases-loop-first l = l.cells - l.first
+abbrev pub invariant-loop-block : goal.invariant-loop-block
+invariant-loop-block l =
+    let s = shot l.loaded.bytes.now in
+    Wrote nan (SpotIn (marker_total_in s) (min (8 * l.block) l.cells)) (whole_place (marker_total_in s)) (score_at_spot s) l.initial.scores l.scores

@@ -13,7 +13,7 @@ use Rattle.score_list.proofs.fill_block.Goals as goal
 use Rattle.score_list.proofs.fill_block.Goals.{In-loop-m}
 
 pub loop-m-init : goal.loop-m-init
-loop-m-init c = (omega arith, wrote_none c.args.scores.now (λ p h. absurd (omega (arith, h.1))))
+loop-m-init c = wrote_none c.args.scores.now (λ p h. absurd (omega (arith, h.1)))
 
 module _ (c : In-loop-m) where
   few : c.marker_count-markers.result ≤ 512
@@ -25,7 +25,7 @@ as_many a m n l e h = rw e h
 pub put_cells-requires : goal.put_cells-requires
 put_cells-requires c =
     let l = c.loop-m in
-    let room : (c.args.first + c.args.count) * marker_total c.args.board * 4 ≤ length l.scores = rw l.invariant.1.size c.requires.4 in (
+    let room : (c.args.first + c.args.count) * marker_total c.args.board * 4 ≤ length l.scores = rw l.invariant.size c.requires.4 in (
       c.loop-m-test.true,
       c.requires.3,
       as_many (c.args.first + c.args.count) c.marker_count-markers.result (marker_total c.args.board) (length l.scores)
@@ -35,21 +35,19 @@ put_cells-requires c =
 pub loop-m-preserved : goal.loop-m-preserved
 loop-m-preserved c =
     let a = c.args in
-    let l = c.loop-m in (
-      omega (arith, c.loop-m-test.true),
-      marker_step c.marker_count-markers.result a.first a.count l.m (spot_score a.rows.now a.sources.now a.board.bits a.codes.now)
-          a.scores.now l.scores c.put_cells.new.scores c.loop-m-test.true l.invariant.1
-          (wrote_as (λ q h. c.sum_turns-sums.ensures q.turn q.cell h.1 (omega (arith, h.0, c.requires.3))) c.put_cells.ensures),
-    )
+    let l = c.loop-m in
+    marker_step c.marker_count-markers.result a.first a.count l.m (spot_score a.rows.now a.sources.now a.board.bits a.codes.now)
+    a.scores.now l.scores c.put_cells.new.scores c.loop-m-test.true l.invariant
+    (wrote_as (λ q h. c.sum_turns-sums.ensures q.turn q.cell h.1 (omega (arith, h.0, c.requires.3))) c.put_cells.ensures)
 
 pub returns : goal.returns
 returns c =
     let l = c.loop-m in
     let n = c.marker_count-markers in
     let a = c.args in
-    let e : l.m ≡ n.result = omega (arith, l.invariant.0, c.loop-m-test.false) in
+    let e : l.m ≡ n.result = omega (arith, c.loop-m-test.false, l.auto.m-end) in
     subst (λ (m : ℕ). Wrote nan (SpotIn m a.count) (spot_place m a.first) (spot_score a.rows.now a.sources.now a.board.bits a.codes.now)
-    a.scores.now l.scores) n.ensures (rw e at l.invariant.1)
+    a.scores.now l.scores) n.ensures (rw e at l.invariant)
 
 pub offset_bounds-codes-m : goal.offset_bounds-codes-m
 offset_bounds-codes-m c = omega (arith, c.loop-m-test.true, few (goal.at.offset_bounds-codes-m c).In-loop-m)
@@ -59,12 +57,3 @@ bounds-codes-m c = omega (arith, c.loop-m-test.true, few (goal.at.bounds-codes-m
 
 pub sum_turns-sums-requires : goal.sum_turns-sums-requires
 sum_turns-sums-requires c = let p = c.requires in (p.0, p.1)
-
-pub overflow_add-m : goal.overflow_add-m
-overflow_add-m c = omega (arith, c.loop-m-test.true, few (goal.at.overflow_add-m c).In-loop-m)
-
-pub loop-m-smaller : goal.loop-m-smaller
-loop-m-smaller c = omega (arith, c.loop-m-test.true)
-
-pub shape_of-scores : goal.shape_of-scores
-shape_of-scores c = c.loop-m.invariant.1.size

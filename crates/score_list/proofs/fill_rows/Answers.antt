@@ -1,9 +1,10 @@
 -- `score_list::fill_rows` meets its contract. The loop's invariant: the first x columns are written. Assumes nothing.
-use mathlib.Core.Path.{refl, ◌∙◌}
+use mathlib.Core.Path.{◌∙◌}
 use Prim.Native.Nat.{ℕ, ◌+◌, ◌*◌, ◌≤◌, ◌<◌}
 use native.Mathlib.Omega.{arith}
 use lib.Ieee.{Float}
 use native.Mathlib.Nat.{mul-le-mul}
+use borrow.Author.Rules.{rules}
 use borrow.Author.Count.{below_more}
 use Rattle.score_matrix.specs.Rows.{Column}
 use Rattle.score_matrix.proofs.Columns.{column_put, column-kept}
@@ -11,14 +12,14 @@ use Rattle.shot_record.specs.Shots.{shot}
 use Rattle.hypothesis.proofs.IndexedCells.{few_bits}
 use Rattle.score_list.specs.Filling.{adds_of}
 use Rattle.score_list.proofs.fill_rows.Goals as goal
-use Rattle.score_list.proofs.fill_rows.Goals.{In-loop-x, Start}
+use Rattle.score_list.proofs.fill_rows.Goals.{Start}
 
 module _ (c : Start) where
   abbrev bits : ℕ
-  bits = c.args.inputs.board.bits
+  bits = c.args.loaded.now.inputs.board.bits
 
   small : bits ≤ 8
-  small = few_bits c.args.bytes.now c.args.inputs c.args.index.now c.requires.0
+  small = few_bits c.args.loaded.now.bytes.now _ _ c.args.loaded.now.loaded.ready
 
   area : bits * bits ≤ 64
   area = mul-le-mul {n₂ = 8} {m₂ = 8} small small
@@ -33,50 +34,40 @@ pub overflow_mul-n : goal.overflow_mul-n
 overflow_mul-n c = record { fits = omega (arith, area (goal.at.overflow_mul-n c).Start) }
 
 pub loop-x-init : goal.loop-x-init
-loop-x-init c = (omega arith, c.requires.4, refl, λ y h. absurd (omega (arith, h)))
+loop-x-init c = (omega arith, λ y h. absurd (omega (arith, h)))
 
 pub overflow_add-first : goal.overflow_add-first
 overflow_add-first c =
-    record { fits = omega (arith, c.loop-x-test.true, c.requires.2, c.requires.0.passed.checked.few) }
+    record { fits = omega (arith, c.loop-x-test.true, c.requires.0, c.args.loaded.now.loaded.ready.passed.checked.few) }
 
 pub cell_adds-requires : goal.cell_adds-requires
-cell_adds-requires c =
-    (c.requires.0, c.requires.1, omega (arith, c.loop-x-test.true, c.requires.2), c.loop-x.invariant.2)
+cell_adds-requires c = omega (arith, c.loop-x-test.true, c.requires.0)
 
 pub overflow_mul-n-in-loop-x : goal.overflow_mul-n-in-loop-x
 overflow_mul-n-in-loop-x c = record { fits = omega (arith, area (goal.at.overflow_mul-n-in-loop-x c).Start) }
 
 pub put_column-requires : goal.put_column-requires
 put_column-requires c =
-    (omega (arith, area (goal.at.put_column-requires c).Start), omega (arith, c.loop-x-test.true, c.requires.3), c.loop-x.invariant.1)
-
-pub overflow_add-x : goal.overflow_add-x
-overflow_add-x c =
-    record { fits = omega (arith, c.loop-x-test.true, c.requires.3) }
-
-pub loop-x-smaller : goal.loop-x-smaller
-loop-x-smaller c = omega (arith, c.loop-x-test.true)
+    let n = c.args.loaded.now.inputs.board.bits in
+    let few : 2 * (n * n) ≤ 128 = omega (arith, area (goal.at.put_column-requires c).Start) in
+    let below : c.loop-x.x < 8 = omega (arith, c.loop-x-test.true, c.requires.1) in
+    let long = c.loop-x.invariant.0 in
+    search rules
 
 pub loop-x-preserved : goal.loop-x-preserved
 loop-x-preserved c =
     let l = c.loop-x in
-    let n = c.args.inputs.board.bits * c.args.inputs.board.bits in
+    let n = c.args.loaded.now.inputs.board.bits * c.args.loaded.now.inputs.board.bits in
     let adds = c.cell_adds.new.adds in
     let w = c.put_column.ensures in
     let last = c.put_column.new.rows in
-    let f : ℕ → ℕ → ℕ → Float = λ y. adds_of (shot c.args.bytes.now) (c.args.first + y) in
-    let inside : l.x < 8 = omega (arith, c.loop-x-test.true, c.requires.3) in (
-      omega (arith, c.loop-x-test.true),
-      w.size ∙ l.invariant.1,
-      c.cell_adds.ensures.size,
+    let f : ℕ → ℕ → ℕ → Float = λ y. adds_of (shot c.args.loaded.now.bytes.now) (c.args.first + y) in
+    let inside : l.x < 8 = omega (arith, c.loop-x-test.true, c.requires.1) in (
+      w.size ∙ l.invariant.0,
       below_more (λ y. Column (f y) n last y) l.x
-          (λ y h. column-kept adds n l.x l.rows last w (f y) y inside (omega (arith, h, inside)) (λ e. absurd (omega (arith, h, e))) (l.invariant.3 y h))
-          (column_put adds n l.x l.rows last w (f l.x) c.cell_adds.ensures.holds),
+          (λ y h. column-kept adds n l.x l.rows last w (f y) y inside (omega (arith, h, inside)) (λ e. absurd (omega (arith, h, e))) (l.invariant.1 y h))
+          (column_put adds n l.x l.rows last w (f l.x) c.cell_adds.ensures),
     )
 
 pub returns : goal.returns
-returns c =
-    let l = c.loop-x in record {
-      size = l.invariant.1;
-      columns = λ x h. l.invariant.3 x (omega (arith, h, l.invariant.0, c.loop-x-test.false));
-    }
+returns c x h = c.loop-x.invariant.1 x (omega (arith, h, c.loop-x-test.false))

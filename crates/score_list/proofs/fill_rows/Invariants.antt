@@ -1,6 +1,6 @@
 -- `score_list::fill_rows` meets its contract. The loop's invariant: the first x columns are written. Assumes nothing.
 use mathlib.Core.Path.{◌≡◌}
-use Prim.Native.Nat.{ℕ, ◌+◌, ◌-◌, ◌≤◌, ◌<◌}
+use Prim.Native.Nat.{ℕ, ◌+◌, ◌<◌}
 use lib.ListN.{length}
 use Rattle.score_matrix.specs.Rows.{Column}
 use Rattle.shot_record.specs.Shots.{shot}
@@ -9,7 +9,4 @@ use Rattle.score_list.proofs.fill_rows.Given as goal
 
 abbrev pub invariant-loop-x : goal.invariant-loop-x
 invariant-loop-x l =
-    (l.x ≤ l.count) × (length l.rows ≡ 1024) × (length l.adds ≡ 128) × ((y : ℕ) → y < l.x → Column (adds_of (shot l.bytes) (l.first + y)) l.n l.rows y)
-
-abbrev pub decreases-loop-x : goal.decreases-loop-x
-decreases-loop-x l = l.count - l.x
+    (length l.rows ≡ 1024) × ((y : ℕ) → y < l.x → Column (adds_of (shot l.loaded.bytes.now) (l.first + y)) l.n l.rows y)

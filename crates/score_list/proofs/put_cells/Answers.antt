@@ -23,7 +23,7 @@ module _ (c : In-loop-x) where
       omega (arith, c.requires.2, place-below a.markers (a.first + a.count) (a.first + x) a.m 3 (omega (arith, c.loop-x-test.true)) c.requires.0 (omega arith))
 
 pub loop-x-init : goal.loop-x-init
-loop-x-init c = (omega arith, wrote_none c.args.scores.now (λ p h. absurd (omega (arith, h.0))))
+loop-x-init c = wrote_none c.args.scores.now (λ p h. absurd (omega (arith, h.0)))
 
 pub overflow_add-first : goal.overflow_add-first
 overflow_add-first c =
@@ -48,22 +48,16 @@ overflow_mul-first-in-loop-x c = record { fits = omega (arith, room (goal.at.ove
 
 pub put_four-requires : goal.put_four-requires
 put_four-requires c =
-    (omega (arith, c.loop-x-test.true, c.requires.1), omega (arith, room (goal.at.put_four-requires c).In-loop-x, c.loop-x.invariant.1.size))
+    (omega (arith, c.loop-x-test.true, c.requires.1), omega (arith, room (goal.at.put_four-requires c).In-loop-x, c.loop-x.invariant.size))
 
 pub loop-x-preserved : goal.loop-x-preserved
 loop-x-preserved c =
     let a = c.args in
-    let l = c.loop-x in (
-      omega (arith, c.loop-x-test.true),
-      lane_step a.markers a.first a.m l.x (lane_sum a.sums.now) a.scores.now l.scores c.put_four.new.scores c.requires.0 l.invariant.1
-          c.put_four.ensures,
-    )
-
-pub shape_of-scores : goal.shape_of-scores
-shape_of-scores c = c.loop-x.invariant.1.size
+    let l = c.loop-x in
+    lane_step a.markers a.first a.m l.x (lane_sum a.sums.now) a.scores.now l.scores c.put_four.new.scores c.requires.0 l.invariant c.put_four.ensures
 
 pub returns : goal.returns
 returns c =
     let l = c.loop-x in
-    let e : l.x ≡ c.args.count = omega (arith, l.invariant.0, c.loop-x-test.false) in
-    rw e at l.invariant.1
+    let e : l.x ≡ c.args.count = omega (arith, c.loop-x-test.false, l.auto.x-end) in
+    rw e at l.invariant

@@ -32,8 +32,8 @@ returns s =
     λ i.
     c.cell
     ∷ c.id
-    ∷ (s.word.ensures ∙ ap (of_z w32) (to_z-of_z w32 p.u (record { sfits = omega arith }) ∙ ap (λ (q : Coord). q.u) top)) i
-    ∷ (s.word-2.ensures ∙ ap (of_z w32) (to_z-of_z w32 p.v (record { sfits = omega arith }) ∙ ap (λ (q : Coord). q.v) top)) i
+    ∷ (s.cast_unsigned.ensures ∙ ap (of_z w32) (to_z-of_z w32 p.u (record { sfits = omega arith }) ∙ ap (λ (q : Coord). q.u) top)) i
+    ∷ (s.cast_unsigned-2.ensures ∙ ap (of_z w32) (to_z-of_z w32 p.v (record { sfits = omega arith }) ∙ ap (λ (q : Coord). q.v) top)) i
     ∷ c.turn % 4
     ∷ s.differing_bits.ensures i
     ∷ x.read % 2 ^ 32
