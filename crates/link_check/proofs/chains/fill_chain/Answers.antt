@@ -1,21 +1,27 @@
 -- `link_check::chains::fill_chain` meets its contract. The loop's invariant: the links from k on are chained. Assumes nothing.
 use mathlib.Core.Path.{◌≡◌, ap, ap₂, subst, ◌∙◌}
-use mathlib.Core.List.{List}
+use mathlib.Core.List.{List, ◌++◌}
 use Prim.Native.Nat.{ℕ, ◌+◌, ◌-◌}
 use native.Mathlib.Omega.{arith}
-use lib.ListN.{length, get_or, length-append, length-drop, get_or-append}
+use lib.ListN.{length, get_or, take, drop, length-append, length-drop, get_or-append}
 use Rattle.std.proofs.lemmas.List.{length-take, get_or-replicate}
 use Rattle.link_check.specs.Chains.{key_for, key_of, ChainedFrom}
 use Rattle.link_check.proofs.Chained.{none_chained, one_chained}
 use Rattle.link_check.proofs.chains.fill_chain.Goals as goal
 
+-- the front of a list is written over
+written_over : (front list : List ℕ) (k : ℕ) → length front ≡ length (take k list) → length (front ++ drop k list) ≡ length list
+written_over front list k e = omega (arith, length-append front (drop k list), length-drop k list, length-take k list)
+
 pub loop-k-init : goal.loop-k-init
 loop-k-init c =
     let a = c.args in
-    let lengths : length c.fill.new.self ≡ 4096 = omega (arith, length-take {A = ℕ}) in
-    none_chained (key_of a.by a.links.now) a.n _ (omega (arith, length-append {A = ℕ}, length-drop {A = ℕ}, length-take {A = ℕ}))
-    (λ b h. get_or-append c.fill.new.self _ 0 b (omega arith) ∙ ap (λ (l : List ℕ). get_or l b 0) (c.fill.ensures.after (λ y e. e))
-    ∙ get_or-replicate _ b a.n 0 (omega arith))
+    let front = c.fill.new.self in
+    let cleared = c.fill.ensures in
+    let whole : length a.chain.now ≡ 8192 = omega arith in
+    none_chained (key_of a.by a.links.now) a.n _ (written_over front a.chain.now 4096 cleared.len ∙ whole)
+    (λ b h. get_or-append front _ 0 b (omega (arith, cleared.len, length-take {A = ℕ})) ∙ ap (λ (l : List ℕ). get_or l b 0) (cleared.after (λ y e. e))
+    ∙ get_or-replicate _ b a.n 0 (omega (arith, length-take {A = ℕ})))
 
 pub loop-k-preserved : goal.loop-k-preserved
 loop-k-preserved c =
