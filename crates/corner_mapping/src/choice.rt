@@ -43,7 +43,7 @@ impl<'a> CornerInput<'a> {
         if choice == 0 {
             return this;
         }
-        if self.scores[choice as usize - 1] < self.scores[k] {
+        if self.scores[usize::from(choice) - 1] < self.scores[k] {
             return this;
         }
         choice

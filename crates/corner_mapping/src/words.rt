@@ -36,7 +36,7 @@ fn put_corner(board: Board, id: u32, choice: u16, corners: &mut [u32], at: usize
     if choice == 0 {
         return at;
     }
-    let words = corner_words(board, id, choice as u32 - 1);
+    let words = corner_words(board, id, u32::from(choice) - 1);
     lent_list::put(corners, at, &words)
 }
 

@@ -1,11 +1,10 @@
 -- An integer from −m to m as an offset from −m. Assumes nothing.
-use mathlib.Core.Path.{◌≡◌, refl, sym, ap, ◌∙◌}
-use mathlib.Core.Bool.{Bool, true, false, not}
+use mathlib.Core.Path.{◌≡◌, sym, ap, ◌∙◌}
+use mathlib.Core.Bool.{true}
 use Prim.Native.Nat.{ℕ, ◌+◌, ◌*◌, ◌≤◌, ◌<◌}
 use native.Mathlib.Omega.{arith}
-use lib.IntN.{ℤ, pos, negsuc, nat_abs, neg_ℤ, ◌+ℤ◌, ◌-ℤ◌, +ℤ-neg_ℤ_cancel}
-use lib.Dec.{leb-zero, leb-suc-zero}
-use lib.Signed.{le_z, lt_z}
+use lib.IntN.{ℤ, pos, nat_abs, neg_ℤ, ◌+ℤ◌, ◌-ℤ◌, +ℤ-neg_ℤ_cancel}
+use lib.Signed.{le_z}
 use Rattle.integers.proofs.Tests.{both}
 use Rattle.integers.proofs.Parts.{plus, minus, plus_neg, minus_neg, add_is, sub_is_parts, abs_is, no_minus, ext}
 use Rattle.integers.proofs.Distances.{le_z→Le}

@@ -1,16 +1,15 @@
 -- The whole cells among the first places: places that are no key add none, and a place that is one adds its words. Assumes nothing.
 use mathlib.Core.Path.{◌≡◌, refl, sym, ap, ◌∙◌}
-use mathlib.Core.Bool.{Bool, true, false, cond, false≢true}
+use mathlib.Core.Bool.{Bool, true, false, cond}
 use mathlib.Core.List.{List, [], ◌∷◌, ◌++◌, flat_map}
 use mathlib.Core.Option.{Option as Maybe, none, some}
 use Prim.Native.Nat.{ℕ, ◌+◌, ◌-◌, ◌*◌, ◌/◌, ◌%◌, ◌≤◌, ◌<◌}
 use native.Mathlib.Nat.{div-add-mod'}
 use native.Mathlib.Numerals.{add-one}
 use native.Mathlib.Omega.{arith}
-use lib.Dec.{eqb, leb, leb-zero}
+use lib.Dec.{eqb, leb}
 use lib.ListN.{length, get_or, length-append}
 use lib.IntN.{ℤ, pos, ◌-ℤ◌}
-use lib.Signed.{le_z}
 use borrow.Author.Tests.{ne_eqb, leb-true, leb-false}
 use Rattle.lent_list.specs.Front.{in_front, up_to}
 use Rattle.lent_list.proofs.Front.{front_is, put_in_front, front_full, up_to-same, flat_map_append, flat_map_length}
@@ -19,7 +18,6 @@ use Rattle.grid_alignment.specs.Alignment.{corner}
 use Rattle.marker_sampling.specs.Cells.{Corners, holder, whole_cell, point_at, whole_at, cell_words, words_of_cells}
 use Rattle.marker_sampling.specs.Keys.{key_side, range_point, MapOf, Next, in_option, words_at, words_if_whole, with_cell, words_of, CellAdded, Collected}
 use Rattle.std.specs.Prelude.{Option, Some, None}
-use Rattle.integers.proofs.Tests.{both}
 use Rattle.marker_sampling.proofs.Keyed.{column, row, corner_0, corner_1, corner_2, corner_3}
 use Rattle.marker_sampling.proofs.Holders.{nobody}
 

@@ -8,9 +8,8 @@ use native.Mathlib.Omega.{arith}
 use lib.ListN.{length, get_or}
 use borrow.Author.Tests.{eq-eqb, ne_eqb}
 use Rattle.marker_sampling.specs.Cells.{Corners, holder, stands}
-use Rattle.marker_sampling.specs.Keys.{key_side, range_point, MapOf, LowerBound, FirstBelow, Searchable, Next}
+use Rattle.marker_sampling.specs.Keys.{key_side, range_point, MapOf, LowerBound, FirstBelow, Searchable}
 use Rattle.integers.proofs.Distances.{lt_or_le}
-use Rattle.sorting.specs.Order.{Rising}
 use Rattle.marker_sampling.proofs.Holders.{nobody, last_holds}
 
 -- ---- where a search can start

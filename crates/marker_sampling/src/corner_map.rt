@@ -10,6 +10,7 @@ use super::labelled_corners::PAST;
 pub struct CornerMap<'a> {
     pub inliers: &'a [usize],
     pub words: &'a [u64],
+    // `MapOf` stands in the contracts beside it: it has indices, and a ghost field may have facts only.
     ghost searchable: { Searchable 4096 inliers.now words.now },
 }
 
@@ -22,7 +23,8 @@ pub struct Found {
 
 impl<'a> CornerMap<'a> {
     // The index of the first word that is not below `x` (lower bound), or the number of words. The words before `from` are known
-    // to be below `x`: keys increase in the walk, so each search starts where an earlier one ended and goes few words further.
+    // to be below `x`: keys increase in the walk, so each search starts where an earlier one ended and goes few words further. Not
+    // `partition_point`, which would go over all the words that are left, by halves, each time.
     fn seek(self, from: usize, x: u64) -> usize
         requires { FirstBelow self.words.now x from }
         ensures { LowerBound self.entry.words.now x result }

@@ -3,7 +3,7 @@ ghost use Rattle.std.specs.Prelude.{◌≡◌, ◌+◌, ◌*◌, ◌<◌, length
 ghost use Rattle.marker_sampling.specs.Cells.{Corners, point_at};
 ghost use Rattle.marker_sampling.specs.Keys.{MapOf, LowerBound, FirstBelow, Collected, words_if_whole, words_at, CellAdded};
 
-use super::corner_map::{CornerMap, Found};
+use super::corner_map::CornerMap;
 use super::labelled_corners::PAST;
 
 fn coordinate(offset: u64) -> i32
@@ -33,17 +33,13 @@ fn words_at(
 ) -> Option<[i32; 6]>
     ensures { result ≡ words_at u v top_left top_right bottom_right bottom_left }
 {
-    let first = top_left?;
-    let second = top_right?;
-    let third = bottom_right?;
-    let fourth = bottom_left?;
     Some([
         u,
         v,
-        i32::from(first),
-        i32::from(second),
-        i32::from(third),
-        i32::from(fourth),
+        i32::from(top_left?),
+        i32::from(top_right?),
+        i32::from(bottom_right?),
+        i32::from(bottom_left?),
     ])
 }
 

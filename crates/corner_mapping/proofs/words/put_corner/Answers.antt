@@ -14,7 +14,7 @@ returns-then-choice-eq0 c = none_put c.args.board c.args.id c.args.at c.args.cho
 
 words_are : (c : After-corner_words-words)
     → c.corner_words-words.result ≡ words_of_corners c.args.board (mapped_if c.args.id (choice_of c.args.choice))
-words_are c = words_put c.args.board c.args.id c.args.choice _ (omega arith) c.corner_words-words.ensures
+words_are c = words_put c.args.board c.args.id c.args.choice _ (omega arith) (rw c.from.ensures at c.corner_words-words.ensures)
 
 pub put-requires : goal.put-requires
 put-requires c = omega (arith, c.requires, ap length (words_are (goal.at.put-requires c).After-corner_words-words))

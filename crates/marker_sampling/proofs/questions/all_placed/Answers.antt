@@ -1,5 +1,5 @@
 -- `marker_sampling::questions::all_placed` meets its contract. The loop's invariant: the first k corners are in range. Assumes nothing.
-use mathlib.Core.Path.{sym, ap, ◌∙◌}
+use mathlib.Core.Path.{sym, ap}
 use mathlib.Core.Bool.{not}
 use Rattle.integers.proofs.Tests.{none_tested, one_more, one_out}
 use Rattle.marker_sampling.proofs.questions.all_placed.Goals as goal

@@ -6,8 +6,8 @@ use Rattle.corner_mapping.proofs.choice.CornerInput.better.Goals as goal
 pub returns-then-choice-eq0 : goal.returns-then-choice-eq0
 returns-then-choice-eq0 c = first _ c.args.k c.args.choice c.if-choice-eq0.true
 
-pub returns-then-self-choice : goal.returns-then-self-choice
-returns-then-self-choice c = takes _ c.args.k c.args.choice (omega arith) c.if-self-choice.true
+pub returns-then-self-from : goal.returns-then-self-from
+returns-then-self-from c = takes _ c.args.k c.args.choice (omega arith) (rw c.from.ensures at c.if-self-from.true)
 
 pub returns : goal.returns
-returns c = keeps _ c.args.k c.args.choice (omega arith) c.if-self-choice.false
+returns c = keeps _ c.args.k c.args.choice (omega arith) (rw c.from.ensures at c.if-self-from.false)

@@ -1,6 +1,6 @@
 -- `marker_sampling::corner_map::CornerMap::last` meets its contract: the words with the key are between the two indices found, and the last
 -- of them is the last inlier's. Assumes nothing.
-use mathlib.Core.Path.{sym, ap, ◌∙◌}
+use mathlib.Core.Path.{sym, ap}
 use native.Mathlib.Omega.{arith}
 use Rattle.marker_sampling.specs.Keys.{in_option}
 use Rattle.marker_sampling.proofs.Searched.{searched_below, none_there, last_there}
