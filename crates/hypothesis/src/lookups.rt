@@ -5,14 +5,14 @@ ghost use Rattle.std.specs.Float.{nan};
 ghost use Rattle.shot_record.specs.Shots.{Shot};
 ghost use Rattle.hypothesis.specs.Search.{enumerate};
 ghost use Rattle.hypothesis.specs.Sums.{Added, Stays, marked, OfMarker};
-ghost use Rattle.hypothesis.specs.Turns.{Summed, turn_of};
 ghost use Rattle.hypothesis.specs.Filling.{Counts};
 ghost use Rattle.hypothesis.specs.ScoreList.{InScores, Scored};
 
 use super::framing::Turn;
+use super::search::TurnSums;
 use super::sums::{Counted, Move};
 use super::turns::Contributing;
-use super::{Inputs, Selection, counting, framing, sums, turns};
+use super::{Inputs, Selection, counting, search, sums};
 use board::squares;
 
 // The score of the cell for the marker on its square after a move. `first` is the index of its score for marker 0.
@@ -65,31 +65,34 @@ fn add_counted(
     counting::with_counted(contributing, cell)
 }
 
-// The sums of a turn over all cells in order, and the counts of contributing cells. A turn without moves has no placement.
-fn fill(
-    sums: &mut [f32; 1024],
+// The input of this search: what is the same for all cells, the index of the cells, and their scores.
+#[derive(Clone, Copy)]
+struct ScoreArray<'a> {
     inputs: Inputs,
-    index: &[u32; 768],
-    scores: &[f32],
-    t: Turn,
-) -> Contributing
-    requires { (s : Shot) × Scored s inputs index.now scores.now × (t ≡ turn_of s t.turn) × (t.turn < 4) }
-    ensures { (s : Shot) → Scored s inputs index.now scores.now → t ≡ turn_of s t.turn
-        → Summed s t.turn sums.new result }
-{
-    let mut contributing = Contributing { even: 0, odd: 0 };
-    let moves = t.across * t.down;
-    if moves == 0 {
-        return contributing;
+    index: &'a [u32; 768],
+    scores: &'a [f32],
+}
+
+impl TurnSums for ScoreArray<'_> {
+    ghost scores_of = { λ x s. Scored s x.inputs x.index.now x.scores.now };
+
+    // A turn without moves has no placement.
+    fn fill(&self, sums: &mut [f32; 1024], t: Turn) -> Contributing {
+        let mut contributing = Contributing { even: 0, odd: 0 };
+        let moves = t.across * t.down;
+        if moves == 0 {
+            return contributing;
+        }
+        sums::clear(sums, moves);
+        let inputs = self.inputs;
+        let markers = inputs.board.marker_count() as usize;
+        for k in 0..inputs.cells {
+            let cell = counting::counted(inputs, t, self.index, k);
+            let first = 4 * (k * markers) + t.turn as usize;
+            contributing = add_counted(sums, contributing, cell, t, self.scores, first);
+        }
+        contributing
     }
-    sums::clear(sums, moves);
-    let markers = inputs.board.marker_count() as usize;
-    for k in 0..inputs.cells {
-        let cell = counting::counted(inputs, t, index, k);
-        let first = 4 * (k * markers) + t.turn as usize;
-        contributing = add_counted(sums, contributing, cell, t, scores, first);
-    }
-    contributing
 }
 
 // The best placement, its runner-up and the margin between them; none if no turn and translation puts every cell on the board.
@@ -97,13 +100,10 @@ pub fn enumerate_hypotheses(inputs: Inputs, index: &[u32; 768], scores: &[f32]) 
     requires { (s : Shot) × Scored s inputs index.now scores.now }
     ensures { (s : Shot) → Scored s inputs index.now scores.now → result ≡ enumerate s }
 {
-    let sides = framing::cell_sides(index, inputs.cells);
-    let mut sums: [f32; 1024] = [0.0; 1024];
-    let mut ranking = ranking::no_ranking();
-    for turn in 0..4 {
-        let t = framing::turn_of(inputs.board, sides, turn);
-        let contributing = fill(&mut sums, inputs, index, scores, t);
-        ranking = turns::rank_turn(ranking, &sums, contributing, t);
-    }
-    turns::enumerated(ranking, inputs, index)
+    let source = ScoreArray {
+        inputs,
+        index,
+        scores,
+    };
+    search::enumerate(&source, inputs, index)
 }
