@@ -10,12 +10,12 @@ use Rattle.shot_record.specs.Shots.{shot}
 use Rattle.hypothesis.specs.declared.Inputs.{Inputs}
 use Rattle.hypothesis.specs.Placements.{cell_total}
 use Rattle.hypothesis.specs.Inputs.{Ready}
-use Rattle.hypothesis.specs.ScoreList.{marker_total_in, score_count}
+use Rattle.hypothesis.specs.ScoreList.{marker_total_in, score_count, Scored}
 use Rattle.hypothesis.proofs.IndexedCells.{cells_are, board-is, few_cells, search-input}
 use Rattle.hypothesis.proofs.ScoreLists.{few-markers, front_scores}
 use Rattle.board_match.proofs.Engines.{too_short, searched}
 use Rattle.board_match.proofs.match_scored.Goals as goal
-use Rattle.board_match.proofs.match_scored.Goals.{Else-not-has_room}
+use Rattle.board_match.proofs.match_scored.Goals.{After-fill, Else-not-has_room}
 
 module _ (bytes : List ℕ) (i : Inputs) (index : List ℕ) (ready : Ready bytes i index) where
   markers-are : marker_total i.board ≡ marker_total_in (shot bytes)
@@ -52,11 +52,23 @@ returns-then-not-has_room c =
 pub fill-requires : goal.fill-requires
 fill-requires c = room (goal.at.fill-requires c).Else-not-has_room
 
+-- the filled array
+scored : (c : After-fill) → score_count (shot c.args.loaded.now.bytes.now) ≤ length c.args.scores.now
+    → Scored (shot c.args.loaded.now.bytes.now) c.args.loaded.now.inputs c.args.loaded.now.index.now c.fill.new.scores
+scored c long =
+    let l = c.args.loaded.now in
+    front_scores (shot l.bytes.now) l.inputs l.index.now (search-input l.bytes.now l.inputs l.index.now l.loaded.ready) c.args.scores.now c.fill.new.scores long
+    c.fill.ensures
+
 pub enumerate_hypotheses-found-requires : goal.enumerate_hypotheses-found-requires
-enumerate_hypotheses-found-requires c = ?
+enumerate_hypotheses-found-requires c =
+    let g = goal.at.enumerate_hypotheses-found-requires c in
+    (shot c.args.loaded.now.bytes.now, scored g.After-fill (room g.Else-not-has_room))
 
 pub place_found-requires : goal.place_found-requires
-place_found-requires c = ?
+place_found-requires c =
+    let g = goal.at.place_found-requires c in
+    (c.enumerate_hypotheses-found.ensures (shot c.args.loaded.now.bytes.now) (scored g.After-fill (room g.Else-not-has_room)), c.requires)
 
 pub returns : goal.returns
 returns c =
