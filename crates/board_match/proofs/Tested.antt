@@ -13,7 +13,7 @@ module _ (test : ℕ → Bool) (n : ℕ) where
 
   pub every_from_all : (r : Bool)
       → MatchBool r (AllWithin (λ (k : ℕ). test k ≡ true) (range_with_len 0 n) 0 (length (range_with_len 0 n)))
-          ((k : ℕ) × (k < length (range_with_len 0 n)) × HoldsAt (λ (k : ℕ). test k ≡ false) (range_with_len 0 n) k)
+      ((k : ℕ) × (k < length (range_with_len 0 n)) × HoldsAt (λ (k : ℕ). test k ≡ false) (range_with_len 0 n) k)
       → r ≡ every test n
   every_from_all true h =
       sym (from_each test n (λ k l. subst (λ (j : ℕ). test j ≡ true) (at_k k l) (h k 0 (omega arith) (omega (arith, l, length-range_with_len 0 n)))))

@@ -62,7 +62,11 @@ fn before_15(
 }
 
 // Questions 16 and 17 of the best placement, with the emission of its markers between them.
-fn emit_best(loaded: &LoadedShot<'_>, selection: Selection, markers: &mut [u32]) -> Result<Match, Refusal>
+fn emit_best(
+    loaded: &LoadedShot<'_>,
+    selection: Selection,
+    markers: &mut [u32],
+) -> Result<Match, Refusal>
     requires { (enumerate (shot loaded.now.bytes.now) ≡ Some selection)
         × (asked_before15 (shot loaded.now.bytes.now) (length markers.old) ≡ none) }
     ensures { Gives loaded.now.bytes.now markers.old result markers.new }
@@ -87,7 +91,11 @@ fn emit_best(loaded: &LoadedShot<'_>, selection: Selection, markers: &mut [u32])
 }
 
 // Questions 15 to 17, from the result of the search.
-fn place_found(loaded: &LoadedShot<'_>, found: Option<Selection>, markers: &mut [u32]) -> Result<Match, Refusal>
+fn place_found(
+    loaded: &LoadedShot<'_>,
+    found: Option<Selection>,
+    markers: &mut [u32],
+) -> Result<Match, Refusal>
     requires { (found ≡ enumerate (shot loaded.now.bytes.now))
         × (asked_before15 (shot loaded.now.bytes.now) (length markers.old) ≡ none) }
     ensures { Gives loaded.now.bytes.now markers.old result markers.new }
@@ -96,7 +104,11 @@ fn place_found(loaded: &LoadedShot<'_>, found: Option<Selection>, markers: &mut 
 }
 
 // Questions 24 and 15 to 17: between them the score array is filled, and searched.
-fn match_scored(loaded: &LoadedShot<'_>, scores: &mut [f32], markers: &mut [u32]) -> Result<Match, Refusal>
+fn match_scored(
+    loaded: &LoadedShot<'_>,
+    scores: &mut [f32],
+    markers: &mut [u32],
+) -> Result<Match, Refusal>
     requires { asked_before15 (shot loaded.now.bytes.now) (length markers.old) ≡ none }
     ensures { GivesScored loaded.now.bytes.now scores.old markers.old result scores.new markers.new }
 {
@@ -150,7 +162,11 @@ pub fn match_board(bytes: &[u8], markers: &mut [u32]) -> Result<Match, Refusal>
 
 // The same match by another search (document 02, 2.6): it first fills `scores` with the score of each cell for each marker and turn, cells × markers ×
 // 4 elements, and then looks them up. Errors 15 to 17 leave the scores filled; on other errors no array changes.
-pub fn match_board_with_scores(bytes: &[u8], scores: &mut [f32], markers: &mut [u32]) -> Result<Match, Refusal>
+pub fn match_board_with_scores(
+    bytes: &[u8],
+    scores: &mut [f32],
+    markers: &mut [u32],
+) -> Result<Match, Refusal>
     ensures answer { result ≡ scored_answer bytes.now scores.old markers.old }
     ensures list { markers.new ≡ scored_list bytes.now scores.old markers.old }
     ensures scores { scores.new ≡ scores_left bytes.now scores.old markers.old }
