@@ -2,34 +2,38 @@
 use mathlib.Core.Path.{◌≡◌, refl, sym, ap, ap₂, ◌∙◌}
 use mathlib.Core.Bool.{Bool, ◌&&◌}
 use mathlib.Core.List.{List}
-use mathlib.Core.Option.{Option, none, some}
-use Prim.Native.Nat.{ℕ, ◌≤◌, ◌<◌}
+use Prim.Native.Nat.{ℕ, zero, suc, ◌+◌, ◌≤◌, ◌<◌}
 use native.Mathlib.Omega.{arith}
 use lib.IntN.{ℤ}
-use lib.ListN.{length}
+use lib.ListN.{length, drop}
 use borrow.Author.Tests.{eq-eqb}
+use Rattle.std.proofs.lemmas.List.{length-drop, length-take-le}
 use Rattle.integers.specs.Tests.{every}
 use Rattle.integers.proofs.Tests.{same-answers}
 use Rattle.integers.specs.Distance.{is_within}
 use Rattle.grid_alignment.specs.Alignment.{point}
 use Rattle.points.specs.Points.{all_apart, point_of, SmallWords}
 use Rattle.points.proofs.Twice.{same_apart}
-use Rattle.shot_record.specs.Fields.{bits_of, border_of, grid_size, cell_count}
-use Rattle.shot_record.specs.Shots.{Sample, Cell, Shot, shot, cell_of}
+use Rattle.shot_record.specs.Fields.{bits_of, border_of, grid_size, cell_count, grid_from, sample_place}
+use Rattle.lent_list.specs.Parts.{part}
+use Rattle.shot_record.specs.Shots.{Cell, Shot, shot, cell_of, sample_at}
 use Rattle.shot_record.specs.Answers.{border_with}
 use Rattle.shot_record.specs.Index.{Entry, Index}
-use Rattle.shot_record.specs.Writing.{IfSampled}
-use Rattle.shot_record.proofs.Reading.{Small}
 use Rattle.shot_record.proofs.Whole.{Whole}
-use Rattle.shot_record.proofs.CellReads.{cell_count_is, cell-is, cell-fits}
+use Rattle.shot_record.proofs.CellReads.{cell_count_is, cell-is, grid_lies}
 use Rattle.hypothesis.specs.Placements.{no_cell, cell, cell_point}
 use Rattle.board_match.specs.Questions.{placed_answer, points_answer, sample_answer, samples_answer}
 use Rattle.board_match.specs.Entries.{placed_in, border_answer, sampled_in}
 
--- a grid that fits is complete
-border_with_lem : (size : ℕ) (o : Option Sample) → IfSampled size o → border_answer (border_with o) ≡ sample_answer size o
-border_with_lem size none f = refl
-border_with_lem size (some s) f = rw (eq-eqb (length s.grid) size f.size) refl
+-- a grid that lies in the record is complete
+whole_sample : (b grid at : ℕ) (bytes : List ℕ) → ((b ≡ 0 → ⊥) → grid_from at + grid ≤ length bytes)
+    → border_answer (border_with (sample_at b grid at bytes)) ≡ sample_answer grid (sample_at b grid at bytes)
+whole_sample zero grid at bytes h = refl
+whole_sample (suc b) grid at bytes h =
+    let l : grid_from at + grid ≤ length bytes = h (λ e. absurd (omega arith)) in
+    let n : length (part (grid_from at) grid bytes) ≡ grid =
+    length-take-le grid (drop (grid_from at) bytes) (omega (arith, l, length-drop (grid_from at) bytes)) in
+    rw (eq-eqb _ grid n) refl
 
 module _ (bytes index : List ℕ) (held : Index bytes index) (count : ℕ) (all : count ≡ cell_count bytes) (few : count ≤ 256) where
   abbrev s : Shot
@@ -58,8 +62,8 @@ module _ (bytes index : List ℕ) (held : Index bytes index) (count : ℕ) (all 
       ap₂ point e.u e.v ∙ ap (λ (c : Cell). point c.u c.v) (sym (cell-is bytes k no_cell l)))
       ∙ ap (all_apart (cell_point s)) (all ∙ sym (cell_count_is bytes))
 
-  pub samples-are : Whole bytes → Small bytes → every (sampled_in index) count ≡ samples_answer s
-  samples-are w small =
+  pub samples-are : Whole bytes → every (sampled_in index) count ≡ samples_answer s
+  samples-are w =
       let size = grid_size (bits_of bytes) (border_of bytes) in
       each-cell (sampled_in index) (λ (c : Cell). sample_answer size c.sample)
-      (λ k h e. ap border_answer e.border ∙ border_with_lem size (cell_of bytes k).sample (cell-fits bytes w k h small).sample)
+      (λ k h e. ap border_answer e.border ∙ whole_sample _ size (sample_place bytes k) bytes (grid_lies bytes w k h))

@@ -52,8 +52,7 @@ not_by_margin : (t : Bool) (m : Float) → ask t refusal.NoMarkers none ≡ some
 not_by_margin true m e = none-ne-some (refusal.Margin m) e
 not_by_margin false m e =
     let q = some-injective refusal.NoMarkers (refusal.Margin m) e in
-    let z : ◌≡◌ {A = ℕ} 0 1 = cc in
-    absurd (omega arith)
+    absurd (grind arith)
 
 pub margin_gate : GateRule
 margin_gate bytes words small w asked fits =
@@ -76,5 +75,5 @@ module _ (s : Shot) (p : PassedShot s) (b : Hypothesis) (is : best s ≡ Some b)
 
 pub match_corners : CornersRule
 match_corners bytes lent small m =
-    of_answer bytes lent small (λ a. a ≡ Ok m → CornersAligned m) (λ r e. let z : ◌≡◌ {A = ℕ} 0 1 = cc in absurd (omega arith))
+    of_answer bytes lent small (λ a. a ≡ Ok m → CornersAligned m) (λ r e. absurd (grind arith))
     (λ b p. aligned (shot bytes) p.passed b p.is m)

@@ -1,3 +1,4 @@
+pub mod Tested
 pub mod CellAnswers
 pub mod Order
 pub mod Sound

@@ -54,4 +54,4 @@ module _ (bytes lent : List ℕ) (b : Hypothesis) (p : PlacedAt bytes lent b) wh
 pub different_ids : IdsRule
 different_ids bytes lent small m =
     of_answer bytes lent small (λ a. a ≡ Ok m → AllDifferent m.markers (id_in (match_list bytes lent)))
-    (λ r e. let z : ◌≡◌ {A = ℕ} 0 1 = cc in absurd (omega arith)) (λ b p. ids bytes lent b p m)
+    (λ r e. absurd (grind arith)) (λ b p. ids bytes lent b p m)

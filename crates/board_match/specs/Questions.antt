@@ -87,12 +87,9 @@ after_record (some s) words = asked_before15 s words
 
 -- the result in the program
 abbrev pub told_answer : Option Refusal → Result (Unit {0}) Refusal
-told_answer none = Ok
+told_answer none = Ok tt
 told_answer (some r) = Err r
 
 abbrev pub asked_with : Option Refusal → Shot → Result Inputs Refusal
 asked_with none s = Ok (inputs_of s)
 asked_with (some r) s = Err r
-
-abbrev pub asked_answer : List ℕ → ℕ → Result Inputs Refusal
-asked_answer bytes words = asked_with (after_record (parse bytes) words) (shot bytes)

@@ -2,16 +2,16 @@
 
 #![tactic(auto)]
 
-ghost use Rattle.std.specs.Prelude.{◌≡◌, map, length, replicate};
-ghost use Rattle.std.proofs.Math.Option.{none};
+ghost use Rattle.std.specs.Prelude.{◌≡◌, true, IfOk, IfErr, map, length, replicate};
+ghost use Rattle.std.proofs.Math.Option.{none, some};
 ghost use Rattle.score_matrix.specs.Table.{built_in};
-ghost use Rattle.shot_record.specs.Shots.{first_codes, shot};
+ghost use Rattle.shot_record.specs.Shots.{first_codes, shot, whole_record, parse};
 ghost use Rattle.shot_record.specs.Answers.{of_pattern};
-ghost use Rattle.shot_record.specs.Index.{Indexed};
+ghost use Rattle.shot_record.specs.Index.{Index};
 ghost use Rattle.hypothesis.specs.Search.{enumerate};
 ghost use Rattle.hypothesis.specs.declared.Inputs.{Inputs};
 ghost use Rattle.hypothesis.specs.Inputs.{Loaded};
-ghost use Rattle.board_match.specs.Questions.{asked_before15, asked_answer};
+ghost use Rattle.board_match.specs.Questions.{asked_before15, after_record, asked_with};
 ghost use Rattle.board_match.specs.Match.{match_answer, match_list, Gives};
 ghost use Rattle.board_match.specs.Scores.{scored_answer, scored_list, scores_left, GivesScored};
 ghost use Rattle.board_match.specs.Accuracy.{Accuracy};
@@ -45,10 +45,10 @@ fn before_15(
     index: &[u32; 768],
     words: usize,
 ) -> Result<Inputs, Refusal>
-    requires { Indexed record.now.bytes.now record.now.fields index.now
+    requires { Index record.now.bytes.now index.now × (whole_record record.now.bytes.now ≡ true)
         × (table.now ≡ map of_pattern (shot record.now.bytes.now).table)
         × (codes.now ≡ first_codes (shot record.now.bytes.now)) }
-    ensures { result ≡ asked_answer record.now.bytes.now words }
+    ensures { result ≡ asked_with (asked_before15 (shot record.now.bytes.now) words) (shot record.now.bytes.now) }
 {
     let board = record.board(codes)?;
     let config = record.config();
@@ -62,7 +62,11 @@ fn before_15(
 }
 
 // Questions 16 and 17 of the best placement, with the emission of its markers between them.
-fn emit_best(loaded: &LoadedShot<'_>, selection: Selection, markers: &mut [u32]) -> Result<Match, Refusal>
+fn emit_best(
+    loaded: &LoadedShot<'_>,
+    selection: Selection,
+    markers: &mut [u32],
+) -> Result<Match, Refusal>
     requires { (enumerate (shot loaded.now.bytes.now) ≡ Some selection)
         × (asked_before15 (shot loaded.now.bytes.now) (length markers.old) ≡ none) }
     ensures { Gives loaded.now.bytes.now markers.old result markers.new }
@@ -87,19 +91,24 @@ fn emit_best(loaded: &LoadedShot<'_>, selection: Selection, markers: &mut [u32])
 }
 
 // Questions 15 to 17, from the result of the search.
-fn place_found(loaded: &LoadedShot<'_>, found: Option<Selection>, markers: &mut [u32]) -> Result<Match, Refusal>
+fn place_found(
+    loaded: &LoadedShot<'_>,
+    found: Option<Selection>,
+    markers: &mut [u32],
+) -> Result<Match, Refusal>
     requires { (found ≡ enumerate (shot loaded.now.bytes.now))
         × (asked_before15 (shot loaded.now.bytes.now) (length markers.old) ≡ none) }
     ensures { Gives loaded.now.bytes.now markers.old result markers.new }
 {
-    match found {
-        None => Err(Refusal::TranslationWindow),
-        Some(selection) => emit_best(loaded, selection, markers),
-    }
+    emit_best(loaded, found.ok_or(Refusal::TranslationWindow)?, markers)
 }
 
 // Questions 24 and 15 to 17: between them the score array is filled, and searched.
-fn match_scored(loaded: &LoadedShot<'_>, scores: &mut [f32], markers: &mut [u32]) -> Result<Match, Refusal>
+fn match_scored(
+    loaded: &LoadedShot<'_>,
+    scores: &mut [f32],
+    markers: &mut [u32],
+) -> Result<Match, Refusal>
     requires { asked_before15 (shot loaded.now.bytes.now) (length markers.old) ≡ none }
     ensures { GivesScored loaded.now.bytes.now scores.old markers.old result scores.new markers.new }
 {
@@ -112,23 +121,30 @@ fn match_scored(loaded: &LoadedShot<'_>, scores: &mut [f32], markers: &mut [u32]
 }
 
 // Reads table, codes and index of a record, and checks questions 21, 1 to 14, 22 and 23. At entry `table` is the built-in one, and `codes` is cleared.
-fn load(
-    table: &mut [f32; 511],
-    codes: &mut [u64; 512],
-    index: &mut [u32; 768],
-    bytes: &[u8],
+fn load<'a>(
+    table: &'a mut [f32; 511],
+    codes: &'a mut [u64; 512],
+    index: &'a mut [u32; 768],
+    bytes: &'a [u8],
     words: usize,
-) -> Result<Inputs, Refusal>
-    requires { (table.old ≡ built_in) × (codes.old ≡ replicate 512 0) × (length index.old ≡ 768) }
-    ensures answer { result ≡ asked_answer bytes.now words }
-    ensures loaded { (i : Inputs) → result ≡ Ok i → Loaded bytes.now i index.new table.new codes.new }
+) -> Result<LoadedShot<'a>, Refusal>
+    requires { (table.old ≡ built_in) × (codes.old ≡ replicate 512 0) }
+    ensures refused { IfErr result (λ r. after_record (parse bytes.now) words ≡ some r) }
+    ensures passed { IfOk result (λ loaded. (loaded.bytes.now ≡ bytes.now) × (asked_before15 (shot loaded.bytes.now) words ≡ none)) }
 {
     // Question 21 comes first, so that table, codes and index are read from a whole record only.
     let record = Record::parse(bytes)?;
     bulk::table(table, &record);
     bulk::codes(codes, &record);
     index::fill(index, &record);
-    before_15(&record, table, codes, index, words)
+    let inputs = before_15(&record, table, codes, index, words)?;
+    Ok(LoadedShot {
+        bytes,
+        inputs,
+        index,
+        table,
+        codes,
+    })
 }
 
 // The placement of a shot record on its board. Writes 18 words for each marker to the start of the output array; on error the array does not change.
@@ -140,20 +156,17 @@ pub fn match_board(bytes: &[u8], markers: &mut [u32]) -> Result<Match, Refusal>
     let mut table = built_in_table();
     let mut codes: [u64; 512] = [0; 512];
     let mut index: [u32; 768] = [0; 768];
-    let inputs = load(&mut table, &mut codes, &mut index, bytes, markers.len())?;
-    let loaded = LoadedShot {
-        bytes,
-        inputs,
-        index: &index,
-        table: &table,
-        codes: &codes,
-    };
+    let loaded = load(&mut table, &mut codes, &mut index, bytes, markers.len())?;
     place_found(&loaded, search::enumerate_hypotheses(&loaded), markers)
 }
 
 // The same match by another search (document 02, 2.6): it first fills `scores` with the score of each cell for each marker and turn, cells × markers ×
 // 4 elements, and then looks them up. Errors 15 to 17 leave the scores filled; on other errors no array changes.
-pub fn match_board_with_scores(bytes: &[u8], scores: &mut [f32], markers: &mut [u32]) -> Result<Match, Refusal>
+pub fn match_board_with_scores(
+    bytes: &[u8],
+    scores: &mut [f32],
+    markers: &mut [u32],
+) -> Result<Match, Refusal>
     ensures answer { result ≡ scored_answer bytes.now scores.old markers.old }
     ensures list { markers.new ≡ scored_list bytes.now scores.old markers.old }
     ensures scores { scores.new ≡ scores_left bytes.now scores.old markers.old }
@@ -162,13 +175,6 @@ pub fn match_board_with_scores(bytes: &[u8], scores: &mut [f32], markers: &mut [
     let mut table = built_in_table();
     let mut codes: [u64; 512] = [0; 512];
     let mut index: [u32; 768] = [0; 768];
-    let inputs = load(&mut table, &mut codes, &mut index, bytes, markers.len())?;
-    let loaded = LoadedShot {
-        bytes,
-        inputs,
-        index: &index,
-        table: &table,
-        codes: &codes,
-    };
+    let loaded = load(&mut table, &mut codes, &mut index, bytes, markers.len())?;
     match_scored(&loaded, scores, markers)
 }

@@ -1,10 +1,10 @@
 // The checks of Match after those of the board (documents 01 and 02): questions 9 to 14 and 23 before the search, and 16.
-ghost use Rattle.std.specs.Prelude.{◌≡◌, ◌&&◌, map, ◌≤◌};
+ghost use Rattle.std.specs.Prelude.{◌≡◌, ◌&&◌, true, map, ◌≤◌};
 ghost use Rattle.std.proofs.Math.Option.{none};
 ghost use Rattle.integers.specs.Tests.{every};
-ghost use Rattle.shot_record.specs.Shots.{shot};
+ghost use Rattle.shot_record.specs.Shots.{shot, whole_record};
 ghost use Rattle.shot_record.specs.Answers.{of_pattern, config_of};
-ghost use Rattle.shot_record.specs.Index.{Indexed};
+ghost use Rattle.shot_record.specs.Index.{Index};
 ghost use Rattle.integers.specs.Distance.{is_within};
 ghost use Rattle.board_match.specs.Questions.{in_unit_interval, settings_answer, table_answer, asked_from9, told_answer};
 ghost use Rattle.board_match.specs.Entries.{placed_in, border_answer, sampled_in};
@@ -24,16 +24,10 @@ fn in_unit_interval(x: f32) -> bool
 fn settings(config: BoardMatchConfig) -> bool
     ensures { result ≡ settings_answer config }
 {
-    if !floats::is_finite(config.alignment_min_margin) {
-        return false;
-    }
-    if !floats::is_finite(config.cell_weight_border_threshold) {
-        return false;
-    }
-    if !floats::is_finite(config.px_per_square) {
-        return false;
-    }
-    in_unit_interval(config.least_weight)
+    floats::is_finite(config.alignment_min_margin)
+        && floats::is_finite(config.cell_weight_border_threshold)
+        && floats::is_finite(config.px_per_square)
+        && in_unit_interval(config.least_weight)
 }
 
 // Question 10. Only the record's own table is checked: the built-in one passes.
@@ -47,7 +41,7 @@ fn table_passes(record: &Record<'_>, entries: &[f32; 511]) -> bool
 fn within(z: i16) -> bool
     ensures { result ≡ is_within 4096 z }
 {
-    -4096 <= z && z <= 4096
+    (-4096..=4096).contains(&z)
 }
 
 fn point(u: i16, v: i16) -> bool
@@ -61,21 +55,13 @@ fn all_placed(index: &[u32; 768], count: usize) -> bool
     requires { count ≤ 256 }
     ensures { result ≡ every (placed_in index.now) count }
 {
-    for k in 0..count {
-        if !point(index::u(index, k), index::v(index, k)) {
-            return false;
-        }
-    }
-    true
+    (0..count).all(|k| point(index::u(index, k), index::v(index, k)))
 }
 
 fn sample(border: Option<f32>) -> bool
     ensures { result ≡ border_answer border }
 {
-    match border {
-        Some(x) => in_unit_interval(x),
-        None => true,
-    }
+    border.is_none_or(|x| in_unit_interval(x))
 }
 
 // Question 13 of the indexed cells, at most 256. In a well-formed record every grid is complete.
@@ -83,12 +69,7 @@ fn all_sampled(index: &[u32; 768], count: usize) -> bool
     requires { count ≤ 256 }
     ensures { result ≡ every (sampled_in index.now) count }
 {
-    for k in 0..count {
-        if !sample(index::border(index, k)) {
-            return false;
-        }
-    }
-    true
+    (0..count).all(|k| sample(index::border(index, k)))
 }
 
 // Questions 9 to 14, with 23 after 12.
@@ -99,7 +80,7 @@ pub fn from_9(
     index: &[u32; 768],
     words: usize,
 ) -> Result<(), Refusal>
-    requires { Indexed record.now.bytes.now record.now.fields index.now × (config ≡ config_of (shot record.now.bytes.now))
+    requires { Index record.now.bytes.now index.now × (whole_record record.now.bytes.now ≡ true) × (config ≡ config_of (shot record.now.bytes.now))
         × (entries.now ≡ map of_pattern (shot record.now.bytes.now).table) }
     ensures { result ≡ told_answer (asked_from9 (shot record.now.bytes.now) words none) }
 {

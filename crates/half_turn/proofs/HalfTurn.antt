@@ -34,8 +34,8 @@ record NaturalPlace (t : ℕ → ℕ → Bool) (w h : ℕ) (x y : ℤ) (m : ℕ)
 natural_place : (t : ℕ → ℕ → Bool) (w h : ℕ) (x y : ℤ) (m : ℕ) → number_atℤ t w h x y ≡ Some m → NaturalPlace t w h x y m
 unfolding number_atℤ
 natural_place t w h (pos i) (pos j) m e = record { i = i; j = j; column = refl; row = refl; number = e }
-natural_place t w h (pos i) (negsuc j) m e = let z : ◌≡◌ {A = ℕ} 0 1 = cc in absurd (omega arith)
-natural_place t w h (negsuc i) y m e = let z : ◌≡◌ {A = ℕ} 0 1 = cc in absurd (omega arith)
+natural_place t w h (pos i) (negsuc j) m e = absurd (grind arith)
+natural_place t w h (negsuc i) y m e = absurd (grind arith)
 
 -- a − i, of an integer that is i; and back
 pub opposite_at : (a i : ℕ) (x : ℤ) → x ≡ pos i → i ≤ a → pos a -ℤ x ≡ pos (a - i)
@@ -69,12 +69,12 @@ module _ (w h a b n : ℕ) where
           let c : None ≡ Some (n - 1 - m) =
           sym e ∙ ap₂ (number_atℤ t w h) (opposite_from a s.i x s.column g.column) (opposite_from b s.j y s.row g.row)
           ∙ natural t w h (a - s.i) (b - s.j) ∙ g.number in
-          let z : ◌≡◌ {A = ℕ} 0 1 = cc in absurd (omega arith)
+          absurd (grind arith)
 
 -- ---- markers
 if_id : (t : Bool) (k m : ℕ) → number_if t k ≡ Some m → T t × (k ≡ m)
 if_id true k m e = (tt, cc)
-if_id false k m e = let z : ◌≡◌ {A = ℕ} 0 1 = cc in absurd (omega arith)
+if_id false k m e = absurd (grind arith)
 
 -- two ranks, one as far from the last as the other from the first, in an even number of them
 halves : (n k k' m : ℕ) → n % 2 ≡ 0 → k + k' + 1 ≡ n → k / 2 ≡ m → k' / 2 ≡ n / 2 - 1 - m

@@ -76,8 +76,8 @@ lands b a q =
 corner-below : (rows cols : ℕ) (x y : ℤ) (m : ℕ) → corner_at rows cols x y ≡ Some m → m < corner_count rows cols
 unfolding number_atℤ
 corner-below rows cols (pos i) (pos j) m e = (corners rows cols).below i j m e
-corner-below rows cols (pos i) (negsuc j) m e = let z : ◌≡◌ {A = ℕ} 0 1 = cc in absurd (omega arith)
-corner-below rows cols (negsuc i) y m e = let z : ◌≡◌ {A = ℕ} 0 1 = cc in absurd (omega arith)
+corner-below rows cols (pos i) (negsuc j) m e = absurd (grind arith)
+corner-below rows cols (negsuc i) y m e = absurd (grind arith)
 
 same_id : (n m c : ℕ) → m < n → c < n → eqb (n - 1 - m) (n - 1 - c) ≡ eqb m c
 same_id n m c h l = go (eqb m c) refl
@@ -119,7 +119,7 @@ module _ (b : Board) (a : GridAlignment) (grid : List ℤ) (k : ℕ) where
 
       go : (t : Bool) → cond t (id_at b q) None ≡ Some m → m < C
       go true e = corner-below b.rows b.cols q.u q.v m e
-      go false e = let z : ◌≡◌ {A = ℕ} 0 1 = cc in absurd (omega arith)
+      go false e = absurd (grind arith)
 
 -- ---- the corners that are chosen
 module _ (s : Shot) (a : GridAlignment) (scores : List Float) (grid : List ℤ) (c : ℕ) (known : c < corner_count s.rows s.cols) where

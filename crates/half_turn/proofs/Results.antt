@@ -7,6 +7,7 @@ use native.Mathlib.Omega.{arith}
 use lib.IntN.{ℤ}
 use lib.Ieee.{Float}
 use Rattle.grid_alignment.specs.declared.GridAlignment.{GridAlignment}
+use Rattle.board.specs.Numbering.{position}
 use Rattle.board.specs.Layout.{corner_count, corner_place, scaled_point}
 use Rattle.board.proofs.Laws.{corners}
 use Rattle.board.proofs.Corners.{corner-total}
@@ -78,8 +79,8 @@ pub mapped_rule : MappedRule
 mapped_rule s a scores grid = results s a scores grid
 
 -- ---- the words
-opposite_place : (rows cols c i j : ℕ) → corner_place rows cols c ≡ Some i j
-    → corner_place rows cols (corner_count rows cols - 1 - c) ≡ Some (cols - i) (rows - j)
+opposite_place : (rows cols c i j : ℕ) → corner_place rows cols c ≡ Some (position i j)
+    → corner_place rows cols (corner_count rows cols - 1 - c) ≡ Some (position (cols - i) (rows - j))
 opposite_place rows cols c i j e =
     let g = corner_goes rows cols i j c ((corners rows cols).id_of_lem i j c e) in
     ap (λ (n : ℕ). corner_place rows cols (n - 1 - c)) (corner-total rows cols)

@@ -3,6 +3,7 @@ use Rattle.std.specs.Prelude.{◌≡◌, List, [], ◌∷◌, map, reverse, ℕ,
 use Rattle.grid_alignment.specs.declared.GridAlignment.{GridAlignment}
 use Rattle.grid_alignment.specs.Alignment.{corner_alignment}
 use Rattle.board.specs.declared.Board.{Board}
+use Rattle.board.specs.Numbering.{position}
 use Rattle.board.specs.Layout.{corner_count, corner_place}
 use Rattle.shot_record.specs.Shots.{Shot}
 use Rattle.corner_mapping.specs.Corners.{MappedCorner, chosen, mapped, corner_words}
@@ -11,7 +12,6 @@ use Rattle.corner_mapping.specs.Rules.{along}
 use Rattle.hypothesis.specs.Evidence.{board_in}
 use Rattle.legacy_record.specs.Restated.{restated}
 use Rattle.half_turn.specs.Pairs.{paired}
-use Rattle.board.specs.Numbering.{position}
 
 -- turn r and corner translation t pair with turn (r + 2) mod 4 and (cols, rows) − t
 abbrev pub paired_corners : Board → GridAlignment → GridAlignment

@@ -36,7 +36,7 @@ pub record NoTies (s : Shot) : Type 0 where
   pub of_best : BestUntied s
   pub of_runner_up : (g : Hypothesis) → runner_up s ≡ Some g → Untied s g
 
--- `Absent` pairs with `Absent`: there is no placement, or no second one
+-- `None` pairs with `None`: there is no placement, or no second one
 abbrev pub BestRule : Type 0
 BestRule = (s : Shot) → TurnedByHalf s → Checked s → 0 < cell_total s → BestUntied s → best (restated s) ≡ paired_choice s (best s)
 

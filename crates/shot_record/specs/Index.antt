@@ -4,8 +4,7 @@
 use Rattle.std.specs.Prelude.{◌≡◌, true, List, [], ◌∷◌, ℕ, zero, suc, ◌+◌, ◌*◌, ◌/◌, ◌%◌, ◌^◌, ◌<◌, get_or, set, ℤ, Option, Some, None, Float}
 use Rattle.std.specs.Int.{w16}
 use Rattle.std.proofs.Common.{to_z}
-use Rattle.shot_record.specs.declared.fields.Fields.{Fields}
-use Rattle.shot_record.specs.Fields.{byte, number, fields_of, cell_count, bits_of, border_of, grid_size, sampled, Point, point_of, sample_place}
+use Rattle.shot_record.specs.Fields.{byte, number, cell_count, bits_of, border_of, grid_size, sampled, Point, point_of, sample_place}
 use Rattle.shot_record.specs.Fields.{threshold_from, grid_from}
 use Rattle.shot_record.specs.Shots.{setting, cell_of, whole_record}
 use Rattle.shot_record.specs.Answers.{of_pattern, border_with, threshold_with}
@@ -62,10 +61,6 @@ pub record Entry (bytes index : List ℕ) (k : ℕ) : Type 0 where
 
 abbrev pub Index : List ℕ → List ℕ → Type 0
 Index bytes index = (k : ℕ) → k < cell_count bytes → k < 256 → Entry bytes index k
-
--- what a match computes once from a record that passes question 21: its fields, and the index of its cells
-abbrev pub Indexed : List ℕ → Fields → List ℕ → Type 0
-Indexed bytes f index = (f ≡ fields_of bytes) × Index bytes index × (whole_record bytes ≡ true)
 
 -- cell k of a record with its index, and the length of a grid
 pub record HasGrid (bytes : List ℕ) (size : ℕ) (index : List ℕ) (k : ℕ) : Type 0 where

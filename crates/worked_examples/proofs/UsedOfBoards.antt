@@ -21,7 +21,7 @@ use Rattle.grid_alignment.specs.Alignment.{point, sends, moved, lowest_point, ap
 use Rattle.grid_alignment.specs.Rules.{as_point}
 use Rattle.grid_alignment.proofs.Laws.{top_left_lands, turns_agree}
 use Rattle.board.specs.declared.CharucoBoardSpec.{CharucoBoardSpec}
-use Rattle.board.specs.Numbering.{count_passing, search}
+use Rattle.board.specs.Numbering.{count_passing, search, position}
 use Rattle.board.specs.Layout.{holds_marker, odd_parity, parity_of, marker_count, square_of}
 use Rattle.board.specs.Questions.{asked_of_size, asked_of_board, board_of, new_board}
 use Rattle.board.proofs.Laws.{markers, four_off_rim, off_rim_four, white_top_left, odd_rows}
@@ -76,11 +76,11 @@ ten : marker_count odd_parity 4 5 ≡ 10
 unfolding count_passing
 ten = refl
 
-square_2 : square_of odd_parity 4 5 2 ≡ Some 0 1
+square_2 : square_of odd_parity 4 5 2 ≡ Some (position 0 1)
 unfolding search count_passing
 square_2 = refl
 
-square_3 : square_of odd_parity 4 5 3 ≡ Some 2 1
+square_3 : square_of odd_parity 4 5 3 ≡ Some (position 2 1)
 unfolding search count_passing
 square_3 = refl
 

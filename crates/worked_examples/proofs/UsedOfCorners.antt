@@ -12,7 +12,7 @@ use lib.Ieee.{of_bits, to_bits, of_int, mul, le, lt, eq}
 use Rattle.grid_alignment.specs.declared.Coord.{Coord}
 use Rattle.grid_alignment.specs.Alignment.{point, sends, applied, corner}
 use Rattle.board.specs.Numbering.{count_passing, number_at, number_atℤ, search}
-use Rattle.board.specs.Layout.{parity_of, marker_on, surrounding_corners, corner_count}
+use Rattle.board.specs.Layout.{parity_of, marker_on, surrounding_corners, surrounding, corner_count}
 use Rattle.marker_sampling.specs.Cells.{held, index, holder, whole_cell, point_at}
 use Rattle.marker_sampling.specs.Entry.{finite_scores}
 use Rattle.marker_sampling.specs.Rules.{PassingInOrder}
@@ -154,7 +154,7 @@ on-marker : marker_on (board 4 5) (applied (align 1 (pos 2) (pos 1)) (point (pos
 unfolding sends parity_of number_atℤ number_at count_passing
 on-marker = refl
 
-its_corners : surrounding_corners (board 4 5) 3 ≡ Some 1 2 6 5
+its_corners : surrounding_corners (board 4 5) 3 ≡ Some (surrounding 1 2 6 5)
 unfolding parity_of search number_at count_passing
 its_corners = refl
 

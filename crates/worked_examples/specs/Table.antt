@@ -155,7 +155,7 @@ pub record Table : Type 0 where
       (surrounding_corners (board 4 5) 3 ≡ Some (surrounding 1 2 6 5))
       × (marker_square (board 4 5) 2 ≡ Some (position 0 1)) × (surrounding_corners (board 4 5) 2 ≡ None)
       × (marker_square (board 4 5) 10 ≡ None)
-  -- there, links (3, 1), (3, 1), (3, 9): 9 not in neighbourhood, then 1 repeated; all_four_lem mode adds missing 2, 6, 5
+  -- there, links (3, 1), (3, 1), (3, 9): 9 not in neighbourhood, then 1 repeated; all-four mode adds missing 2, 6, 5
   pub P8 :
       (violations_in mode.SubsetOk ≡ table_entry kind.CornerNotInNeighborhood (some 9) [] ∷ table_entry kind.DuplicateCorner (some 1) [] ∷ [])
       × (violations_in mode.MustMatchAll4 ≡ table_entry kind.CornerNotInNeighborhood (some 9) [] ∷ table_entry kind.DuplicateCorner (some 1) []

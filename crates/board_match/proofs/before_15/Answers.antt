@@ -1,48 +1,33 @@
 -- `board_match::before_15` meets its contract. Assumes nothing.
-use mathlib.Core.Path.{◌≡◌, sym, ◌∙◌}
-use mathlib.Core.List.{List}
-use Prim.Native.Nat.{ℕ}
-use Rattle.board.specs.declared.Board.{Board}
+use mathlib.Core.Path.{◌≡◌}
+use Rattle.std.specs.Prelude.{Ok}
+use Rattle.std.proofs.lemmas.Result.{err_from_is_err_and}
 use Rattle.board.specs.Questions.{new_board}
 use Rattle.shot_record.specs.Shots.{shot}
 use Rattle.shot_record.specs.Answers.{spec_of}
-use Rattle.shot_record.proofs.Whole.{Whole, passed}
-use Rattle.board_match.proofs.Answered.{board-refused, later-refused, all_passed}
+use Rattle.board_match.proofs.Answered.{board-refused, later-refused, all_passed, inputs-are}
 use Rattle.board_match.proofs.before_15.Goals as goal
-use Rattle.board_match.proofs.before_15.Goals.{In-Made, Start}
-use Rattle.std.specs.Prelude.{Ok}
-
-module _ (c : Start) where
-  abbrev bytes : List ℕ
-  bytes = c.args.bytes.now
-
-  abbrev words : ℕ
-  words = c.args.words
-
-  is_whole : Whole bytes
-  is_whole = passed bytes c.requires.0.2
+use Rattle.board_match.proofs.before_15.Goals.{In_ok-board}
 
 -- the board that was made
-module _ (c : In-Made) where
-  abbrev board : Board
-  board = c.in-Ok.board
+board_made : (c : In_ok-board) → Ok c.in_ok-board.board ≡ new_board (spec_of (shot c.args.record.now.bytes.now)) (shot c.args.record.now.bytes.now).codes
+board_made c = c.in_ok-board.ensures
 
-  board-made : Ok board ≡ new_board (spec_of (shot c.args.bytes.now)) (shot c.args.bytes.now).codes
-  board-made = sym c.in-Ok.is ∙ c.board-made.ensures
+pub returns-in_err-board : goal.returns-in_err-board
+returns-in_err-board c =
+    let p = err_from_is_err_and c.from_residual.result c.from_residual.ensures.1 in
+    rw (p.1, p.2) (board-refused (shot c.args.record.now.bytes.now) c.args.words _ c.in_err-board.ensures)
 
-pub from_9-answer-requires : goal.from_9-answer-requires
-from_9-answer-requires c =
-    (c.requires.0, c.config-config.ensures, c.requires.1)
+pub returns-in_err-from_9 : goal.returns-in_err-from_9
+returns-in_err-from_9 c =
+    let p = err_from_is_err_and c.from_residual-in_err-from_9.result c.from_residual-in_err-from_9.ensures.1 in
+    rw (p.1, p.2)
+    (later-refused (shot c.args.record.now.bytes.now) c.args.words _ (board_made (goal.at.returns-in_err-from_9 c).In_ok-board) _
+    c.in_err-from_9.ensures)
 
-pub returns-in-Ok : goal.returns-in-Ok
-returns-in-Ok c =
-    all_passed c.args.bytes.now c.args.words (is_whole (goal.at.returns-in-Ok c).Start) c.in-Ok.board (board-made (goal.at.returns-in-Ok c).In-Made) c.args.f c.requires.0.0 c.config-config.result c.config-config.ensures
-    (sym c.in-Ok.is ∙ c.from_9-answer.ensures)
-
-pub returns-in-Err-answer : goal.returns-in-Err-answer
-returns-in-Err-answer c =
-    later-refused c.args.bytes.now c.args.words (is_whole (goal.at.returns-in-Err-answer c).Start) c.in-Ok.board (board-made (goal.at.returns-in-Err-answer c).In-Made) _ (sym c.in-Err-answer.is ∙ c.from_9-answer.ensures)
-
-pub returns-in-Err : goal.returns-in-Err
-returns-in-Err c =
-    board-refused c.args.bytes.now c.args.words (is_whole (goal.at.returns-in-Err c).Start) _ (sym c.in-Err.is ∙ c.board-made.ensures)
+pub returns : goal.returns
+returns c =
+    let record_now = c.args.record.now in
+    let made = board_made (goal.at.returns c).In_ok-board in
+    all_passed (shot record_now.bytes.now) c.args.words _ made _ (inputs-are record_now.bytes.now _ record_now.located _ made _ c.config-config.ensures)
+    c.in_ok-from_9.ensures

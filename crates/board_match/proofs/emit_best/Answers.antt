@@ -1,68 +1,56 @@
 -- `board_match::emit_best` meets its contract. Assumes nothing.
 use mathlib.Core.Path.{◌≡◌, sym, ◌∙◌}
-use mathlib.Core.Bool.{true}
-use mathlib.Core.List.{List}
-use Prim.Native.Nat.{ℕ}
-use borrow.Author.Tests.{not-true, not-false}
-use Rattle.shot_record.specs.Shots.{shot, whole_record}
+use mathlib.Core.Bool.{true, false}
+use Rattle.shot_record.specs.Shots.{shot}
 use Rattle.shot_record.specs.Answers.{config_of}
-use Rattle.hypothesis.specs.Inputs.{Loaded}
 use Rattle.hypothesis.proofs.IndexedCells.{config_is}
 use Rattle.board_match.specs.Match.{margin_passes}
 use Rattle.board_match.proofs.Gates.{near-best, room_for, too_narrow, none_emitted, match_is, emitted-some}
 use Rattle.board_match.proofs.emit_best.Goals as goal
 use Rattle.board_match.proofs.emit_best.Goals.{Else-not-margin_passes, Start}
 
-module _ (c : Start) where
-  abbrev bytes : List ℕ
-  bytes = c.args.bytes.now
-
-  abbrev lent : List ℕ
-  lent = c.args.markers.now
-
-  loaded : Loaded bytes c.args.inputs c.args.index.now c.args.table.now c.args.codes.now
-  loaded = c.requires.0
-
-  is_whole : whole_record bytes ≡ true
-  is_whole = loaded.ready.whole
-
-  settings : c.args.inputs.config ≡ config_of (shot bytes)
-  settings = config_is (shot bytes) c.args.inputs loaded.ready.is
+settings : (c : Start) → c.args.loaded.now.inputs.config ≡ config_of (shot c.args.loaded.now.bytes.now)
+settings c = let l = c.args.loaded.now in config_is (shot l.bytes.now) l.inputs l.loaded.ready.is
 
 -- the margin passes question 16
-wide : (c : Else-not-margin_passes) → margin_passes c.args.inputs.config c.args.selection.margin ≡ true
-wide c = sym c.margin_passes.ensures ∙ not-false _ c.if-not-margin_passes.false-raw
+wide : (c : Else-not-margin_passes) → margin_passes c.args.loaded.now.inputs.config c.args.selection.margin ≡ true
+wide c = sym c.margin_passes.ensures ∙ c.if-not-margin_passes.false
 
 pub returns-then-not-margin_passes : goal.returns-then-not-margin_passes
 returns-then-not-margin_passes c =
-    too_narrow c.args.bytes.now c.args.markers.now (is_whole (goal.at.returns-then-not-margin_passes c).Start) c.requires.2 c.args.selection c.requires.1 c.args.inputs.config (settings (goal.at.returns-then-not-margin_passes c).Start)
-    (sym c.margin_passes.ensures ∙ not-true _ c.if-not-margin_passes.true-raw)
+    let l = c.args.loaded.now in
+    too_narrow l.bytes.now c.args.markers.now l.loaded.ready.whole c.requires.1 c.args.selection c.requires.0 l.inputs.config
+    (settings (goal.at.returns-then-not-margin_passes c).Start) (sym c.margin_passes.ensures ∙ c.if-not-margin_passes.true)
 
 pub emit_markers-count-requires : goal.emit_markers-count-requires
 emit_markers-count-requires c =
+    let l = c.args.loaded.now in
     record {
-      loaded = (loaded (goal.at.emit_markers-count-requires c).Start, near-best c.args.bytes.now (loaded (goal.at.emit_markers-count-requires c).Start).ready.passed c.args.selection c.requires.1);
-      bytes_in_bounds = room_for c.args.bytes.now c.args.markers.now c.requires.2;
+      near = near-best l.bytes.now l.loaded.ready.passed c.args.selection c.requires.0;
+      bytes_in_bounds = room_for l.bytes.now c.args.markers.now c.requires.1;
     }
 
 pub returns-then-count-eq0 : goal.returns-then-count-eq0
 returns-then-count-eq0 c =
-    let x = c.args in
+    let l = c.args.loaded.now in
     let em = c.emit_markers-count in
-    none_emitted c.args.bytes.now c.args.markers.now (is_whole (goal.at.returns-then-count-eq0 c).Start) c.requires.2 x.selection c.requires.1 x.inputs.config (settings (goal.at.returns-then-count-eq0 c).Start)
-    (wide (goal.at.returns-then-count-eq0 c).Else-not-margin_passes) em.result em.new.markers em.ensures.count em.ensures.list c.if-count-eq0.true
+    let g = goal.at.returns-then-count-eq0 c in
+    none_emitted l.bytes.now c.args.markers.now l.loaded.ready.whole c.requires.1 c.args.selection c.requires.0 l.inputs.config (settings g.Start)
+    (wide g.Else-not-margin_passes) em.result em.new.markers em.ensures.count em.ensures.list c.if-count-eq0.true
 
 pub cell_to_corner_alignment-requires : goal.cell_to_corner_alignment-requires
 cell_to_corner_alignment-requires c =
-    near-best c.args.bytes.now (loaded (goal.at.cell_to_corner_alignment-requires c).Start).ready.passed c.args.selection c.requires.1
+    let l = c.args.loaded.now in near-best l.bytes.now l.loaded.ready.passed c.args.selection c.requires.0
 
 pub returns : goal.returns
 returns c =
-    let x = c.args in
+    let l = c.args.loaded.now in
+    let x = c.args.selection in
     let em = c.emit_markers-count in
-    let exit = em.new.markers in
-    let w = wide (goal.at.returns c).Else-not-margin_passes in
-    let f = match_is c.args.bytes.now c.args.markers.now (is_whole (goal.at.returns c).Start) c.requires.2 x.selection c.requires.1 x.inputs.config (settings (goal.at.returns c).Start) w
-    em.result exit em.ensures.count em.ensures.list c.cell_to_corner_alignment.result c.cell_to_corner_alignment.ensures in
-    emitted-some c.args.bytes.now c.args.markers.now (is_whole (goal.at.returns c).Start) c.requires.2 x.selection c.requires.1 x.inputs.config (settings (goal.at.returns c).Start) w
-    em.result exit em.ensures.count em.ensures.list c.if-count-eq0.false _ f
+    let g = goal.at.returns c in
+    let w = wide g.Else-not-margin_passes in
+    let corners = c.cell_to_corner_alignment in
+    let f = match_is l.bytes.now c.args.markers.now l.loaded.ready.whole c.requires.1 x c.requires.0 l.inputs.config (settings g.Start) w em.result em.new.markers
+    em.ensures.count em.ensures.list corners.result corners.ensures in
+    emitted-some l.bytes.now c.args.markers.now l.loaded.ready.whole c.requires.1 x c.requires.0 l.inputs.config (settings g.Start) w em.result em.new.markers
+    em.ensures.count em.ensures.list c.if-count-eq0.false _ f

@@ -8,12 +8,13 @@ use lib.Dec.{leb}
 use lib.ListN.{length}
 use borrow.Author.Tests.{lt-leb, le-leb, lt-ltb, le-ltb}
 use Rattle.integers.specs.Tests.{every}
-use Rattle.shot_record.specs.Fields.{fields_of, cell_count}
-use Rattle.shot_record.specs.declared.fields.Fields.{Fields}
-use Rattle.shot_record.specs.Shots.{Shot, shot}
+use Rattle.points.specs.Points.{all_apart, point_of}
+use Rattle.shot_record.specs.declared.record.Record.{Record}
+use Rattle.shot_record.specs.Fields.{cell_count}
+use Rattle.shot_record.specs.Shots.{Shot, shot, whole_record}
 use Rattle.shot_record.specs.Answers.{config_of}
-use Rattle.shot_record.specs.Index.{Indexed}
-use Rattle.shot_record.proofs.Reading.{Small, found}
+use Rattle.shot_record.specs.Index.{Index}
+use Rattle.shot_record.proofs.Reading.{found}
 use Rattle.shot_record.proofs.Whole.{passed}
 use Rattle.shot_record.proofs.CellReads.{cell_count_is}
 use Rattle.hypothesis.specs.Placements.{cell}
@@ -22,24 +23,28 @@ use Rattle.board_match.specs.Questions.{samples_answer, asked_from9}
 use Rattle.board_match.specs.Entries.{placed_in, sampled_in}
 use Rattle.board_match.proofs.CellAnswers.{placed-are, points_small, points_are, samples-are}
 use Rattle.board_match.proofs.questions.from_9.Goals as goal
-use Rattle.board_match.proofs.questions.from_9.Goals.{Else-not-settings, Else-not-table_passes, Else-count-eq0, Else-count-gt256, Else-not-all_placed, Else-not-all_different, Else-not-all_sampled}
+use Rattle.board_match.proofs.questions.from_9.Goals.{Else-not-settings, Else-not-table_passes, Else-count-eq0, Else-not-all_placed, Else-not-all_different}
+use Rattle.board_match.proofs.questions.from_9.Goals.{Else-not-all_sampled}
 
-all : (f : Fields) (bytes : List ℕ) → f ≡ fields_of bytes → f.cell_count ≡ cell_count bytes
-all f bytes e = (found f bytes e).cell_count_is
+abbrev shot_in : Record → Shot
+shot_in r = shot r.bytes.now
 
-count : (f : Fields) (bytes : List ℕ) → f ≡ fields_of bytes → f.cell_count ≡ length (shot bytes).cells
-count f bytes e = all f bytes e ∙ sym (cell_count_is bytes)
+all : (r : Record) → r.fields.cell_count ≡ cell_count r.bytes.now
+all r = (found r.fields r.bytes.now r.located).cell_count_is
+
+count : (r : Record) → r.fields.cell_count ≡ length (shot_in r).cells
+count r = all r ∙ sym (cell_count_is r.bytes.now)
 
 -- ---- 9
-yes9 : (c : Else-not-settings) → settings_answer (config_of (shot c.args.bytes.now)) ≡ true
-yes9 c = sym (c.settings.ensures ∙ ap settings_answer c.requires.1) ∙ c.if-not-settings.false
+yes9 : (c : Else-not-settings) → settings_answer (config_of (shot_in c.args.record.now)) ≡ true
+yes9 c = sym (c.settings.ensures ∙ ap settings_answer c.requires.2) ∙ c.if-not-settings.false
 
 pub returns-then-not-settings : goal.returns-then-not-settings
 unfolding asked_from9
-returns-then-not-settings c = rw (sym (c.settings.ensures ∙ ap settings_answer c.requires.1) ∙ c.if-not-settings.true)
+returns-then-not-settings c = rw (sym (c.settings.ensures ∙ ap settings_answer c.requires.2) ∙ c.if-not-settings.true)
 
 -- ---- 10
-yes10 : (c : Else-not-table_passes) → table_answer (shot c.args.bytes.now) ≡ true
+yes10 : (c : Else-not-table_passes) → table_answer (shot_in c.args.record.now) ≡ true
 yes10 c = sym c.table_passes.ensures ∙ c.if-not-table_passes.false
 
 pub returns-then-not-table_passes : goal.returns-then-not-table_passes
@@ -48,21 +53,18 @@ returns-then-not-table_passes c =
     let g = goal.at.returns-then-not-table_passes c in
     rw (yes9 g.Else-not-settings, sym c.table_passes.ensures ∙ c.if-not-table_passes.true)
 
-pub table_passes-requires : goal.table_passes-requires
-table_passes-requires c = (c.requires.0.0, c.requires.2)
-
 -- ---- 11
-yes11 : (c : Else-count-eq0) → some_answer (shot c.args.bytes.now) ≡ true
+yes11 : (c : Else-count-eq0) → some_answer (shot_in c.args.record.now) ≡ true
 yes11 c =
-    let n = count c.args.f c.args.bytes.now c.requires.0.0 in
-    lt-ltb 0 (length (shot c.args.bytes.now).cells) (omega (arith, n, c.if-count-eq0.false))
+    let r = c.args.record.now in
+    lt-ltb 0 (length (shot_in r).cells) (omega (arith, count r, c.if-count-eq0.false))
 
 pub returns-then-count-eq0 : goal.returns-then-count-eq0
 unfolding asked_from9
 returns-then-count-eq0 c =
     let g = goal.at.returns-then-count-eq0 c in
-    let n = count c.args.f c.args.bytes.now c.requires.0.0 in
-    rw (yes9 g.Else-not-settings, yes10 g.Else-not-table_passes, le-ltb 0 (length (shot c.args.bytes.now).cells) (omega (arith, n, c.if-count-eq0.true)))
+    let r = c.args.record.now in
+    rw (yes9 g.Else-not-settings, yes10 g.Else-not-table_passes, le-ltb 0 (length (shot_in r).cells) (omega (arith, count r, c.if-count-eq0.true)))
 
 -- ---- 12
 abbrev placed : Shot → Bool
@@ -78,69 +80,56 @@ pub returns-then-count-gt256 : goal.returns-then-count-gt256
 unfolding asked_from9
 returns-then-count-gt256 c =
     let g = goal.at.returns-then-count-gt256 c in
-    let n = count c.args.f c.args.bytes.now c.requires.0.0 in
-    let no = too_many (shot c.args.bytes.now) (lt-leb (length (shot c.args.bytes.now).cells) 256 (omega (arith, n, c.if-count-gt256.true))) in
+    let r = c.args.record.now in
+    let no = too_many (shot_in r) (lt-leb (length (shot_in r).cells) 256 (omega (arith, count r, c.if-count-gt256.true))) in
     rw (yes9 g.Else-not-settings, yes10 g.Else-not-table_passes, yes11 g.Else-count-eq0, no)
 
-pub all_placed-requires : goal.all_placed-requires
-all_placed-requires c = c.if-count-gt256.false
+-- ---- 12, 23 and 13 of the indexed cells
+module _ (r : Record) (index : List ℕ) (held : Index r.bytes.now index) (h : r.fields.cell_count ≤ 256) (b : Bool) where
+  answer_12 : b ≡ every (placed_in index) r.fields.cell_count → cells_answer (shot_in r) ≡ b
+  answer_12 e =
+      few (shot_in r) b (le-leb (length (shot_in r).cells) 256 (omega (arith, h, count r))) (e ∙ placed-are r.bytes.now index held _ (all r) h)
 
-answer_12 : (f : Fields) (bytes index : List ℕ) (b : Bool) → Indexed bytes f index → f.cell_count ≤ 256
-    → b ≡ every (placed_in index) f.cell_count → cells_answer (shot bytes) ≡ b
-answer_12 f bytes index b x h e =
-    few (shot bytes) b (le-leb (length (shot bytes).cells) 256 (omega (arith, count f bytes x.0)))
-    (e ∙ placed-are bytes index x.1 _ (all f bytes x.0) h)
+  answer_23 : b ≡ all_apart (point_of index) r.fields.cell_count → points_answer (shot_in r) ≡ b
+  answer_23 e = sym (e ∙ points_are r.bytes.now index held _ (all r) h)
 
-yes12 : (c : Else-not-all_placed) → cells_answer (shot c.args.bytes.now) ≡ true
-yes12 c =
-    answer_12 c.args.f c.args.bytes.now c.args.index.now _ c.requires.0 c.if-count-gt256.false c.all_placed.ensures ∙ c.if-not-all_placed.false
+  answer_13 : whole_record r.bytes.now ≡ true → b ≡ every (sampled_in index) r.fields.cell_count → samples_answer (shot_in r) ≡ b
+  answer_13 w e = sym (e ∙ samples-are r.bytes.now index held _ (all r) h (passed r.bytes.now w))
+
+yes12 : (c : Else-not-all_placed) → cells_answer (shot_in c.args.record.now) ≡ true
+yes12 c = answer_12 c.args.record.now c.args.index.now c.requires.0 c.if-count-gt256.false _ c.all_placed.ensures ∙ c.if-not-all_placed.false
 
 pub returns-then-not-all_placed : goal.returns-then-not-all_placed
 unfolding asked_from9
 returns-then-not-all_placed c =
     let g = goal.at.returns-then-not-all_placed c in
-    let no = answer_12 c.args.f c.args.bytes.now c.args.index.now _ c.requires.0 c.if-count-gt256.false c.all_placed.ensures ∙ c.if-not-all_placed.true in
+    let no = answer_12 c.args.record.now c.args.index.now c.requires.0 c.if-count-gt256.false _ c.all_placed.ensures ∙ c.if-not-all_placed.true in
     rw (yes9 g.Else-not-settings, yes10 g.Else-not-table_passes, yes11 g.Else-count-eq0, no)
 
--- ---- 23
 pub all_different-requires : goal.all_different-requires
 all_different-requires c =
-    let f = c.args.f in
-    let bytes = c.args.bytes.now in
-    let few = c.if-count-gt256.false in
-    (few, points_small bytes c.args.index.now c.requires.0.1 _ (all f bytes c.requires.0.0) few)
+    let r = c.args.record.now in
+    let h = c.if-count-gt256.false in
+    (h, points_small r.bytes.now c.args.index.now c.requires.0 _ (all r) h)
 
-yes23 : (c : Else-not-all_different) → points_answer (shot c.args.bytes.now) ≡ true
-yes23 c =
-    sym (c.all_different.ensures ∙ points_are c.args.bytes.now c.args.index.now c.requires.0.1 _ (all c.args.f c.args.bytes.now c.requires.0.0) c.if-count-gt256.false)
-    ∙ c.if-not-all_different.false
+yes23 : (c : Else-not-all_different) → points_answer (shot_in c.args.record.now) ≡ true
+yes23 c = answer_23 c.args.record.now c.args.index.now c.requires.0 c.if-count-gt256.false _ c.all_different.ensures ∙ c.if-not-all_different.false
 
 pub returns-then-not-all_different : goal.returns-then-not-all_different
 unfolding asked_from9
 returns-then-not-all_different c =
     let g = goal.at.returns-then-not-all_different c in
-    let no = sym (c.all_different.ensures ∙ points_are c.args.bytes.now c.args.index.now c.requires.0.1 _ (all c.args.f c.args.bytes.now c.requires.0.0) c.if-count-gt256.false) ∙ c.if-not-all_different.true in
+    let no = answer_23 c.args.record.now c.args.index.now c.requires.0 c.if-count-gt256.false _ c.all_different.ensures ∙ c.if-not-all_different.true in
     rw (yes9 g.Else-not-settings, yes10 g.Else-not-table_passes, yes11 g.Else-count-eq0, yes12 g.Else-not-all_placed, no)
 
--- ---- 13
-pub all_sampled-requires : goal.all_sampled-requires
-all_sampled-requires c = c.if-count-gt256.false
-
-answer_13 : (f : Fields) (bytes index : List ℕ) (b : Bool) → Indexed bytes f index → f.cell_count ≤ 256 → Small bytes
-    → b ≡ every (sampled_in index) f.cell_count → samples_answer (shot bytes) ≡ b
-answer_13 f bytes index b x h s e =
-    sym (e ∙ samples-are bytes index x.1 _ (all f bytes x.0) h (passed bytes x.2) s)
-
-yes13 : (c : Else-not-all_sampled) → samples_answer (shot c.args.bytes.now) ≡ true
-yes13 c =
-    answer_13 c.args.f c.args.bytes.now c.args.index.now _ c.requires.0 c.if-count-gt256.false (λ i. (c.type_inv.bytes i).fits) c.all_sampled.ensures
-    ∙ c.if-not-all_sampled.false
+yes13 : (c : Else-not-all_sampled) → samples_answer (shot_in c.args.record.now) ≡ true
+yes13 c = answer_13 c.args.record.now c.args.index.now c.requires.0 c.if-count-gt256.false _ c.requires.1 c.all_sampled.ensures ∙ c.if-not-all_sampled.false
 
 pub returns-then-not-all_sampled : goal.returns-then-not-all_sampled
 unfolding asked_from9
 returns-then-not-all_sampled c =
     let g = goal.at.returns-then-not-all_sampled c in
-    let no = answer_13 c.args.f c.args.bytes.now c.args.index.now _ c.requires.0 c.if-count-gt256.false (λ i. (c.type_inv.bytes i).fits) c.all_sampled.ensures ∙ c.if-not-all_sampled.true in
+    let no = answer_13 c.args.record.now c.args.index.now c.requires.0 c.if-count-gt256.false _ c.requires.1 c.all_sampled.ensures ∙ c.if-not-all_sampled.true in
     rw
     (yes9 g.Else-not-settings, yes10 g.Else-not-table_passes, yes11 g.Else-count-eq0, yes12 g.Else-not-all_placed, yes23 g.Else-not-all_different, no)
 
@@ -149,14 +138,30 @@ pub returns-then-words-count : goal.returns-then-words-count
 unfolding asked_from9
 returns-then-words-count c =
     let g = goal.at.returns-then-words-count c in
-    let n = count c.args.f c.args.bytes.now c.requires.0.0 in
-    let no = lt-leb (18 * length (shot c.args.bytes.now).cells) c.args.words (omega (arith, n, c.if-words-count.true)) in
-    rw (yes9 g.Else-not-settings, yes10 g.Else-not-table_passes, yes11 g.Else-count-eq0, yes12 g.Else-not-all_placed, yes23 g.Else-not-all_different, yes13 g.Else-not-all_sampled, no)
+    let r = c.args.record.now in
+    let no = lt-leb (18 * length (shot_in r).cells) c.args.words (omega (arith, count r, c.if-words-count.true)) in
+    rw (
+      yes9 g.Else-not-settings,
+      yes10 g.Else-not-table_passes,
+      yes11 g.Else-count-eq0,
+      yes12 g.Else-not-all_placed,
+      yes23 g.Else-not-all_different,
+      yes13 g.Else-not-all_sampled,
+      no,
+    )
 
 pub returns : goal.returns
 unfolding asked_from9
 returns c =
     let g = goal.at.returns c in
-    let n = count c.args.f c.args.bytes.now c.requires.0.0 in
-    let yes = le-leb (18 * length (shot c.args.bytes.now).cells) c.args.words (omega (arith, n, c.if-words-count.false)) in
-    rw (yes9 g.Else-not-settings, yes10 g.Else-not-table_passes, yes11 g.Else-count-eq0, yes12 g.Else-not-all_placed, yes23 g.Else-not-all_different, yes13 g.Else-not-all_sampled, yes)
+    let r = c.args.record.now in
+    let yes = le-leb (18 * length (shot_in r).cells) c.args.words (omega (arith, count r, c.if-words-count.false)) in
+    rw (
+      yes9 g.Else-not-settings,
+      yes10 g.Else-not-table_passes,
+      yes11 g.Else-count-eq0,
+      yes12 g.Else-not-all_placed,
+      yes23 g.Else-not-all_different,
+      yes13 g.Else-not-all_sampled,
+      yes,
+    )

@@ -1,5 +1,6 @@
 -- `board_match::questions::table_passes` meets its contract. Assumes nothing.
 use mathlib.Core.Path.{sym, ap, ◌∙◌}
+use mathlib.Core.Bool.{not}
 use mathlib.Core.List.{List, map}
 use Prim.Native.Nat.{ℕ}
 use lib.Ieee.Bits.{is_true}
@@ -12,8 +13,7 @@ use Rattle.board_match.proofs.questions.table_passes.Goals as goal
 pub returns-then-not-sets_table : goal.returns-then-not-sets_table
 unfolding built_in
 returns-then-not-sets_table c =
-    sym (is_true (is_table built_in) built_in-passes)
-    ∙ ap (λ (l : List ℕ). is_table (map of_pattern l)) (sym (built_in-table _ _ c.requires.0 c.sets_table.result c.sets_table.ensures c.if-not-sets_table.true-raw))
-
-pub returns : goal.returns
-returns c = c.is_table.ensures ∙ ap is_table c.requires.1
+    let e = c.if-not-sets_table.true in
+    ap not e
+    ∙ sym (is_true (is_table built_in) built_in-passes)
+    ∙ ap (λ (l : List ℕ). is_table (map of_pattern l)) (sym (built_in-table _ _ c.args.record.now.located c.sets_table.result c.sets_table.ensures e))
