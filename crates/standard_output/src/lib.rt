@@ -17,11 +17,11 @@ pub fn write_all<W: Write>(stream: &mut W, text: &[u8]) -> io::Result<()>
 {
     let mut done: usize = 0;
     while done < text.len() {
-        let count = stream.write(&text[done..])?;
-        if count == 0 {
-            return Err(io::Error::from(ErrorKind::WriteZero));
+        match stream.write(&text[done..]) {
+            Ok(0) => return Err(io::Error::from(ErrorKind::WriteZero)),
+            Ok(count) => done += count,
+            Err(error) => return Err(error),
         }
-        done += count;
     }
     Ok(())
 }

@@ -15,9 +15,9 @@ appended_more old mid new text done n before now within =
 pub loop-done-preserved : goal.loop-done-preserved
 loop-done-preserved g c =
     let text = c.args.text.now in
-    let taken = c.in_ok-count.ensures in
-    let room : c.in_ok-count.count ≤ length text - c.loop-done.done = omega (arith, taken.bound, length-drop {A = ℕ}, length-take-le {A = ℕ}) in
+    let taken = c.in-Ok.ensures in
+    let room : c.in-Ok.count ≤ length text - c.loop-done.done = omega (arith, taken.bound, length-drop {A = ℕ}, length-take-le {A = ℕ}) in
     record {
       within = omega arith;
-      appended = appended_more _ _ _ text c.loop-done.done c.in_ok-count.count c.loop-done.invariant.appended taken.bytes room;
+      appended = appended_more _ _ _ text c.loop-done.done c.in-Ok.count c.loop-done.invariant.appended taken.bytes room;
     }
