@@ -76,11 +76,9 @@ fn put_marker(text: &mut [u8], at: usize, markers: &[u32], k: usize) -> usize
 pub fn put_markers(text: &mut [u8], at: usize, markers: &[u32], count: usize) -> usize
     ensures { Printed (marker_lines markers.now count) at result text.old text.new }
 {
-    let mut next = writer::least(at, text.len());
-    let mut k = 0;
-    while k < count {
+    let mut next = at.min(text.len());
+    for k in 0..count {
         next = put_marker(text, next, markers, k);
-        k += 1;
     }
     next
 }

@@ -1,17 +1,8 @@
 // Writes bytes and numbers to an output array, one after the other. Bytes past its end are dropped, so it may have any length. Each function returns
 // the index after what it wrote.
-ghost use Rattle.std.specs.Prelude.{◌≡◌, [], ◌∷◌, ◌<◌, min};
+ghost use Rattle.std.specs.Prelude.{◌≡◌, [], ◌∷◌, ◌<◌};
 ghost use Rattle.place_text.specs.Numerals.{digit as Digit, hex2, hex4, hex8, decimal, signed_decimal, signed_word};
 ghost use Rattle.place_text.specs.Writing.{Printed};
-
-pub fn least(a: usize, b: usize) -> usize
-    ensures { result ≡ min a b }
-{
-    if a < b {
-        return a;
-    }
-    b
-}
 
 pub fn put(text: &mut [u8], at: usize, byte: u8) -> usize
     ensures { Printed (byte ∷ []) at result text.old text.new }
@@ -26,11 +17,9 @@ pub fn put(text: &mut [u8], at: usize, byte: u8) -> usize
 pub fn put_all(text: &mut [u8], at: usize, bytes: &[u8]) -> usize
     ensures { Printed bytes.now at result text.old text.new }
 {
-    let mut next = least(at, text.len());
-    let mut i = 0;
-    while i < bytes.len() {
-        next = put(text, next, bytes[i]);
-        i += 1;
+    let mut next = at.min(text.len());
+    for byte in bytes {
+        next = put(text, next, *byte);
     }
     next
 }

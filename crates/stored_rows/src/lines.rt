@@ -37,8 +37,7 @@ fn longer(word: Option<u64>, digit: u8) -> Option<u64> {
     match word {
         None => Some(u64::from(digit)),
         Some(0) => None,
-        Some(w) if 0xFFF_FFFF_FFFF_FFFF < w => None,
-        Some(w) => Some(w * 16 + u64::from(digit)),
+        Some(w) => w.checked_mul(16)?.checked_add(u64::from(digit)),
     }
 }
 

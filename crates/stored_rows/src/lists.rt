@@ -1,6 +1,4 @@
 // The two lists that rows build up, of bytes and of words, the slices of them that are passed, and the output arrays.
-ghost use Rattle.std.specs.Prelude.{◌≡◌, length};
-
 use super::numbers;
 use super::numbers::Number;
 use super::tally::Effect;
@@ -86,9 +84,7 @@ pub fn add_words(words: &mut [u64], at: usize, row: [u64; 32], count: usize) -> 
 }
 
 // A corner has four words: whether it has a grid point, u, v and its score.
-pub fn scores(words: &[u64]) -> [f32; 1100]
-    ensures { 1100 ≡ length result }
-{
+pub fn scores(words: &[u64]) -> [f32; 1100] {
     let mut scores: [f32; 1100] = [0.0; 1100];
     for i in 0..1100 {
         scores[i] = floats::from_bits(numbers::low(numbers::element(words, 4 * i + 3)));
@@ -96,9 +92,7 @@ pub fn scores(words: &[u64]) -> [f32; 1100]
     scores
 }
 
-pub fn grid(words: &[u64]) -> [i32; 3300]
-    ensures { 3300 ≡ length result }
-{
+pub fn grid(words: &[u64]) -> [i32; 3300] {
     let mut grid: [i32; 3300] = [0; 3300];
     for i in 0..3300 {
         grid[i] = numbers::low(numbers::element(words, i / 3 * 4 + i % 3)).cast_signed();
@@ -107,9 +101,7 @@ pub fn grid(words: &[u64]) -> [i32; 3300]
 }
 
 // The words after those of so many corners.
-pub fn inliers(words: &[u64], corners: usize) -> [usize; 1100]
-    ensures { 1100 ≡ length result }
-{
+pub fn inliers(words: &[u64], corners: usize) -> [usize; 1100] {
     let mut inliers: [usize; 1100] = [0; 1100];
     let first = 4 * (corners % 1101);
     for i in 0..1100 {
@@ -119,9 +111,7 @@ pub fn inliers(words: &[u64], corners: usize) -> [usize; 1100]
 }
 
 // 32-bit words from index `first` on.
-pub fn short_words(words: &[u64], first: u8) -> [u32; 8200]
-    ensures { 8200 ≡ length result }
-{
+pub fn short_words(words: &[u64], first: u8) -> [u32; 8200] {
     let mut list: [u32; 8200] = [0; 8200];
     for i in 0..8200 {
         list[i] = numbers::low(numbers::element(words, first as usize + i));
@@ -157,9 +147,7 @@ fn put_codes(codes: &mut [u64], side: u8, count: usize) {
 
 // The numbers below 2,048, ascending, that are the least of their rotations, then 0; but `value` at `place`, if there is such an index. No more than
 // `count` are searched for: the caller passes so many.
-pub fn codes(side: u64, count: usize, place: u64, value: u64) -> [u64; 1025]
-    ensures { 1025 ≡ length result }
-{
+pub fn codes(side: u64, count: usize, place: u64, value: u64) -> [u64; 1025] {
     let mut codes: [u64; 1025] = [0; 1025];
     put_codes(&mut codes, side.min(8) as u8, count);
     if let Some(code) = codes.get_mut(place as usize) {
