@@ -30,7 +30,7 @@ fn and_decimal(text: &mut [u8], at: usize, markers: &[u32], k: usize, w: usize) 
 fn and_signed(text: &mut [u8], at: usize, markers: &[u32], k: usize, w: usize) -> usize
     ensures { Printed (32 ∷ signed_word (word_of markers.now k w)) at result text.old text.new }
 {
-    words::and_signed_word(text, at, word(markers, k, w))
+    words::and_signed(text, at, word(markers, k, w).cast_signed())
 }
 
 // The code's high word follows its low word in the array.

@@ -1,7 +1,7 @@
 // Writes bytes and numbers to an output array, one after the other. Bytes past its end are dropped, so it may have any length. Each function returns
 // the index after what it wrote.
 ghost use Rattle.std.specs.Prelude.{◌≡◌, [], ◌∷◌, ◌<◌};
-ghost use Rattle.place_text.specs.Numerals.{digit as Digit, hex2, hex4, hex8, decimal, signed_decimal, signed_word};
+ghost use Rattle.place_text.specs.Numerals.{digit as Digit, hex2, hex4, hex8, decimal, signed_decimal};
 ghost use Rattle.place_text.specs.Writing.{Printed};
 
 pub fn put(text: &mut [u8], at: usize, byte: u8) -> usize
@@ -65,23 +65,13 @@ pub fn put_decimal(text: &mut [u8], at: usize, n: u64) -> usize
     put(text, next, digit((n % 10) as u8))
 }
 
-// `!z` is −1 − z.
 pub fn put_signed(text: &mut [u8], at: usize, z: i32) -> usize
     ensures { Printed (signed_decimal z) at result text.old text.new }
 {
+    let size = u64::from(z.unsigned_abs());
     if z < 0 {
         let next = put(text, at, b'-');
-        return put_decimal(text, next, (!z) as u64 + 1);
+        return put_decimal(text, next, size);
     }
-    put_decimal(text, at, z as u64)
-}
-
-pub fn put_signed_word(text: &mut [u8], at: usize, word: u32) -> usize
-    ensures { Printed (signed_word word) at result text.old text.new }
-{
-    if word < 0x8000_0000 {
-        return put_decimal(text, at, word as u64);
-    }
-    let next = put(text, at, b'-');
-    put_decimal(text, next, 0x1_0000_0000 - word as u64)
+    put_decimal(text, at, size)
 }
