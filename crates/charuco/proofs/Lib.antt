@@ -1,3 +1,2 @@
 mod Giving
-mod Words
 pub mod Laws

@@ -23,7 +23,7 @@ fn put_step(text: &mut [u8], at: usize, h: u32, n: u32) -> usize
         next = words::and_decimal(text, next, (n - 1) as u64);
         return writer::put(text, next, b'\n');
     }
-    writer::least(at, text.len())
+    at.min(text.len())
 }
 
 fn put_order(text: &mut [u8], at: usize, highest: Option<u32>, n: u32) -> usize
@@ -31,7 +31,7 @@ fn put_order(text: &mut [u8], at: usize, highest: Option<u32>, n: u32) -> usize
     ensures room { length (order_line highest n) ≤ 26 }
 {
     match highest {
-        None => writer::least(at, text.len()),
+        None => at.min(text.len()),
         Some(h) => put_step(text, at, h, n),
     }
 }

@@ -8,12 +8,10 @@ use standard_input::Input;
 // printed on the standard error. The text of a result is never empty.
 fn main(rt: HostRuntime) {
     let mut bytes: [u8; 65536] = [0; 65536];
-    let input = standard_input::read_all(&mut rt.stdin(), &mut bytes);
-    let read = match input {
-        Input::Ended(count) => count,
-        Input::Full(count) => count,
-        Input::Failed => {
-            standard_output::write_all(
+    let read = match standard_input::read_all(&mut rt.stdin(), &mut bytes) {
+        Ok(Input::Ended(count) | Input::Full(count)) => count,
+        Err(_) => {
+            let _ = standard_output::write_all(
                 &mut rt.stderr(),
                 b"place: cannot read the standard input\n",
             );
@@ -22,9 +20,9 @@ fn main(rt: HostRuntime) {
     };
     let mut markers: [u32; 4608] = [0; 4608];
     let mut text: [u8; 32768] = [0; 32768];
-    let length = place_text::place(&bytes, read, &mut markers, &mut text);
-    if !standard_output::write_all(&mut rt.stdout(), &text[..length]) {
-        standard_output::write_all(
+    let length = place_text::place(&bytes[..read], &mut markers, &mut text);
+    if standard_output::write_all(&mut rt.stdout(), &text[..length]).is_err() {
+        let _ = standard_output::write_all(
             &mut rt.stderr(),
             b"place: cannot write the standard output\n",
         );

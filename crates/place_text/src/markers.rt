@@ -30,7 +30,7 @@ fn and_decimal(text: &mut [u8], at: usize, markers: &[u32], k: usize, w: usize) 
 fn and_signed(text: &mut [u8], at: usize, markers: &[u32], k: usize, w: usize) -> usize
     ensures { Printed (32 ∷ signed_word (word_of markers.now k w)) at result text.old text.new }
 {
-    words::and_signed_word(text, at, word(markers, k, w))
+    words::and_signed(text, at, word(markers, k, w).cast_signed())
 }
 
 // The code's high word follows its low word in the array.
@@ -76,11 +76,9 @@ fn put_marker(text: &mut [u8], at: usize, markers: &[u32], k: usize) -> usize
 pub fn put_markers(text: &mut [u8], at: usize, markers: &[u32], count: usize) -> usize
     ensures { Printed (marker_lines markers.now count) at result text.old text.new }
 {
-    let mut next = writer::least(at, text.len());
-    let mut k = 0;
-    while k < count {
+    let mut next = at.min(text.len());
+    for k in 0..count {
         next = put_marker(text, next, markers, k);
-        k += 1;
     }
     next
 }

@@ -1,6 +1,6 @@
 // The words of a line after its first, each written with a space before it.
 ghost use Rattle.std.specs.Prelude.{◌∷◌, ◌++◌};
-ghost use Rattle.place_text.specs.Numerals.{hex8, decimal, signed_decimal, signed_word};
+ghost use Rattle.place_text.specs.Numerals.{hex8, decimal, signed_decimal};
 ghost use Rattle.place_text.specs.Text.{evidence_word};
 ghost use Rattle.place_text.specs.Writing.{Printed};
 
@@ -18,13 +18,6 @@ pub fn and_signed(text: &mut [u8], at: usize, z: i32) -> usize
 {
     let next = writer::put(text, at, b' ');
     writer::put_signed(text, next, z)
-}
-
-pub fn and_signed_word(text: &mut [u8], at: usize, word: u32) -> usize
-    ensures { Printed (32 ∷ signed_word word) at result text.old text.new }
-{
-    let next = writer::put(text, at, b' ');
-    writer::put_signed_word(text, next, word)
 }
 
 pub fn and_hex8(text: &mut [u8], at: usize, n: u32) -> usize

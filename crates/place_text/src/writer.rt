@@ -1,17 +1,8 @@
 // Writes bytes and numbers to an output array, one after the other. Bytes past its end are dropped, so it may have any length. Each function returns
 // the index after what it wrote.
-ghost use Rattle.std.specs.Prelude.{◌≡◌, [], ◌∷◌, ◌<◌, min};
-ghost use Rattle.place_text.specs.Numerals.{digit as Digit, hex2, hex4, hex8, decimal, signed_decimal, signed_word};
+ghost use Rattle.std.specs.Prelude.{◌≡◌, [], ◌∷◌, ◌<◌};
+ghost use Rattle.place_text.specs.Numerals.{digit as Digit, hex2, hex4, hex8, decimal, signed_decimal};
 ghost use Rattle.place_text.specs.Writing.{Printed};
-
-pub fn least(a: usize, b: usize) -> usize
-    ensures { result ≡ min a b }
-{
-    if a < b {
-        return a;
-    }
-    b
-}
 
 pub fn put(text: &mut [u8], at: usize, byte: u8) -> usize
     ensures { Printed (byte ∷ []) at result text.old text.new }
@@ -26,11 +17,9 @@ pub fn put(text: &mut [u8], at: usize, byte: u8) -> usize
 pub fn put_all(text: &mut [u8], at: usize, bytes: &[u8]) -> usize
     ensures { Printed bytes.now at result text.old text.new }
 {
-    let mut next = least(at, text.len());
-    let mut i = 0;
-    while i < bytes.len() {
-        next = put(text, next, bytes[i]);
-        i += 1;
+    let mut next = at.min(text.len());
+    for byte in bytes {
+        next = put(text, next, *byte);
     }
     next
 }
@@ -76,23 +65,13 @@ pub fn put_decimal(text: &mut [u8], at: usize, n: u64) -> usize
     put(text, next, digit((n % 10) as u8))
 }
 
-// `!z` is −1 − z.
 pub fn put_signed(text: &mut [u8], at: usize, z: i32) -> usize
     ensures { Printed (signed_decimal z) at result text.old text.new }
 {
+    let size = u64::from(z.unsigned_abs());
     if z < 0 {
         let next = put(text, at, b'-');
-        return put_decimal(text, next, (!z) as u64 + 1);
+        return put_decimal(text, next, size);
     }
-    put_decimal(text, at, z as u64)
-}
-
-pub fn put_signed_word(text: &mut [u8], at: usize, word: u32) -> usize
-    ensures { Printed (signed_word word) at result text.old text.new }
-{
-    if word < 0x8000_0000 {
-        return put_decimal(text, at, word as u64);
-    }
-    let next = put(text, at, b'-');
-    put_decimal(text, next, 0x1_0000_0000 - word as u64)
+    put_decimal(text, at, size)
 }

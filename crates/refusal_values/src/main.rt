@@ -74,25 +74,21 @@ fn put_values(bytes: &[u8], markers: &mut [u32], text: &mut [u8]) -> usize
 // As in `place`: one byte more than a record may have is read, and a failure is printed on the standard error.
 fn main(rt: HostRuntime) {
     let mut bytes: [u8; 65536] = [0; 65536];
-    let input = standard_input::read_all(&mut rt.stdin(), &mut bytes);
-    let read = match input {
-        Input::Ended(count) => count,
-        Input::Full(count) => count,
-        Input::Failed => {
-            standard_output::write_all(
+    let read = match standard_input::read_all(&mut rt.stdin(), &mut bytes) {
+        Ok(Input::Ended(count) | Input::Full(count)) => count,
+        Err(_) => {
+            let _ = standard_output::write_all(
                 &mut rt.stderr(),
                 b"refusal_values: cannot read the standard input\n",
             );
             return;
         }
     };
-    let all = &bytes[..];
-    let end = writer::least(read, all.len());
     let mut markers: [u32; 4608] = [0; 4608];
     let mut text: [u8; 44] = [0; 44];
-    let length = put_values(&all[..end], &mut markers, &mut text);
-    if !standard_output::write_all(&mut rt.stdout(), &text[..length]) {
-        standard_output::write_all(
+    let length = put_values(&bytes[..read], &mut markers, &mut text);
+    if standard_output::write_all(&mut rt.stdout(), &text[..length]).is_err() {
+        let _ = standard_output::write_all(
             &mut rt.stderr(),
             b"refusal_values: cannot write the standard output\n",
         );

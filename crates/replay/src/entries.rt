@@ -15,12 +15,10 @@ fn number_of(bytes: &[u8], kind: u64, k: usize, words: &mut [u32]) -> u32 {
 
 // The digest of so many bytes from an offset on; one past the end counts as 0.
 fn of_part(bytes: &[u8], first: u32, n: u32) -> u32 {
+    let start = first as usize;
     let mut h: u32 = 0;
-    let mut k = first as usize;
-    let end = first as usize + n as usize;
-    while k < end {
-        h = answers::after_byte(h, lists::byte_at(bytes, k));
-        k += 1;
+    for k in start..start + n as usize {
+        h = answers::after(h, u32::from(numbers::element(bytes, k)));
     }
     h
 }
@@ -44,29 +42,30 @@ pub fn read(bytes: &[u8], kind: u64, k: usize) -> Answer {
     }
 }
 
-// Kind B, of the first `read` bytes.
-pub fn text(bytes: &[u8; 65536], read: usize) -> Answer {
+// Kind B.
+pub fn text(bytes: &[u8]) -> Answer {
     let mut words = BEFORE;
     let mut markers: [u32; 4608] = [0; 4608];
     let mut text: [u8; 32768] = [0; 32768];
-    let length = place_text::place(bytes, read, &mut markers, &mut text);
-    words[0] = (length % 0x1_0000_0000) as u32;
+    let length = place_text::place(bytes, &mut markers, &mut text);
+    words[0] = numbers::low(length as u64);
     Answer {
         number: 0,
         words,
-        digest: answers::of_bytes(&text[..length]),
+        digest: answers::digest(&text[..length]),
     }
 }
 
 // Kind C: corners, words of their grid points, length of the output array. The words after those of the corners are inliers.
 fn whole_cells(words: &[u64], cells: &mut [i32], row: [u64; 32]) -> Answer {
     let mut told = BEFORE;
+    lists::fill(cells);
     let scores = lists::scores(words);
     let grid = lists::grid(words);
-    let corner_count = numbers::least(row[1], 1100);
+    let corner_count = row[1].min(1100) as usize;
     let inliers = lists::inliers(words, corner_count);
-    let inlier_count = numbers::least(numbers::behind(words.len(), 4 * corner_count), 1100);
-    let grid_words = numbers::least(row[2], 3300);
+    let inlier_count = words.len().saturating_sub(4 * corner_count).min(1100);
+    let grid_words = row[2].min(3300) as usize;
     let number = charuco::charuco_build_marker_cells(
         &scores[..corner_count],
         &grid[..grid_words],
@@ -77,25 +76,25 @@ fn whole_cells(words: &[u64], cells: &mut [i32], row: [u64; 32]) -> Answer {
     Answer {
         number,
         words: told,
-        digest: answers::of_signed(cells),
+        digest: answers::digest(cells),
     }
 }
 
 pub fn marker_cells(words: &[u64], row: [u64; 32]) -> Answer {
-    let mut cells = lists::fill_signed();
-    let places = numbers::least(row[3], 3000);
+    let mut cells: [i32; 3000] = [0; 3000];
+    let places = row[3].min(3000) as usize;
     whole_cells(words, &mut cells[..places], row)
 }
 
 // Kinds D and 10D: the board, the alignment of the corners, words of the grid points.
 fn corners(words: &[u64], row: [u64; 32], list: &mut [u32], told: &mut [u32]) -> u32 {
     let bits = numbers::lows(row);
-    let code_count = numbers::least(row[7], 1025);
+    let code_count = row[7].min(1025) as usize;
     let codes = lists::codes(row[3], code_count, row[8], row[9]);
     let scores = lists::scores(words);
     let grid = lists::grid(words);
-    let corner_count = numbers::least((words.len() / 4) as u64, 1100);
-    let grid_words = numbers::least(row[13], 3300);
+    let corner_count = (words.len() / 4).min(1100);
+    let grid_words = row[13].min(3300) as usize;
     charuco::charuco_map_charuco_corners(
         bits[1],
         bits[2],
@@ -108,8 +107,8 @@ fn corners(words: &[u64], row: [u64; 32], list: &mut [u32], told: &mut [u32]) ->
         &scores[..corner_count],
         &grid[..grid_words],
         bits[10],
-        numbers::signed(bits[11]),
-        numbers::signed(bits[12]),
+        bits[11].cast_signed(),
+        bits[12].cast_signed(),
         list,
         told,
     )
@@ -118,10 +117,10 @@ fn corners(words: &[u64], row: [u64; 32], list: &mut [u32], told: &mut [u32]) ->
 // Kinds E and 10E: the board, the mode.
 fn links(words: &[u64], row: [u64; 32], list: &mut [u32], told: &mut [u32]) -> u32 {
     let bits = numbers::lows(row);
-    let code_count = numbers::least(row[7], 1025);
+    let code_count = row[7].min(1025) as usize;
     let codes = lists::codes(row[3], code_count, row[8], row[9]);
     let links = lists::short_words(words, 0);
-    let link_words = numbers::least(words.len() as u64, 8200);
+    let link_words = words.len().min(8200);
     charuco::charuco_validate_marker_corner_links(
         bits[1],
         bits[2],
@@ -160,7 +159,7 @@ pub fn with_list(bytes: &[u8], words: &[u64], row: [u64; 32], list: &mut [u32]) 
     Answer {
         number,
         words: told,
-        digest: answers::of_words(list),
+        digest: answers::digest(list),
     }
 }
 
@@ -168,23 +167,23 @@ pub fn with_list(bytes: &[u8], words: &[u64], row: [u64; 32], list: &mut [u32]) 
 pub fn with_scores(bytes: &[u8], scores: &mut [f32], list: &mut [u32]) -> Answer {
     let mut told = BEFORE;
     lists::fill(list);
-    lists::fill_scores(scores);
+    lists::fill(scores);
     let number = charuco::charuco_match_board_with_scores(bytes, scores, list, &mut told);
     Answer {
         number,
         words: told,
-        digest: answers::with_scores(answers::of_words(list), scores),
+        digest: answers::after_all(answers::digest(list), scores),
     }
 }
 
 // Kind 1A, whose output array has bytes.
 pub fn restated(bytes: &[u8], sheet: &mut [u8]) -> Answer {
     let mut told = BEFORE;
-    lists::fill_bytes(sheet);
+    lists::fill(sheet);
     let number = charuco::charuco_restate(bytes, sheet, &mut told);
     Answer {
         number,
         words: told,
-        digest: answers::of_bytes(sheet),
+        digest: answers::digest(sheet),
     }
 }

@@ -11,18 +11,18 @@ mod texts;
 use stored_rows::tally::{Tally, Used};
 use stored_rows::{lines, tally};
 
-// `main` owns the arrays.
-fn after_input(rt: HostRuntime, bytes: &mut [u8; 65536], words: &mut [u64]) -> Tally {
+// `main` owns the arrays. A loop must terminate: the number of its turns is one that no run uses up.
+fn after_input(rt: HostRuntime, bytes: &mut [u8], words: &mut [u64]) -> Tally {
     let mut tally = Tally::new();
     let mut used = Used { bytes: 0, words: 0 };
-    let mut turns = u64::MAX;
-    while turns > 0 {
+    for _ in 0..u64::MAX {
         let line = lines::next_line(&mut rt.stdin());
-        let row = line.words;
-        turns = lines::turns_left(turns, line.more);
-        let did = rows::effect_of(bytes, words, used, row, line.count);
+        let did = rows::effect_of(bytes, words, used, line.words, line.count);
         tally = tally.with(did);
         used = tally::used_after(used, did);
+        if !line.more {
+            break;
+        }
     }
     tally
 }

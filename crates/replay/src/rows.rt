@@ -61,7 +61,7 @@ fn places_of(row: [u64; 32]) -> u64 {
 // Kinds A, D and E, 10D and 10E.
 fn answer_with_list(bytes: &[u8], words: &[u64], row: [u64; 32]) -> Answer {
     let mut list: [u32; 147500] = [0; 147500];
-    let places = numbers::least(places_of(row), 147500);
+    let places = places_of(row).min(147500) as usize;
     entries::with_list(bytes, words, row, &mut list[..places])
 }
 
@@ -69,54 +69,42 @@ fn answer_with_list(bytes: &[u8], words: &[u64], row: [u64; 32]) -> Answer {
 fn answer_with_scores(bytes: &[u8], row: [u64; 32]) -> Answer {
     let mut list: [u32; 4704] = [0; 4704];
     let mut scores: [f32; 8200] = [0.0; 8200];
-    let places = numbers::least(row[1], 4704);
-    let elements = numbers::least(row[2], 8200);
+    let places = row[1].min(4704) as usize;
+    let elements = row[2].min(8200) as usize;
     entries::with_scores(bytes, &mut scores[..elements], &mut list[..places])
 }
 
 // Kind 1A: length of the output array.
 fn answer_restated(bytes: &[u8], row: [u64; 32]) -> Answer {
     let mut sheet: [u8; 4096] = [0; 4096];
-    let places = numbers::least(row[1], 4096);
+    let places = row[1].min(4096) as usize;
     entries::restated(bytes, &mut sheet[..places])
 }
 
 // The result for a row, from the used bytes and words.
 fn answer(bytes: &[u8], words: &[u64], row: [u64; 32]) -> Answer {
-    let kind = numbers::kind(row[0]);
-    match kind {
-        0xA => answer_with_list(bytes, words, row),
+    match numbers::kind(row[0]) {
+        0xA | 0xD | 0xE => answer_with_list(bytes, words, row),
         0xC => entries::marker_cells(words, row),
-        0xD => answer_with_list(bytes, words, row),
-        0xE => answer_with_list(bytes, words, row),
         0xF => texts::of_match(words),
         0x19 => answer_with_scores(bytes, row),
         0x1A => answer_restated(bytes, row),
-        _ => {
-            if kind < 0x10 {
-                entries::read(bytes, kind, row[1] as usize)
-            } else {
-                answers::of_part(parts::words_of(bytes, row))
-            }
-        }
+        kind if kind < 0x10 => entries::read(bytes, kind, row[1] as usize),
+        _ => answers::of_part(parts::words_of(bytes, row)),
     }
 }
 
-fn lent(bytes: &[u8], words: &[u64], used: Used, row: [u64; 32]) -> Answer {
-    let byte_count = numbers::least(used.bytes as u64, bytes.len());
-    let word_count = numbers::least(used.words as u64, words.len());
-    answer(&bytes[..byte_count], &words[..word_count], row)
-}
-
-// Kind B takes the bytes as an array, as `place` does.
-fn told(bytes: &[u8; 65536], words: &[u64], used: Used, row: [u64; 32]) -> Answer {
+// From the used bytes and words.
+fn told(bytes: &[u8], words: &[u64], used: Used, row: [u64; 32]) -> Answer {
+    let bytes = &bytes[..used.bytes.min(bytes.len())];
+    let words = &words[..used.words.min(words.len())];
     if row[0] == 0xB {
-        return entries::text(bytes, used.bytes);
+        return entries::text(bytes);
     }
-    lent(&bytes[..], words, used, row)
+    answer(bytes, words, row)
 }
 
-fn asked(bytes: &[u8; 65536], words: &[u64], used: Used, row: [u64; 32], count: usize) -> Effect {
+fn asked(bytes: &[u8], words: &[u64], used: Used, row: [u64; 32], count: usize) -> Effect {
     let shape = shape_of(row[0]);
     if count != answers::row_length(shape) {
         return Effect::Unread;
@@ -125,7 +113,7 @@ fn asked(bytes: &[u8; 65536], words: &[u64], used: Used, row: [u64; 32], count: 
 }
 
 pub fn effect_of(
-    bytes: &mut [u8; 65536],
+    bytes: &mut [u8],
     words: &mut [u64],
     used: Used,
     row: [u64; 32],
@@ -135,7 +123,7 @@ pub fn effect_of(
         return emptied(count);
     }
     if row[0] < 3 {
-        return lists::add_bytes(&mut bytes[..], used.bytes, row, count);
+        return lists::add_bytes(bytes, used.bytes, row, count);
     }
     if row[0] < 5 {
         return lists::add_words(words, used.words, row, count);

@@ -8,8 +8,8 @@ use stored_rows::{answers, lists, numbers};
 fn alignment(turn: u64, tx: u64, ty: u64) -> GridAlignment {
     GridAlignment {
         turn: numbers::byte(turn),
-        tx: numbers::signed(numbers::low(tx)),
-        ty: numbers::signed(numbers::low(ty)),
+        tx: numbers::low(tx).cast_signed(),
+        ty: numbers::low(ty).cast_signed(),
     }
 }
 
@@ -25,20 +25,20 @@ fn hypothesis(words: &[u64], at: u8, count_at: u8) -> Hypothesis {
     let first = at as usize;
     Hypothesis {
         alignment: alignment(
-            lists::given(words, first),
-            lists::given(words, first + 1),
-            lists::given(words, first + 2),
+            numbers::element(words, first),
+            numbers::element(words, first + 1),
+            numbers::element(words, first + 2),
         ),
         evidence: evidence(
-            lists::given(words, first + 3),
-            lists::given(words, first + 4),
+            numbers::element(words, first + 3),
+            numbers::element(words, first + 4),
         ),
-        contributing_cells: lists::given(words, count_at as usize) as usize,
+        contributing_cells: numbers::element(words, count_at as usize) as usize,
     }
 }
 
 fn runner_up(words: &[u64]) -> Option<Hypothesis> {
-    if lists::given(words, 5) == 0 {
+    if numbers::element(words, 5) == 0 {
         return None;
     }
     Some(hypothesis(words, 6, 18))
@@ -48,14 +48,14 @@ fn match_of(words: &[u64]) -> Match {
     Match {
         best: hypothesis(words, 0, 17),
         runner_up: runner_up(words),
-        margin: floats::from_bits(numbers::low(lists::given(words, 11))),
-        placements: lists::given(words, 12) as usize,
+        margin: floats::from_bits(numbers::low(numbers::element(words, 11))),
+        placements: numbers::element(words, 12) as usize,
         corners: alignment(
-            lists::given(words, 13),
-            lists::given(words, 14),
-            lists::given(words, 15),
+            numbers::element(words, 13),
+            numbers::element(words, 14),
+            numbers::element(words, 15),
         ),
-        markers: lists::given(words, 16) as usize,
+        markers: numbers::element(words, 16) as usize,
     }
 }
 
@@ -67,12 +67,12 @@ fn put_text(words: &[u64], text: &mut [u8]) -> usize {
 fn text_in(words: &[u64], text: &mut [u8]) -> Answer {
     let mut told = BEFORE;
     let length = put_text(words, text);
-    let end = numbers::least(length as u64, text.len());
+    let end = length.min(text.len());
     told[0] = numbers::low(length as u64);
     Answer {
         number: 0,
         words: told,
-        digest: answers::of_bytes(&text[..end]),
+        digest: answers::digest(&text[..end]),
     }
 }
 

@@ -3,8 +3,6 @@
 
 #![tactic(auto)]
 
-use converter::Conversion;
-
 fn main(rt: HostRuntime) {
-    converter::run(rt, b"restate", Conversion::Restate);
+    converter::run(rt, b"restate", legacy_record::restate);
 }

@@ -1,5 +1,6 @@
 // The result of an entry point in the form of a row, and digests.
 use super::numbers;
+use super::numbers::Number;
 
 // The returned number, the words in `values`, and the digest of the output array.
 #[derive(Clone, Copy)]
@@ -35,21 +36,13 @@ pub fn of_part(words: [u32; 19]) -> Answer {
     }
 }
 
-fn told(words: [u32; 19], k: usize) -> u64 {
-    if k < 19 {
-        return words[k] as u64;
-    }
-    0
-}
-
 // Are the first n words equal to those of the row after its kind, arguments and number?
 fn same_words(words: [u32; 19], row: [u64; 32], arguments: u8, n: u8) -> bool {
-    let mut k: u8 = 0;
-    while k < n {
-        if told(words, k as usize) != numbers::word_at(row, arguments as usize + 2 + k as usize) {
+    let first = arguments as usize + 2;
+    for k in 0..n as usize {
+        if u64::from(numbers::element(&words, k)) != numbers::element(&row, first + k) {
             return false;
         }
-        k += 1;
     }
     true
 }
@@ -59,10 +52,10 @@ pub fn agrees(answer: Answer, row: [u64; 32], shape: Shape) -> bool {
     let words = answer.words;
     let number_at = shape.arguments as usize + 1;
     let digest_at = number_at + 1 + shape.words as usize;
-    if answer.number as u64 != numbers::word_at(row, number_at) {
+    if u64::from(answer.number) != numbers::element(&row, number_at) {
         return false;
     }
-    if answer.digest as u64 != numbers::word_at(row, digest_at) {
+    if u64::from(answer.digest) != numbers::element(&row, digest_at) {
         return false;
     }
     same_words(words, row, shape.arguments, shape.words)
@@ -78,47 +71,15 @@ pub fn after_both(h: u32, x: u64) -> u32 {
     after(after(h, numbers::low(x)), numbers::high(x))
 }
 
-pub fn after_byte(h: u32, byte: u8) -> u32 {
-    after(h, byte as u32)
-}
-
-pub fn of_bytes(bytes: &[u8]) -> u32 {
-    let mut h: u32 = 0;
-    let mut i = 0;
-    while i < bytes.len() {
-        h = after_byte(h, bytes[i]);
-        i += 1;
-    }
-    h
-}
-
-pub fn of_words(list: &[u32]) -> u32 {
-    let mut h: u32 = 0;
-    let mut i = 0;
-    while i < list.len() {
-        h = after(h, list[i]);
-        i += 1;
-    }
-    h
-}
-
-pub fn of_signed(list: &[i32]) -> u32 {
-    let mut h: u32 = 0;
-    let mut i = 0;
-    while i < list.len() {
-        h = after(h, list[i].cast_unsigned());
-        i += 1;
-    }
-    h
-}
-
-// The digest `before` after the bit patterns of more scores.
-pub fn with_scores(before: u32, scores: &[f32]) -> u32 {
+// The digest `before` after the bits of more numbers.
+pub fn after_all<T: Number>(before: u32, list: &[T]) -> u32 {
     let mut h = before;
-    let mut i = 0;
-    while i < scores.len() {
-        h = after(h, floats::to_bits(scores[i]));
-        i += 1;
+    for x in list {
+        h = after(h, x.bits());
     }
     h
+}
+
+pub fn digest<T: Number>(list: &[T]) -> u32 {
+    after_all(0, list)
 }

@@ -1,10 +1,17 @@
 // The lines of an input, one at a time. Words are upper-case hexadecimal, separated by one space; a line that starts with # is a comment.
-ghost use Rattle.std.specs.Prelude.{◌<◌};
-
-use standard_input::Input;
+use std::io;
 use std::io::Read;
 
-// A line as far as it is read. A comment has no words; a line that is not read has one, of no known kind.
+// A line as far as it is read: without a byte yet, a comment, words, or with an unexpected byte.
+#[derive(Clone, Copy)]
+enum State {
+    Empty,
+    Comment,
+    Words,
+    Broken,
+}
+
+// A comment has no words; a line that is not read has one, of no known kind.
 #[derive(Clone, Copy)]
 pub struct Line {
     // The complete words, and their number.
@@ -12,30 +19,26 @@ pub struct Line {
     pub count: usize,
     // Can there be a line after it?
     pub more: bool,
-    // The next word, and whether it has a digit yet.
-    word: u64,
-    started: bool,
-    // Does it have a byte yet, is it a comment, does it have an unexpected byte?
-    begun: bool,
-    comment: bool,
-    broken: bool,
+    // The next word, if it has a digit yet.
+    word: Option<u64>,
+    state: State,
 }
 
-// The value of a digit; 16 for every other byte.
-fn digit_value(byte: u8) -> u8 {
-    if byte < b'0' {
-        return 16;
+fn digit_value(byte: u8) -> Option<u8> {
+    match byte {
+        b'0'..=b'9' => Some(byte - b'0'),
+        b'A'..=b'F' => Some(byte - b'A' + 10),
+        _ => None,
     }
-    if byte <= b'9' {
-        return byte - b'0';
+}
+
+// The word with one more digit. There is none after a leading zero, and no 17th digit.
+fn longer(word: Option<u64>, digit: u8) -> Option<u64> {
+    match word {
+        None => Some(u64::from(digit)),
+        Some(0) => None,
+        Some(w) => w.checked_mul(16)?.checked_add(u64::from(digit)),
     }
-    if byte < b'A' {
-        return 16;
-    }
-    if byte <= b'F' {
-        return byte - b'A' + 10;
-    }
-    16
 }
 
 impl Line {
@@ -44,68 +47,56 @@ impl Line {
             words: [0; 32],
             count: 0,
             more: true,
-            word: 0,
-            started: false,
-            begun: false,
-            comment: false,
-            broken: false,
+            word: None,
+            state: State::Empty,
         }
     }
 
-    fn refused(mut self) -> Line {
-        self.broken = true;
+    fn broken(mut self) -> Line {
+        self.state = State::Broken;
         self
     }
 
-    // Refused: no digit, a digit after a leading zero, a 17th digit.
-    fn with_digit(mut self, digit: u8) -> Line {
-        let word = self.word;
-        if 15 < digit {
-            return self.refused();
+    fn with_byte(mut self, byte: u8) -> Line {
+        match digit_value(byte).and_then(|digit| longer(self.word, digit)) {
+            Some(word) => {
+                self.word = Some(word);
+                self.state = State::Words;
+                self
+            }
+            None => self.broken(),
         }
-        if self.started && word == 0 {
-            return self.refused();
-        }
-        if 0xFFF_FFFF_FFFF_FFFF < word {
-            return self.refused();
-        }
-        self.word = word * 16 + (digit as u64);
-        self.started = true;
-        self
     }
 
-    // Refused: a word without a digit, a 33rd word.
+    // Broken: a word without a digit, a 33rd word.
     fn word_ended(mut self) -> Line {
-        let word = self.word;
         let at = self.count;
-        if !self.started {
-            return self.refused();
+        match self.word {
+            Some(word) if at < 32 => {
+                self.words[at] = word;
+                self.count = at + 1;
+                self.word = None;
+                self
+            }
+            _ => self.broken(),
         }
-        if 31 < at {
-            return self.refused();
-        }
-        self.words[at] = word;
-        self.count = at + 1;
-        self.word = 0;
-        self.started = false;
-        self
     }
 
     // Any byte but a line feed.
     fn step(mut self, byte: u8) -> Line {
-        if self.comment {
-            return self;
+        match self.state {
+            State::Comment | State::Broken => self,
+            State::Empty if byte == b'#' => {
+                self.state = State::Comment;
+                self
+            }
+            _ => {
+                if byte == b' ' {
+                    return self.word_ended();
+                }
+                self.with_byte(byte)
+            }
         }
-        if !self.begun && byte == b'#' {
-            self.begun = true;
-            self.comment = true;
-            return self;
-        }
-        self.begun = true;
-        if byte == b' ' {
-            return self.word_ended();
-        }
-        self.with_digit(digit_value(byte))
     }
 
     fn without_words(mut self) -> Line {
@@ -121,73 +112,51 @@ impl Line {
 
     // At a line feed.
     fn at_line_feed(self) -> Line {
-        if self.comment {
+        if let State::Comment = self.state {
             return self.without_words();
         }
         let line = self.word_ended();
-        if line.broken {
-            return line.unread();
+        match line.state {
+            State::Broken => line.unread(),
+            _ => line,
         }
-        line
     }
 
-    // At the end of the input or a failed read: a line without a line feed is not read, nor is one at which a read fails.
-    fn at_end(mut self, failed: bool) -> Line {
+    // At the end of the input: a line without a line feed is not read.
+    fn at_end(mut self) -> Line {
         self.more = false;
-        if failed || (self.begun && !self.comment) {
-            return self.unread();
+        match self.state {
+            State::Empty | State::Comment => self.without_words(),
+            _ => self.unread(),
         }
-        self.without_words()
+    }
+
+    // Nor is one at which a read fails.
+    fn at_failure(mut self) -> Line {
+        self.more = false;
+        self.unread()
     }
 }
 
-// A byte, the end of the input, or a failed read.
-#[derive(Clone, Copy)]
-enum Next {
-    Byte(u8),
-    Ended,
-    Failed,
-}
-
-// The input is small enough to be read byte by byte.
-fn next_byte<R: Read>(reader: &mut R) -> Next {
+// A byte; `None` at the end. The input is small enough to be read byte by byte.
+fn next_byte<R: Read>(reader: &mut R) -> io::Result<Option<u8>> {
     let mut buffer: [u8; 1] = [0];
-    let input = standard_input::read_all(reader, &mut buffer);
-    match input {
-        Input::Full(_) => Next::Byte(buffer[0]),
-        Input::Ended(_) => Next::Ended,
-        Input::Failed => Next::Failed,
+    match standard_input::read_part(reader, &mut buffer, 0)? {
+        Some(_) => Ok(Some(buffer[0])),
+        None => Ok(None),
     }
 }
 
-// A line may have any length, and a loop must terminate: it counts down from a number that no run uses up.
+// A line may have any length, and a loop must terminate: the number of its turns is one that no run uses up.
 pub fn next_line<R: Read>(reader: &mut R) -> Line {
     let mut line = Line::new();
-    let mut turns = u64::MAX;
-    while turns > 0 {
-        turns -= 1;
-        let next = next_byte(reader);
-        match next {
-            Next::Byte(byte) => {
-                if byte == b'\n' {
-                    return line.at_line_feed();
-                }
-                line = line.step(byte);
-            }
-            Next::Ended => return line.at_end(false),
-            Next::Failed => return line.at_end(true),
+    for _ in 0..u64::MAX {
+        match next_byte(reader) {
+            Ok(Some(b'\n')) => return line.at_line_feed(),
+            Ok(Some(byte)) => line = line.step(byte),
+            Ok(None) => return line.at_end(),
+            Err(_) => return line.at_failure(),
         }
     }
-    line.at_end(true)
-}
-
-// Likewise for an input.
-pub fn turns_left(turns: u64, more: bool) -> u64
-    requires { 0 < turns }
-    ensures { result < turns }
-{
-    if more {
-        return turns - 1;
-    }
-    0
+    line.at_failure()
 }

@@ -1,5 +1,9 @@
-// The values of the words of a row.
-ghost use Rattle.std.specs.Prelude.{◌≤◌};
+// The values of the words of a row, and the elements of the output arrays.
+
+// An element; the default past the end.
+pub fn element<T: Copy + Default>(list: &[T], i: usize) -> T {
+    list.get(i).copied().unwrap_or_default()
+}
 
 pub fn low(w: u64) -> u32 {
     (w % 0x1_0000_0000) as u32
@@ -25,56 +29,60 @@ pub fn legacy(w: u64) -> u32 {
 // The low halves of a row's words.
 pub fn lows(row: [u64; 32]) -> [u32; 32] {
     let mut bits: [u32; 32] = [0; 32];
-    let mut k = 0;
-    while k < 32 {
+    for k in 0..32 {
         bits[k] = low(row[k]);
-        k += 1;
     }
     bits
 }
 
-// The signed number with these bits. `!n` is −1 − n.
-pub fn signed(bits: u32) -> i32 {
-    if bits < 0x8000_0000 {
-        return bits as i32;
-    }
-    !((0xFFFF_FFFF - bits) as i32)
-}
-
-// The same for 16 bits; 0 for a number out of range.
+// The signed number with these bits; 0 for a number out of range.
 pub fn short(bits: u32) -> i16 {
-    if bits < 0x8000 {
-        return bits as i16;
-    }
-    let below = 0xFFFF_FFFF - bits;
-    if below < 0x8000 {
-        return !(below as i16);
-    }
-    0
+    i16::try_from(bits.cast_signed()).unwrap_or(0)
 }
 
-// A word of a row; 0 past its end.
-pub fn word_at(row: [u64; 32], k: usize) -> u64 {
-    if k < 32 {
-        return row[k];
-    }
-    0
+// A number of an output array: the value with these 32 bits, and its bits.
+pub trait Number: Copy {
+    fn of_bits(bits: u32) -> Self;
+    fn bits(self) -> u32;
 }
 
-// The length of the slice of an array of length `room` that is passed if a row requests n.
-pub fn least(n: u64, room: usize) -> usize
-    ensures { result ≤ room }
-{
-    if n < room as u64 {
-        return n as usize;
+// The low 8 bits.
+impl Number for u8 {
+    fn of_bits(bits: u32) -> u8 {
+        (bits % 256) as u8
     }
-    room
+
+    fn bits(self) -> u32 {
+        u32::from(self)
+    }
 }
 
-// How many of n come after the first `before`.
-pub fn behind(n: usize, before: usize) -> u64 {
-    if n < before {
-        return 0;
+impl Number for u32 {
+    fn of_bits(bits: u32) -> u32 {
+        bits
     }
-    (n - before) as u64
+
+    fn bits(self) -> u32 {
+        self
+    }
+}
+
+impl Number for i32 {
+    fn of_bits(bits: u32) -> i32 {
+        bits.cast_signed()
+    }
+
+    fn bits(self) -> u32 {
+        self.cast_unsigned()
+    }
+}
+
+impl Number for f32 {
+    fn of_bits(bits: u32) -> f32 {
+        floats::from_bits(bits)
+    }
+
+    fn bits(self) -> u32 {
+        floats::to_bits(self)
+    }
 }

@@ -38,11 +38,9 @@ fn turned_point(turn: u8, u: i16, v: i16) -> [u32; 19] {
 
 fn cell_corners(u: i16, v: i16, px: f32) -> [u32; 19] {
     let mut words = BEFORE;
-    let mut k: u8 = 0;
-    while k < 8 {
+    for k in 0..8u8 {
         let x = oracle_exports::oracle_cell_rect_corner(u, v, px, k / 2, k % 2);
         words[k as usize] = floats::to_bits(x);
-        k += 1;
     }
     words
 }
@@ -50,10 +48,8 @@ fn cell_corners(u: i16, v: i16, px: f32) -> [u32; 19] {
 // 16 entries from `first` on.
 fn table_entries(first: u8) -> [u32; 19] {
     let mut words = BEFORE;
-    let mut k = 0;
-    while k < 16 {
+    for k in 0..16 {
         words[k] = floats::to_bits(oracle_exports::oracle_table_entry(16 * first as usize + k));
-        k += 1;
     }
     words
 }

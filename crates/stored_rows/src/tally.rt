@@ -34,7 +34,7 @@ pub fn used_after(mut used: Used, effect: Effect) -> Used {
     }
 }
 
-// Rows that are compared, those of them that agree, rows that are not read, and lines.
+// Rows that are compared, those of them that agree, rows that are not read, and lines. The counts saturate, since an input may have any length.
 #[derive(Clone, Copy)]
 pub struct Tally {
     asked: u64,
@@ -43,14 +43,6 @@ pub struct Tally {
     lines: u64,
     // The first line that is not read or does not agree; 0 if there is none.
     first: u64,
-}
-
-// One more. The count saturates, since an input may have any length.
-fn more(count: u64) -> u64 {
-    if count < u64::MAX {
-        return count + 1;
-    }
-    count
 }
 
 impl Tally {
@@ -72,14 +64,14 @@ impl Tally {
     }
 
     fn with_unread(mut self) -> Tally {
-        self.unread = more(self.unread);
+        self.unread = self.unread.saturating_add(1);
         self.failed()
     }
 
     fn with_asked(mut self, agrees: bool) -> Tally {
-        self.asked = more(self.asked);
+        self.asked = self.asked.saturating_add(1);
         if agrees {
-            self.agreed = more(self.agreed);
+            self.agreed = self.agreed.saturating_add(1);
             return self;
         }
         self.failed()
@@ -87,7 +79,7 @@ impl Tally {
 
     // After one more line.
     pub fn with(mut self, effect: Effect) -> Tally {
-        self.lines = more(self.lines);
+        self.lines = self.lines.saturating_add(1);
         match effect {
             Effect::Unread => self.with_unread(),
             Effect::Asked(agrees) => self.with_asked(agrees),
@@ -96,18 +88,19 @@ impl Tally {
     }
 }
 
+// A failed write is not told: `replay` has no other output.
 fn print_count<W: Write>(output: &mut W, name: &[u8], count: u64) {
-    standard_output::write_all(output, name);
+    let _ = standard_output::write_all(output, name);
     let _ = write!(output, "{count}");
 }
 
 pub fn print_all<W: Write>(output: &mut W, tally: Tally) {
     if tally.first != 0 {
         print_count(output, b"the first that fails is line ", tally.first);
-        standard_output::write_all(output, b"\n");
+        let _ = standard_output::write_all(output, b"\n");
     }
     print_count(output, b"not read: ", tally.unread);
     print_count(output, b"\nagree: ", tally.agreed);
     print_count(output, b" of ", tally.asked);
-    standard_output::write_all(output, b"\n");
+    let _ = standard_output::write_all(output, b"\n");
 }

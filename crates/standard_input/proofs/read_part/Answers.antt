@@ -10,7 +10,7 @@ use Rattle.standard_input.proofs.read_part.Goals as goal
 -- `part` after the first `done` bytes, where it is read
 gives : {E : Type 0} (old new : Option (List ℕ)) (got : Result ℕ E) (done : ℕ) (front part rest : List ℕ) → length front ≡ done → 0 < length part
     → ReadsAtMost got part → ReadConsumes old new got part → Gives old new done (front ++ (part ++ rest)) (after_read done got)
-gives old new (Ok zero) done front part rest size some within bytes = (refl, bytes.0, bytes.1 refl some)
+gives old new (Ok zero) done front part rest size some within bytes = (bytes.0, bytes.1 refl some)
 gives old new (Ok (suc k)) done front part rest size some within bytes =
     let next : drop done (take (done + suc k) (front ++ (part ++ rest))) ≡ take (suc k) part =
     drop-take done (suc k) (front ++ (part ++ rest)) ∙ ap (take (suc k)) (drop_at front (part ++ rest) done size)

@@ -1,11 +1,12 @@
 -- `charuco::cells::charuco_build_marker_cells` meets its contract. Assumes nothing.
 use mathlib.Core.Path.{ap}
+use Rattle.charuco.specs.Answers.{count_told}
 use Rattle.charuco.proofs.Giving.{telling}
 use Rattle.charuco.proofs.cells.charuco_build_marker_cells.Goals as goal
 
 pub returns : goal.returns
 returns c =
     let b = c.build_marker_cells-answer.ensures in record {
-      answer = telling (ap count_told b.answer) c.tell_cells.ensures;
+      answer = telling (ap count_told b.answer) c.counted.ensures;
       list = b.list;
     }

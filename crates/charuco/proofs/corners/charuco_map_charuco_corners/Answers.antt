@@ -4,6 +4,7 @@ use mir.Syntax.{w32}
 use mir.ValLaws.{to_z-of_z}
 use Rattle.corner_mapping.specs.Entry.{map_corners, map_corners_list}
 use Rattle.charuco.specs.Entries.{alignment_of}
+use Rattle.charuco.specs.Answers.{count_told}
 use Rattle.charuco.proofs.Giving.{telling}
 use Rattle.charuco.proofs.corners.charuco_map_charuco_corners.Goals as goal
 
@@ -16,6 +17,6 @@ returns c =
       answer = telling
           (ap count_told
           (b.answer ∙ (λ i. map_corners (es i) x.codes.now x.scores.now x.grid.now (ea i) x.corners.now)))
-          c.tell_corners.ensures;
+          c.counted.ensures;
       list = b.list ∙ (λ i. map_corners_list (es i) x.codes.now x.scores.now x.grid.now (ea i) x.corners.now);
     }

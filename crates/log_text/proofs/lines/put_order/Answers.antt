@@ -12,7 +12,7 @@ pub returns-in-None : goal.returns-in-None
 returns-in-None c =
     let n = c.args.n in
     let e = sym c.in-None.is in record {
-      line = said (ap (λ (h : Option ℕ). order_line h n) e) (nothing c.least.ensures);
+      line = said (ap (λ (h : Option ℕ). order_line h n) e) (nothing c.min.ensures);
       room = subst (λ (h : Option ℕ). length (order_line h n) ≤ 26) e (omega arith);
     }
 

@@ -38,6 +38,6 @@ pub returns : goal.returns
 returns c =
     let h = c.args.h in
     let n = c.args.n in record {
-      line = said (by_tests h n (lt-leb n h c.if-n-h.false) (le-ltb (h + 1) n c.if-first-n.false)) (nothing c.least.ensures);
+      line = said (by_tests h n (lt-leb n h c.if-n-h.false) (le-ltb (h + 1) n c.if-first-n.false)) (nothing c.min.ensures);
       room = step_room h n c.ranges.h.fits c.ranges.n.fits;
     }
