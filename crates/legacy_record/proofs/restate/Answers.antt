@@ -18,14 +18,6 @@ returns-in_err-record c =
 whole : (c : In_ok-record) → whole_record c.in_ok-record.record.bytes.now ≡ true
 whole c = let h = c.in_ok-record.ensures.whole in ap whole_record h.0 ∙ h.1
 
-pub restate_on-requires : goal.restate_on-requires
-restate_on-requires c =
-    record {
-      whole = whole (goal.at.restate_on-requires c).In_ok-record;
-      made = sym c.board.ensures ∙ c.in_ok-board.was;
-      first_codes_is = c.codes.ensures;
-    }
-
 -- the board's questions
 pub returns-in_err-board : goal.returns-in_err-board
 returns-in_err-board c =
