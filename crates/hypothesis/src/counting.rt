@@ -36,8 +36,8 @@ pub fn counted(inputs: Inputs, t: Turn, index: &[u32; 768], k: usize) -> Counted
     let board = inputs.board;
     let p = grid_alignment::turned(t.turn, index::u(index, k), index::v(index, k));
     Counted {
-        i: p.u.abs_diff(t.u) as usize,
-        j: p.v.abs_diff(t.v) as usize,
+        i: integers::distance(p.u, t.u),
+        j: integers::distance(p.v, t.v),
         weight: score_matrix::cell_weight(inputs.config, index::border(index, k)),
         null: score_matrix::null_score(board.bits),
         board,

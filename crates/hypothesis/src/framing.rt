@@ -73,8 +73,8 @@ fn frame(sides: Sides, turn: u8) -> Frame
     Frame {
         u: p.u.min(q.u),
         v: p.v.min(q.v),
-        width: q.u.abs_diff(p.u) as usize + 1,
-        height: q.v.abs_diff(p.v) as usize + 1,
+        width: integers::distance(q.u, p.u) + 1,
+        height: integers::distance(q.v, p.v) + 1,
     }
 }
 

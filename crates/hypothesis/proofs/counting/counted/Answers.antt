@@ -68,8 +68,8 @@ pub returns : goal.returns
 returns c =
     let x = c.args in
     all x.inputs x.t c.args.index.now x.k c.cell_weight.result c.null_score.result (word x.t.u) (word x.t.v) (word c.turned-p.result.u)
-    (word c.turned-p.result.v) c.abs_diff.result c.abs_diff-2.result (to (goal.at.returns c).After-turned-p) refl (u (goal.at.returns c).After-turned-p).0 (v (goal.at.returns c).After-turned-p).0 (tu (goal.at.returns c).After-turned-p).0 (tv (goal.at.returns c).After-turned-p).0 c.abs_diff.ensures
-    c.abs_diff-2.ensures (c.cell_weight.ensures ∙ ap (weight x.inputs.config) c.border.ensures) c.null_score.ensures
+    (word c.turned-p.result.v) c.distance.result c.distance-2.result (to (goal.at.returns c).After-turned-p) refl (u (goal.at.returns c).After-turned-p).0 (v (goal.at.returns c).After-turned-p).0 (tu (goal.at.returns c).After-turned-p).0 (tv (goal.at.returns c).After-turned-p).0 c.distance.ensures
+    c.distance-2.ensures (c.cell_weight.ensures ∙ ap (weight x.inputs.config) c.border.ensures) c.null_score.ensures
 
 pub border-requires : goal.border-requires
 border-requires c = c.requires.4

@@ -58,11 +58,11 @@ module _ (c : After-turned-q) where
 
 pub overflow_add-result : goal.overflow_add-result
 overflow_add-result c =
-    fits (word c.turned-q.result.u) (word c.turned-p.result.u) c.abs_diff.result (q (goal.at.overflow_add-result c).After-turned-q).near-u (p (goal.at.overflow_add-result c).After-turned-q).near-u c.abs_diff.ensures
+    fits (word c.turned-q.result.u) (word c.turned-p.result.u) c.distance.result (q (goal.at.overflow_add-result c).After-turned-q).near-u (p (goal.at.overflow_add-result c).After-turned-q).near-u c.distance.ensures
 
 pub overflow_add-result-2 : goal.overflow_add-result-2
 overflow_add-result-2 c =
-    fits (word c.turned-q.result.v) (word c.turned-p.result.v) c.abs_diff-2.result (q (goal.at.overflow_add-result-2 c).After-turned-q).near-v (p (goal.at.overflow_add-result-2 c).After-turned-q).near-v c.abs_diff-2.ensures
+    fits (word c.turned-q.result.v) (word c.turned-p.result.v) c.distance-2.result (q (goal.at.overflow_add-result-2 c).After-turned-q).near-v (p (goal.at.overflow_add-result-2 c).After-turned-q).near-v c.distance-2.ensures
 
 -- std's minimum compares by `<`, that of the contract by `≤`
 least_is : (x y : ℤ) → int_min x y ≡ lesser x y
@@ -72,12 +72,12 @@ pub returns : goal.returns
 returns c =
     let u = c.min in
     let v = c.min-2 in
-    let width = c.abs_diff.ensures in
+    let width = c.distance.ensures in
     let b = (goal.at.returns c).After-turned-q in
     (λ i. record {
       u = (read_back u.result u.type_inv ∙ u.ensures.value ∙ least_is (word (first b).u) (word (second b).u)) i;
       v = (read_back v.result v.type_inv ∙ v.ensures.value ∙ least_is (word (first b).v) (word (second b).v)) i;
       width = width i + 1;
-      height = c.abs_diff-2.ensures i + 1;
+      height = c.distance-2.ensures i + 1;
     })
     ∙ (λ i. frame_between (point ((p b).u i) ((p b).v i)) (point ((q b).u i) ((q b).v i)))
