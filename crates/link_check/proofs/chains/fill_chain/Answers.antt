@@ -4,6 +4,7 @@ use mathlib.Core.List.{List, ◌++◌}
 use Prim.Native.Nat.{ℕ, ◌+◌, ◌-◌}
 use native.Mathlib.Omega.{arith}
 use lib.ListN.{length, get_or, take, drop, length-append, length-drop, get_or-append}
+use borrow.Author.Rules.{rules}
 use Rattle.std.proofs.lemmas.List.{length-take, get_or-replicate}
 use Rattle.link_check.specs.Chains.{key_for, key_of, ChainedFrom}
 use Rattle.link_check.proofs.Chained.{none_chained, one_chained}
@@ -19,7 +20,7 @@ loop-k-init c =
     let front = c.fill.new.self in
     let cleared = c.fill.ensures in
     let whole : length a.chain.now ≡ 8192 = omega arith in
-    none_chained (key_of a.by a.links.now) a.n _ (written_over front a.chain.now 4096 cleared.len ∙ whole)
+    none_chained (key_of a.by a.links.now) a.n _ (search (rules, written_over, cleared.len, whole))
     (λ b h. get_or-append front _ 0 b (omega (arith, cleared.len, length-take {A = ℕ})) ∙ ap (λ (l : List ℕ). get_or l b 0) (cleared.after (λ y e. e))
     ∙ get_or-replicate _ b a.n 0 (omega (arith, length-take {A = ℕ})))
 
