@@ -1,5 +1,5 @@
 -- `legacy_record::writing::without_flag` meets its contract: by a test of all 256 bytes. Assumes nothing.
-use Rattle.std.proofs.Common.{◌≡◌, ℕ, ◌<◌, Bool, true, refl, eqb, bit_and, arith}
+use Rattle.std.proofs.Common.{◌≡◌, ℕ, Bool, true, refl, eqb, bit_and, arith}
 use borrow.Author.Tests.{eqb-true}
 use Rattle.integers.specs.Tests.{every}
 use Rattle.integers.proofs.Tests.{each}
