@@ -24,12 +24,12 @@ returns-in_err-board c =
     let p = err_from_is_err_and c.from_residual-in_err-board.result c.from_residual-in_err-board.ensures.1 in
     let bytes = c.in_ok-record.record.bytes.now in
     let t = no_board bytes c.args.sheet.now (passed bytes (whole (goal.at.returns-in_err-board c).In_ok-record)) c.in_err-board.field-0.0
-        (sym c.board.ensures ∙ c.in_err-board.was) in
+    (sym c.board.ensures ∙ c.in_err-board.was) in
     rw (← c.in_ok-record.ensures.whole.0) (record { answer = rw (p.1, p.2) t.0; list = t.1 })
 
 pub returns : goal.returns
 returns c =
     let bytes = c.in_ok-record.record.bytes.now in
     let t = on-board bytes c.args.sheet.now (passed bytes (whole (goal.at.returns c).In_ok-record)) c.in_ok-board.board c.restate_on.result
-        c.restate_on.new.sheet (sym c.board.ensures ∙ c.in_ok-board.was) c.restate_on.ensures.answer c.restate_on.ensures.list in
+    c.restate_on.new.sheet (sym c.board.ensures ∙ c.in_ok-board.was) c.restate_on.ensures.answer c.restate_on.ensures.list in
     rw (← c.in_ok-record.ensures.whole.0) (record { answer = t.0; list = t.1 })

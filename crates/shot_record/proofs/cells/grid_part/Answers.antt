@@ -1,5 +1,5 @@
 -- `shot_record::cells::grid_part` meets its contract. Assumes nothing.
-use Rattle.std.proofs.Common.{◌≡◌, refl, ap, ap₂, ◌∙◌, ℕ, ◌+◌, ◌-◌, ◌≤◌, ◌<◌, ◌*◌, List, true, length, take, drop, arith}
+use Rattle.std.proofs.Common.{◌≡◌, refl, ap, ap₂, ◌∙◌, ℕ, ◌+◌, ◌-◌, ◌≤◌, ◌<◌, ◌*◌, List, true, take, drop, arith}
 use Rattle.shot_record.specs.declared.cells.Part.{Part}
 use Rattle.shot_record.specs.declared.cells.Cursor.{Cursor}
 use Rattle.shot_record.specs.Fields.{bits_of, border_of, grid_size, cell_count, cell_map, sampled, sample_place, grid_from}

@@ -1,5 +1,5 @@
 -- `shot_record::index::words` meets its contract. Assumes nothing.
-use Rattle.std.proofs.Common.{◌≡◌, refl, sym, ◌∙◌, ℕ, zero, suc, ◌+◌, ◌*◌, ◌≤◌, ◌<◌, List, [], ◌∷◌, true, false, arith}
+use Rattle.std.proofs.Common.{◌≡◌, refl, sym, ◌∙◌, ℕ, zero, suc, ◌+◌, ◌*◌, ◌≤◌, ◌<◌, List, [], ◌∷◌, true, arith}
 use Rattle.shot_record.specs.Fields.{byte, number, is_set, cell_count, cell_map, sampled, Point, point_of, sample_place, threshold_from, grid_from}
 use Rattle.shot_record.specs.Shots.{whole_record}
 use Rattle.shot_record.specs.Index.{point_word, words_from}

@@ -4,7 +4,7 @@ use Prim.Native.Nat.{zero-le}
 use borrow.Author.Tests.{le-leb, lt-leb, lt-ltb, le-ltb, ne_eqb}
 use Rattle.shot_record.specs.declared.record.Record.{Record}
 use Rattle.shot_record.specs.declared.cells.Cursor.{Cursor}
-use Rattle.shot_record.specs.Fields.{map_byte, cell_count, cell_map, map_of, cells_at, cell_at}
+use Rattle.shot_record.specs.Fields.{map_byte, cell_count, cell_map, map_of, cell_at}
 use Rattle.shot_record.specs.Shots.{whole_record}
 use Rattle.shot_record.proofs.Reading.{map_reach, count_reach, starts_rise}
 use Rattle.shot_record.proofs.Records.{found_in}
