@@ -47,14 +47,6 @@ module _ {A : Type 0} where
   pub front_is : (results lent : List A) → length results ≤ length lent → in_front results lent ≡ results ++ drop (length results) lent
   front_is results lent h = ap (λ (l : List A). l ++ drop (length results) lent) (take_all (length lent) results h)
 
-  -- the array is too short: the results are truncated
-  pub front_first : (results lent : List A) → length lent ≤ length results → in_front (take (length lent) results) lent ≡ in_front results lent
-  front_first results lent h =
-      let first = take (length lent) results in
-      let e : length first ≡ length lent = length-take-le (length lent) results h in
-      ap₂ (λ (a b : List A). a ++ b) (take_all (length lent) first (omega (arith, e)))
-      (drop_of_length-le lent {i = length first} (omega (arith, e)) ∙ sym (drop_of_length-le lent {i = length results} h))
-
   pub front_length : (results lent : List A) → length (in_front results lent) ≡ length lent
   front_length results lent =
       length-append (take (length lent) results) (drop (length results) lent)

@@ -1,7 +1,5 @@
 -- `floats::from_bits` meets its contract: a NaN pattern is the value NaN. Assumes nothing.
-use mathlib.Core.Path.{sym, subst, ◌∙◌}
-use mathlib.Core.Bool.{Bool, not}
-use lib.Dec.{T}
+use mathlib.Core.Path.{sym, ◌∙◌}
 use lib.Ieee.{nan_bits, of_bits, binary32}
 use lib.Ieee.Bits.{nan_bits_is}
 use Rattle.floats.proofs.Values.{only_nan}
@@ -12,6 +10,3 @@ unfolding nan_bits
 returns-then-is_nan_pattern c =
     only_nan (of_bits binary32 0x7FC00000) (sym (nan_bits_is binary32 0x7FC00000))
     ∙ sym (only_nan (of_bits binary32 c.args.bits) (sym (nan_bits_is binary32 c.args.bits) ∙ sym c.is_nan_pattern.ensures ∙ c.if-is_nan_pattern.true))
-
-pub float_from_bits-result : goal.float_from_bits-result
-float_from_bits-result c = subst (λ (b : Bool). T (not b)) (sym c.if-is_nan_pattern.false ∙ c.is_nan_pattern.ensures) tt

@@ -6,7 +6,7 @@ use lib.IntN.{ℤ, pos, ◌+ℤ◌, +ℤ_idr}
 use mir.Syntax.{w16}
 use mir.Val.{SFits}
 use Rattle.integers.proofs.Parts.{fits-small, abs_add}
-use Rattle.integers.proofs.Words.{word, half, widened, widened_fits}
+use Rattle.integers.proofs.Words.{word, half, widened}
 use Rattle.grid_alignment.specs.Alignment.{point, corner}
 use Rattle.integers.proofs.Sums.{Exact, exact_op}
 use Rattle.grid_alignment.proofs.rotate_gc_top_left.Goals as goal
@@ -38,21 +38,3 @@ unfolding corner
 returns-in_default c =
     let three : c.args.turn % 4 ≡ 3 = omega arith in
     rw three (ap₂ point (same c.args.u c.ranges.u) (next c.args.v c.ranges.v).reads)
-
-pub overflow_cast-x : goal.overflow_cast-x
-overflow_cast-x c = widened_fits c.args.u c.ranges.u
-
-pub overflow_cast-y : goal.overflow_cast-y
-overflow_cast-y c = widened_fits c.args.v c.ranges.v
-
-pub overflow_add-result : goal.overflow_add-result
-overflow_add-result c = (next c.args.u c.ranges.u).fits
-
-pub overflow_add-result-in-2 : goal.overflow_add-result-in-2
-overflow_add-result-in-2 c = (next c.args.u c.ranges.u).fits
-
-pub overflow_add-result-in-2-2 : goal.overflow_add-result-in-2-2
-overflow_add-result-in-2-2 c = (next c.args.v c.ranges.v).fits
-
-pub overflow_add-result-in_default : goal.overflow_add-result-in_default
-overflow_add-result-in_default c = (next c.args.v c.ranges.v).fits

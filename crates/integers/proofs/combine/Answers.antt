@@ -33,12 +33,6 @@ module _ (c : After-from-2) where
       exact_op ◌+ℤ◌ abs_add (c.args.a *ℤ c.args.x) (c.args.b *ℤ c.args.y) first.reads second.reads
       (omega (arith, size c.args.a c.args.x c.requires.0 c.ranges.x, size c.args.b c.args.y c.requires.1 c.ranges.y))
 
-pub overflow_mul-result : goal.overflow_mul-result
-overflow_mul-result c = (product c.args.a c.args.x (omega (arith, c.requires.0)) c.ranges.x c.ranges.a c.from.ensures).fits
-
-pub overflow_mul-result-2 : goal.overflow_mul-result-2
-overflow_mul-result-2 c = (second c).fits
-
 pub overflow_add-result : goal.overflow_add-result
 overflow_add-result c = (sum c).fits
 

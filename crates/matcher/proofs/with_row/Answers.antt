@@ -5,7 +5,7 @@ use Prim.Native.Nat.{ℕ, ◌+◌, ◌*◌, ◌/◌, ◌%◌, ◌^◌, ◌<◌}
 use native.Mathlib.Omega.{arith}
 use Rattle.matcher.specs.declared.Place.{Place}
 use Rattle.matcher.specs.Codes.{from_bits, bit, index_of, turned_bit}
-use Rattle.matcher.proofs.Turns.{rank_small, source-small, next_turned_bit, next_below}
+use Rattle.matcher.proofs.Turns.{source-small, next_turned_bit, next_below}
 use Rattle.matcher.proofs.with_row.Goals as goal
 use Rattle.matcher.proofs.with_row.Goals.{After-source_place-p, Start}
 
@@ -28,9 +28,6 @@ module _ (c : After-source_place-p) where
 
   abbrev at : ℕ
   at = index_of n c.source_place-p.result
-
-  to-small : y * n + x < 64
-  to-small = rank_small code n turn x y c.requires.0 c.requires.1 c.loop-x-test.true
 
   from-small : at < 64
   from-small =

@@ -25,14 +25,8 @@ module _ (c : After-sum-1) where
   abbrev k : ℕ
   k = c.loop-k.k
 
-  inside : k < c.args.count
-  inside = c.loop-k-test.true
-
   small : k < 64
-  small = omega (arith, inside, c.requires.0)
-
-  from-small : get_or c.args.sources.now k 0 < 64
-  from-small = c.requires.1 k inside
+  small = omega (arith, c.loop-k-test.true, c.requires.0)
 
   sum : c.loop-k.sum + f k * 2 ^ k % 2 ^ 64 ≡ from_bits f (k + 1)
   sum =

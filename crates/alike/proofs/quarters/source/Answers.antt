@@ -1,45 +1,23 @@
 -- `alike::quarters::source` meets its contract. Assumes nothing.
-use mathlib.Core.Path.{◌≡◌, sym, ap, subst, ◌∙◌}
+use mathlib.Core.Path.{◌≡◌, ap, ◌∙◌}
 use Prim.Native.Nat.{ℕ, ◌/◌, ◌%◌, ◌<◌}
 use native.Mathlib.Nat.{mul-le-mul}
 use native.Mathlib.Omega.{arith}
 use Rattle.matcher.specs.Codes.{bit_place, index_of, source}
-use Rattle.matcher.proofs.Turns.{Inside}
 use Rattle.alike.specs.Quarters.{half, quarter_source}
-use Rattle.alike.proofs.QuarterTurns.{half-some, quarter-some, inside, quarter_source-below}
+use Rattle.alike.proofs.QuarterTurns.{quarter_source-below}
 use Rattle.alike.proofs.quarters.source.Goals as goal
-use Rattle.alike.proofs.quarters.source.Goals.{After-quarter-m, After-source_place-place}
-
-module _ (c : After-quarter-m) where
-  abbrev bits : ℕ
-  bits = c.args.bits
-
-  abbrev k : ℕ
-  k = c.args.k
-
-  abbrev m : ℕ
-  m = c.quarter-m.result
-
-  some : 0 < m
-  some = subst (λ (x : ℕ). 0 < x) (sym c.quarter-m.ensures) (quarter-some bits c.requires.0)
-
-  half-above : 0 < half bits
-  half-above = half-some bits c.requires.0
-
-  place_inside : Inside bits (bit_place (half bits) (k % m))
-  place_inside = subst (λ (x : ℕ). Inside bits (bit_place (half bits) (k % x))) (sym c.quarter-m.ensures) (inside bits c.requires.0 k)
+use Rattle.alike.proofs.quarters.source.Goals.{After-source_place-place}
 
 module _ (c : After-source_place-place) where
   is : index_of c.args.bits c.source_place-place.result ≡ quarter_source c.args.bits c.args.k
   unfolding quarter_source
   is =
-      let q = c.before in
       ap (index_of c.args.bits) c.source_place-place.ensures
       ∙ ap (λ (x : ℕ). index_of c.args.bits (source c.args.bits (c.args.k / x) (bit_place (half c.args.bits) (c.args.k % x)))) c.quarter-m.ensures
 
   below : index_of c.args.bits c.source_place-place.result < 64
   below =
-      let q = c.before.before in
       omega (arith, is, quarter_source-below c.args.bits c.requires.0 c.args.k, mul-le-mul {n₂ = 8} {m₂ = 8} c.requires.1 c.requires.1)
 
 pub overflow_mul-result : goal.overflow_mul-result
