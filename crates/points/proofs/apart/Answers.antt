@@ -10,7 +10,7 @@ use lib.ListN.{get_or, set, replicate, length-set}
 use lib.Seq.{get_or-set_same, get_or-set_other}
 use borrow.Author.Count.{below_more}
 use borrow.Author.Tests.{eqb-true, eqb-false}
-use Rattle.sorting.proofs.Comparing.{if_different, if_repeated, different_next}
+use Rattle.sorting.proofs.Comparing.{if_repeated, different_next}
 use Rattle.points.specs.Points.{residue_of, residue_in}
 use Rattle.points.proofs.apart.Invariants.{Marks}
 use Rattle.points.proofs.apart.Goals as goal
@@ -75,12 +75,3 @@ loop-k-preserved c =
           (λ i h e. false≢true (sym c.if-met-at.false ∙ ap (λ (q : ℕ). get_or met q false) (is ∙ sym e) ∙ held.1.marked i h)),
       one_mark word k met c.residue-at.result is (inside (goal.at.loop-k-preserved c).After-residue-at) held.1,
     )
-
-pub returns : goal.returns
-returns c = if_different (λ i j l h. c.loop-k.invariant.0 i j l (omega (arith, h, c.loop-k-test.false)))
-
-pub bounds-met-at : goal.bounds-met-at
-bounds-met-at c = inside c
-
-pub bounds-met-at-in-loop-k : goal.bounds-met-at-in-loop-k
-bounds-met-at-in-loop-k c = inside (goal.at.bounds-met-at-in-loop-k c).After-residue-at
