@@ -17,6 +17,7 @@ pub struct MarkerCorners {
     pub corners: Surrounding,
 }
 
+#[tactic(auto, unfolding(crate::specs::Violations::expectation))]
 pub fn expectation(board: Board, marker: u32) -> MarkerExpectation
     ensures { result ≡ expectation board marker }
 {

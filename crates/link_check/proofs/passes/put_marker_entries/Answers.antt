@@ -1,10 +1,9 @@
 -- `link_check::passes::put_marker_entries` meets its contract. The loop's invariant: the violations of the markers of the first k links
 -- are written. Assumes nothing.
-use mathlib.Core.Path.{◌≡◌, subst}
 use mathlib.Core.List.{List}
 use Prim.Native.Nat.{ℕ}
 use native.Mathlib.Omega.{arith}
-use Rattle.lent_list.proofs.Loops.{PutTo, none_to, to-length, to_room, to_more}
+use Rattle.lent_list.proofs.Loops.{none_to, to_room, to_more}
 use Rattle.link_check.specs.Violations.{Violation, expectation, of_first, violation_words}
 use Rattle.link_check.proofs.passes.put_marker_entries.Goals as goal
 use Rattle.link_check.proofs.passes.put_marker_entries.Goals.{Start}
@@ -33,16 +32,3 @@ loop-k-preserved c =
     let l = c.loop-k in
     to_more violation_words (entry (goal.at.loop-k-preserved c).Start) x.violations.now x.at x.links.count c.requires l.k l.invariant
     c.put_of_first-end.ensures
-
-pub shape_of-violations : goal.shape_of-violations
-shape_of-violations c =
-    let x = c.args in
-    let l = c.loop-k in
-    to-length violation_words (entry (goal.at.shape_of-violations c).Start) x.violations.now x.at x.links.count c.requires l.k l.invariant (omega arith)
-
-pub returns : goal.returns
-returns c =
-    let x = c.args in
-    let l = c.loop-k in
-    let all : l.k ≡ x.links.count = omega arith in
-    subst (PutTo violation_words (entry (goal.at.returns c).Start) x.violations.now x.at x.links.count c.requires l.violations l.end) all l.invariant

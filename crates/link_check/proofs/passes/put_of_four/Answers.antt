@@ -1,5 +1,5 @@
 -- `link_check::passes::put_of_four` meets its contract: the repeated corners, then the missing ones. Assumes nothing.
-use mathlib.Core.Path.{◌≡◌, sym, ap}
+use mathlib.Core.Path.{sym, ap}
 use mathlib.Core.List.{List}
 use Prim.Native.Nat.{◌+◌, ◌≤◌}
 use native.Mathlib.Omega.{arith}

@@ -1,13 +1,13 @@
 -- `link_check::passes::put_own_entries` meets its contract. The loop's invariant: the own violations of the first k links are written.
 -- Assumes nothing.
-use mathlib.Core.Path.{◌≡◌, ap₂, subst}
+use mathlib.Core.Path.{ap₂}
 use mathlib.Core.List.{List}
 use Prim.Native.Nat.{ℕ, ◌+◌, ◌*◌, ◌≤◌}
 use native.Mathlib.Omega.{arith}
 use lib.ListN.{length}
 use Rattle.lent_list.specs.Front.{up_to}
 use Rattle.lent_list.proofs.Front.{put_as}
-use Rattle.lent_list.proofs.Loops.{PutTo, none_to, to-length, to_more}
+use Rattle.lent_list.proofs.Loops.{none_to, to-length, to_more}
 use Rattle.link_check.specs.declared.expected.MarkerExpectation.{MarkerExpectation}
 use Rattle.link_check.specs.Violations.{Violation, expectation, against, own, violation_words, words_of_violations}
 use Rattle.link_check.proofs.Enough.{own-few}
@@ -50,16 +50,3 @@ loop-k-preserved c =
     let l = c.loop-k in
     let same = ap₂ (λ (m d : ℕ). words_of_violations (against (expected s m) m d)) c.marker_of-marker.ensures c.corner_of.ensures in
     to_more violation_words (entry s) c.args.violations.now 0 c.args.links.count (room s) l.k l.invariant (put_as same c.put_own-end.ensures)
-
-pub shape_of-violations : goal.shape_of-violations
-shape_of-violations c =
-    let s = (goal.at.shape_of-violations c).Start in
-    let l = c.loop-k in
-    to-length violation_words (entry s) c.args.violations.now 0 c.args.links.count (room s) l.k l.invariant (omega arith)
-
-pub returns : goal.returns
-returns c =
-    let s = (goal.at.returns c).Start in
-    let l = c.loop-k in
-    let all : l.k ≡ c.args.links.count = omega arith in
-    subst (PutTo violation_words (entry s) c.args.violations.now 0 c.args.links.count (room s) l.violations l.end) all l.invariant

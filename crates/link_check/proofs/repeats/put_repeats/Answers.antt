@@ -1,12 +1,12 @@
 -- `link_check::repeats::put_repeats` meets its contract. The loop's invariant: the violations of the links before k are written, and k has
 -- the marker's key. Assumes nothing.
-use mathlib.Core.Path.{◌≡◌, sym, subst}
+use mathlib.Core.Path.{sym, subst}
 use mathlib.Core.List.{List}
 use Prim.Native.Nat.{ℕ, ◌+◌, ◌<◌}
 use native.Mathlib.Omega.{arith}
 use lib.ListN.{get_or}
 use Rattle.lent_list.specs.Front.{Put}
-use Rattle.lent_list.proofs.Loops.{PutTo, none_to, to-length, to_room, to_more}
+use Rattle.lent_list.proofs.Loops.{PutTo, none_to, to_room, to_more}
 use Rattle.link_check.specs.declared.chains.By.TheVariants.{Marker}
 use Rattle.link_check.specs.Violations.{Violation, four_of, repeat_at, violation_words, words_of_violations}
 use Rattle.link_check.proofs.Chained.{Walked, walked_first, walked_next}
@@ -68,15 +68,3 @@ loop-k-preserved c =
     let w = next (goal.at.loop-k-preserved c).In-loop-k in
     let more = to_more violation_words (entry s) x.violations.now x.at x.links.count c.requires c.loop-k.k c.loop-k.invariant.2 c.put_repeat-end.ensures in
     (w.most, w.keyed, over s _ c.put_repeat-end.result (c.loop-k.k + 1) _ w more)
-
-pub shape_of-violations : goal.shape_of-violations
-shape_of-violations c =
-    let x = c.args in
-    let l = c.loop-k in
-    to-length violation_words (entry (goal.at.shape_of-violations c).Start) x.violations.now x.at x.links.count c.requires l.k l.invariant.2 l.invariant.0
-
-pub returns : goal.returns
-returns c =
-    let l = c.loop-k in
-    let all : l.k ≡ c.args.links.count = omega arith in
-    subst (Wrote (goal.at.returns c).Start l.violations l.end) all l.invariant.2
