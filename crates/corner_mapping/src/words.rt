@@ -23,7 +23,7 @@ fn corner_words(board: Board, id: u32, index: u32) -> [u32; 6]
             floats::to_bits(q.y),
         ],
         (Some(p), None) => [id, index, p.i, p.j, 0, 0],
-        // No result has such an id: law `board-corners-named`.
+        // No result has such an id: law `board_corners_named`.
         (None, _) => [id, index, 0, 0, 0, 0],
     }
 }

@@ -1,4 +1,4 @@
--- The results of searches in the corner map: the last inlier at a key, the next key, and where the next search can start. Assumes nothing.
+-- The results of searches in the corner map: the last inlier at a key, and where the next search can start. Assumes nothing.
 use mathlib.Core.Path.{◌≡◌, ap, ◌∙◌}
 use mathlib.Core.List.{List}
 use mathlib.Core.Logic.{◌⊎◌, inl, inr}
