@@ -45,7 +45,7 @@ fn reversed_on(board: Board) -> usize
 fn without_flag(map: u8) -> u8
     ensures { result ≡ without_flag map }
 {
-    map - 16 * (map / 16 % 2)
+    map & !0x10
 }
 
 fn put_code(sheet: &mut [u8], at: usize, code: u64) -> usize

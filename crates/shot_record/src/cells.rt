@@ -138,7 +138,7 @@ impl<'a> Record<'a> {
     }
 }
 
-// A part of a record (document 02): the byte range `first..end`.
+// A part of a record (document 02): the byte range `first..end`. Not std's Range, since the law `UnchangedRule` names this type.
 #[derive(Clone, Copy)]
 pub struct Part {
     pub first: usize,

@@ -28,6 +28,7 @@ fn words(record: &Record<'_>, c: Cursor) -> [u32; 3]
     ]
 }
 
+// Three assignments, as `with_words` defines it: `copy_from_slice` on `index[3 * k..3 * k + 3]` is no plainer.
 fn put(index: &mut [u32; 768], k: usize, words: &[u32; 3])
     requires { k < 256 }
     ensures { index.new ≡ with_words index.old k words.now }

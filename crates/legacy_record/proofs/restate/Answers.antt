@@ -18,26 +18,18 @@ returns-in_err-record c =
 whole : (c : In_ok-record) → whole_record c.in_ok-record.record.bytes.now ≡ true
 whole c = let h = c.in_ok-record.ensures.whole in ap whole_record h.0 ∙ h.1
 
-pub restate_on-requires : goal.restate_on-requires
-restate_on-requires c =
-    record {
-      whole = whole (goal.at.restate_on-requires c).In_ok-record;
-      made = sym c.board.ensures ∙ c.in_ok-board.was;
-      first_codes_is = c.codes.ensures;
-    }
-
 -- the board's questions
 pub returns-in_err-board : goal.returns-in_err-board
 returns-in_err-board c =
     let p = err_from_is_err_and c.from_residual-in_err-board.result c.from_residual-in_err-board.ensures.1 in
     let bytes = c.in_ok-record.record.bytes.now in
     let t = no_board bytes c.args.sheet.now (passed bytes (whole (goal.at.returns-in_err-board c).In_ok-record)) c.in_err-board.field-0.0
-        (sym c.board.ensures ∙ c.in_err-board.was) in
+    (sym c.board.ensures ∙ c.in_err-board.was) in
     rw (← c.in_ok-record.ensures.whole.0) (record { answer = rw (p.1, p.2) t.0; list = t.1 })
 
 pub returns : goal.returns
 returns c =
     let bytes = c.in_ok-record.record.bytes.now in
     let t = on-board bytes c.args.sheet.now (passed bytes (whole (goal.at.returns c).In_ok-record)) c.in_ok-board.board c.restate_on.result
-        c.restate_on.new.sheet (sym c.board.ensures ∙ c.in_ok-board.was) c.restate_on.ensures.answer c.restate_on.ensures.list in
+    c.restate_on.new.sheet (sym c.board.ensures ∙ c.in_ok-board.was) c.restate_on.ensures.answer c.restate_on.ensures.list in
     rw (← c.in_ok-record.ensures.whole.0) (record { answer = t.0; list = t.1 })

@@ -85,8 +85,7 @@ pub put_codes-next-requires : goal.put_codes-next-requires
 put_codes-next-requires c =
     let r = c.args.record.now in
     let n = (goal.at.put_codes-next-requires c).After-reversed_on-n in
-    let s = (goal.at.put_codes-next-requires c).After-put-next-2 in
-    (
+    let s = (goal.at.put_codes-next-requires c).After-put-next-2 in (
       written.count-few r c.args.board c.args.codes.now c.requires.0 c.reversed_on-n.result c.reversed_on-n.ensures,
       written.bits-few r c.args.board c.args.codes.now c.requires.0,
       omega (arith, two s, long_2 s, reach n),

@@ -3,14 +3,11 @@ use Rattle.std.proofs.Common.{◌≡◌, refl, sym, ◌∙◌, ℕ, zero, suc, �
 use Rattle.shot_record.specs.Fields.{byte, number, is_set, cell_count, cell_map, sampled, Point, point_of, sample_place, threshold_from, grid_from}
 use Rattle.shot_record.specs.Shots.{whole_record}
 use Rattle.shot_record.specs.Index.{point_word, words_from}
-use Rattle.shot_record.proofs.Reading.{flag_set, flag_clear}
+use Rattle.shot_record.proofs.Reading.{flag_set}
 use Rattle.shot_record.proofs.Whole.{passed}
 use Rattle.shot_record.proofs.CellReads.{grid_lies}
 use Rattle.shot_record.proofs.index.words.Goals as goal
 use Rattle.shot_record.proofs.index.words.Goals.{After-sample_place-place}
-
-without : (bytes : List ℕ) (b place : ℕ) (p : Point) (word : ℕ) → b ≡ 0 → word ≡ point_word p → word ∷ 0 ∷ 0 ∷ [] ≡ words_from p b place bytes
-without bytes b place p word e h = rw (e, h) refl
 
 with_sample : (bytes : List ℕ) (b at place : ℕ) (p : Point) (word f t : ℕ) → (b ≡ 0 → ⊥) → at ≡ place → word ≡ point_word p → f ≡ number 4 at bytes
     → t ≡ byte (threshold_from at) bytes → word ∷ f ∷ (grid_from at * 256 + t) ∷ [] ≡ words_from p b place bytes
@@ -22,13 +19,6 @@ lies : (bytes : List ℕ) (k : ℕ) → whole_record bytes ≡ true → k < cell
 lies bytes k w inside e =
     let p = passed bytes w in
     omega (arith, grid_lies bytes p k inside (flag_set (cell_map bytes) k e refl), p.size)
-
-pub returns-then-not-is_sampled : goal.returns-then-not-is_sampled
-returns-then-not-is_sampled c =
-    let bytes = c.args.record.now.bytes.now in
-    let k = c.args.c.cell in
-    without bytes (sampled bytes k) (sample_place bytes k) (point_of bytes k) c.point-point.result
-    (flag_clear (cell_map bytes) k c.is_sampled.ensures c.if-not-is_sampled.true) c.point-point.ensures
 
 -- its offset is inside the record
 near : (c : After-sample_place-place) → grid_from c.sample_place-place.result ≤ 65535

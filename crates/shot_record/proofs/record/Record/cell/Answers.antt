@@ -54,9 +54,6 @@ read_v c =
     to_z-of_z w16 c.coordinate-v.result (record { sfits = c.coordinate-v.type_inv }) ∙ c.coordinate-v.ensures
     ∙ ap (to_z w16) (ap (λ (n : ℕ). n / 65536) c.point-point.ensures ∙ high_word (here c) (point-small c.args.self.now.bytes.now c.args.self.now.small c.args.c.cell))
 
-pub coordinate-v-requires : goal.coordinate-v-requires
-coordinate-v-requires c = omega (arith, c.point-point.type_inv)
-
 abbrev size : List ℕ → ℕ
 size bytes = grid_size (bits_of bytes) (border_of bytes)
 
