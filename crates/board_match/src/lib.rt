@@ -120,7 +120,7 @@ fn match_scored(
     place_found(loaded, found, markers)
 }
 
-// Reads table, codes and index of a record, and checks questions 21, 1 to 14, 22 and 23. At entry `table` is the built-in one, and `codes` is cleared.
+// Reads table, codes and index of a record, and checks questions 21, 1 to 14, 22 and 23. (a) The arrays are the caller's: no heap. At entry `table` is the built-in one, and `codes` is cleared.
 fn load<'a>(
     table: &'a mut [f32; 511],
     codes: &'a mut [u64; 512],

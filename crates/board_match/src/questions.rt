@@ -14,6 +14,7 @@ use refusal::Refusal;
 use score_matrix::{BoardMatchConfig, table};
 use shot_record::{Record, index};
 
+// (d) Two tests as in the definition: `contains` would compare two f32 values by `partial_cmp`.
 fn in_unit_interval(x: f32) -> bool
     ensures { result ≡ in_unit_interval x }
 {
