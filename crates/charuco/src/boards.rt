@@ -4,7 +4,7 @@ ghost use Rattle.charuco.specs.Entries.{spec_from};
 
 use board::CharucoBoardSpec;
 
-// `legacy_pattern` is the legacy flag: 0 for a current board, every other number for a legacy board.
+// `legacy_pattern` is the legacy flag: 0 for a current board, every other number for a legacy board. Seven parameters: C passes no struct here.
 pub fn spec(
     rows: u32,
     cols: u32,

@@ -8,6 +8,7 @@ use super::{words, writer};
 
 const STRIDE: usize = 18;
 
+// Not `get`: the index of a word may exceed a `usize`, since `k` may be any number.
 fn word(markers: &[u32], k: usize, w: usize) -> u32
     ensures { result ≡ word_of markers.now k w }
 {

@@ -1,5 +1,7 @@
 // Writes bytes and numbers to an output array, one after the other. Bytes past its end are dropped, so it may have any length. Each function returns
 // the index after what it wrote.
+// Not `write!`: `Printed`, which may not change, states each byte for arrays of any length, and std's writers to a slice have no `contents`, so that
+// `write!` states no byte there.
 ghost use Rattle.std.specs.Prelude.{◌≡◌, [], ◌∷◌, ◌<◌};
 ghost use Rattle.place_text.specs.Numerals.{digit as Digit, hex2, hex4, hex8, decimal, signed_decimal};
 ghost use Rattle.place_text.specs.Writing.{Printed};
