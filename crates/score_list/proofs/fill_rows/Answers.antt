@@ -36,13 +36,6 @@ overflow_mul-n c = record { fits = omega (arith, area (goal.at.overflow_mul-n c)
 pub loop-x-init : goal.loop-x-init
 loop-x-init c = (omega arith, λ y h. absurd (omega (arith, h)))
 
-pub overflow_add-first : goal.overflow_add-first
-overflow_add-first c =
-    record { fits = omega (arith, c.loop-x-test.true, c.requires.0, c.args.loaded.now.loaded.ready.passed.checked.few) }
-
-pub cell_adds-requires : goal.cell_adds-requires
-cell_adds-requires c = omega (arith, c.loop-x-test.true, c.requires.0)
-
 pub overflow_mul-n-in-loop-x : goal.overflow_mul-n-in-loop-x
 overflow_mul-n-in-loop-x c = record { fits = omega (arith, area (goal.at.overflow_mul-n-in-loop-x c).Start) }
 
@@ -68,6 +61,3 @@ loop-x-preserved c =
           (λ y h. column-kept adds n l.x l.rows last w (f y) y inside (omega (arith, h, inside)) (λ e. absurd (omega (arith, h, e))) (l.invariant.1 y h))
           (column_put adds n l.x l.rows last w (f l.x) c.cell_adds.ensures),
     )
-
-pub returns : goal.returns
-returns c x h = c.loop-x.invariant.1 x (omega (arith, h, c.loop-x-test.false))

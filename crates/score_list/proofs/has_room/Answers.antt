@@ -4,20 +4,11 @@ use Prim.Native.Nat.{ℕ, ◌*◌, ◌≤◌}
 use native.Mathlib.Nat.{mul-le-mul}
 use native.Mathlib.Omega.{arith}
 use lib.Dec.{leb}
-use Rattle.board.specs.Layout.{marker_total}
 use Rattle.score_list.proofs.has_room.Goals as goal
 
 small : (cells markers n : ℕ) → cells ≤ 256 → n ≤ 512 → markers ≡ n → cells * markers ≤ 131072
 small cells markers n few most is =
     mul-le-mul {n₂ = 256} {m₂ = 512} few (omega (arith, most, is))
-
-pub overflow_mul-result : goal.overflow_mul-result
-overflow_mul-result c =
-    record { fits = omega (arith, small c.args.inputs.cells c.marker_count-markers.result (marker_total c.args.inputs.board) c.requires.0 c.requires.1 c.marker_count-markers.ensures) }
-
-pub overflow_mul-result-2 : goal.overflow_mul-result-2
-overflow_mul-result-2 c =
-    record { fits = omega (arith, small c.args.inputs.cells c.marker_count-markers.result (marker_total c.args.inputs.board) c.requires.0 c.requires.1 c.marker_count-markers.ensures) }
 
 pub returns : goal.returns
 returns c =

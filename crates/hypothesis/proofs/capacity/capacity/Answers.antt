@@ -12,9 +12,6 @@ pub loop-k-init : goal.loop-k-init
 unfolding capacity_to of_bits of_fields odd
 loop-k-init c = refl
 
-pub with_cell-total-requires : goal.with_cell-total-requires
-with_cell-total-requires c = (c.requires.1, omega (arith, c.loop-k-test.true, c.requires.0))
-
 pub loop-k-preserved : goal.loop-k-preserved
 unfolding capacity_to
 loop-k-preserved c =

@@ -39,9 +39,3 @@ pub returns : goal.returns
 returns c =
     let x = c.args in
     free x.contributing x.cell (sym c.holds_marker.ensures ∙ c.if-holds_marker.false)
-
-pub overflow_add-result : goal.overflow_add-result
-overflow_add-result c = record { fits = omega (arith, c.requires.0) }
-
-pub overflow_add-result-2 : goal.overflow_add-result-2
-overflow_add-result-2 c = record { fits = omega (arith, c.requires.1) }

@@ -1,11 +1,8 @@
 -- `hypothesis::fill::fill` meets its contract. The loop's invariant: the sums are those of the first k cells. Assumes nothing.
-use mathlib.Core.Path.{◌≡◌, refl, subst}
-use mathlib.Core.List.{List}
+use mathlib.Core.Path.{◌≡◌, subst}
 use Prim.Native.Nat.{ℕ, ◌*◌, ◌≤◌, ◌<◌}
-use native.Mathlib.Nat.{le_antisymm}
 use native.Mathlib.Omega.{arith}
 use Rattle.shot_record.specs.Shots.{Shot, shot}
-use Rattle.hypothesis.specs.declared.Inputs.{Inputs}
 use Rattle.hypothesis.specs.Placements.{cell_total}
 use Rattle.hypothesis.specs.Inputs.{SearchInput}
 use Rattle.hypothesis.specs.Filling.{Turning, SumsTo}

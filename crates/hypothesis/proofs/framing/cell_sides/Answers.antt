@@ -27,12 +27,6 @@ loop-k-init c =
       first_extremes g (half v.result) (looked_up v.result _ v.type_inv v.ensures),
     )
 
-pub u-requires : goal.u-requires
-u-requires c = omega (arith, c.loop-k-test.true, c.requires.1)
-
-pub v-requires : goal.v-requires
-v-requires c = omega (arith, c.loop-k-test.true, c.requires.1)
-
 pub loop-k-preserved : goal.loop-k-preserved
 loop-k-preserved c =
     let f = u_in c.args.index.now in

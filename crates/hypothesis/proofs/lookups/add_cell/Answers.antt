@@ -2,7 +2,6 @@
 use mathlib.Core.List.{List}
 use Prim.Native.Nat.{ℕ, ◌+◌, ◌*◌}
 use native.Mathlib.Omega.{arith}
-use lib.Arith.{digits_lt}
 use lib.ListN.{get_or}
 use lib.Ieee.{Float, nan}
 use Rattle.hypothesis.proofs.Moves.{begun, step, Step}
@@ -16,22 +15,6 @@ pub loop-at-init : goal.loop-at-init
 loop-at-init c =
     let x = c.args in
     begun x.cell x.across x.down c.requires.0 (score x.scores.now x.first) x.sums.now (omega arith) c.first_move-at.result c.first_move-at.ensures
-
-pub score_after-score-requires : goal.score_after-score-requires
-score_after-score-requires c =
-    let p = c.requires in
-    let stays = p.0 in
-    let here = c.loop-at.invariant.0 in
-    (stays.cols, stays.rows, omega (arith, stays.wide, c.loop-at-test.true), omega (arith, stays.high, here.row), here.on, p.2)
-
-pub add_score-requires : goal.add_score-requires
-add_score-requires c =
-    omega (arith, c.requires.1, digits_lt c.loop-at-test.true c.loop-at.invariant.0.row)
-
-pub next_move-at-requires : goal.next_move-at-requires
-next_move-at-requires c =
-    let stays = c.requires.0 in
-    (omega (arith, stays.wide, stays.cols, c.loop-at-test.true), omega (arith, stays.high, stays.rows, c.loop-at.invariant.0.row))
 
 -- the sums with the marker of one more move
 next : (c : After-next_move-at) → let x = c.args in
@@ -47,9 +30,6 @@ pub loop-at-smaller : goal.loop-at-smaller
 loop-at-smaller c =
     let stays = c.requires.0 in
     omega (arith, (next (goal.at.loop-at-smaller c).After-next_move-at).later, c.loop-at-test.true, c.loop-at.invariant.0.row, stays.high, stays.rows)
-
-pub returns : goal.returns
-returns c a b l m = c.loop-at.invariant.1.done a b l m (omega (arith, l, c.loop-at-test.false))
 
 pub loop-at-preserved : goal.loop-at-preserved
 loop-at-preserved c = ((next (goal.at.loop-at-preserved c).After-next_move-at).there, (next (goal.at.loop-at-preserved c).After-next_move-at).sums)

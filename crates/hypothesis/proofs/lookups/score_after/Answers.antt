@@ -20,9 +20,6 @@ module _ (c : After-marker_on-id) where
   inside : c.args.first + 4 * c.marker_on-id.result < length c.args.scores.now
   inside = c.requires.5 c.marker_on-id.result known
 
-pub overflow_mul-result : goal.overflow_mul-result
-overflow_mul-result c = record { fits = omega (arith, inside c) }
-
 pub overflow_add-result : goal.overflow_add-result
 overflow_add-result c = record { fits = omega (arith, inside c) }
 

@@ -1,6 +1,6 @@
 -- `hypothesis::search::enumerate` meets its contract. The loop's invariant: the placements of the turns below `turn` are ranked, of every shot whose
 -- scores the source has. Assumes nothing.
-use mathlib.Core.Path.{◌≡◌, ap, ◌∙◌}
+use mathlib.Core.Path.{ap, ◌∙◌}
 use native.Mathlib.Nat.{le_antisymm}
 use native.Mathlib.Omega.{arith}
 use Rattle.hypothesis.proofs.IndexedCells.{few_cells}

@@ -31,6 +31,3 @@ loop-at-preserved c =
           ))
           c.loop-at.invariant.1,
     )
-
-pub returns : goal.returns
-returns c a b l m = c.loop-at.invariant.1.done a b l m (omega (arith, l, c.loop-at-test.false))

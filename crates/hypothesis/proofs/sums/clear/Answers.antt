@@ -20,13 +20,5 @@ unfolding of_bits of_fields odd
 loop-k-preserved c =
     let l = c.loop-k in one_more clear_at nan l.sums 1024 l.k nought (inside (goal.at.loop-k-preserved c).In-loop-k) l.invariant refl
 
-pub returns : goal.returns
-returns c =
-    let l = c.loop-k in
-    (l.invariant.size, λ i h. l.invariant.before i (omega (arith, h, c.loop-k-test.false)))
-
-pub offset_bounds-sums-k : goal.offset_bounds-sums-k
-offset_bounds-sums-k c = omega (arith, inside c)
-
 pub bounds-sums-k : goal.bounds-sums-k
 bounds-sums-k c = inside c

@@ -8,8 +8,5 @@ use Rattle.hypothesis.proofs.sums.code_after.Goals.{After-marker_on-id}
 small : (c : After-marker_on-id) → c.marker_on-id.result < 512
 small c = let p = c.requires in omega (arith, c.marker_on-id.ensures.small, mul-le-mul {n₂ = 32} {m₂ = 32} p.1 p.0)
 
-pub offset_bounds-codes-id : goal.offset_bounds-codes-id
-offset_bounds-codes-id c = record { fits = omega (arith, small c) }
-
 pub bounds-codes-id : goal.bounds-codes-id
 bounds-codes-id c = small (goal.at.bounds-codes-id c).After-marker_on-id

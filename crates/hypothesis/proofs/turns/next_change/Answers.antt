@@ -1,11 +1,10 @@
 -- `hypothesis::turns::next_change` meets its contract. The loop's invariant: the placements before row `b` change nothing. Assumes nothing.
 use mathlib.Core.Path.{sym, ap, subst, ◌∙◌}
-use Prim.Native.Nat.{ℕ, ◌+◌, ◌<◌}
+use Prim.Native.Nat.{ℕ, ◌<◌}
 use native.Mathlib.Nat.{le_antisymm}
 use native.Mathlib.Omega.{arith}
 use Rattle.ranking.proofs.Unchanged.{held-unchanged}
 use Rattle.hypothesis.specs.Turns.{evidence_at, moved_to, PassesOver}
-use Rattle.hypothesis.proofs.Moves.{fits-small}
 use Rattle.hypothesis.proofs.turns.next_change.Goals as goal
 use Rattle.hypothesis.proofs.turns.next_change.Goals.{In-loop-b}
 

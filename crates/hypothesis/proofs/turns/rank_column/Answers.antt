@@ -37,9 +37,6 @@ moved_to-requires c = let p = c.requires in (p.0, below c, p.1)
 pub ranked-held-requires : goal.ranked-held-requires
 ranked-held-requires c = omega (arith, c.requires.2, below (goal.at.ranked-held-requires c).In-loop-b, c.loop-b.invariant.1)
 
-pub next_change-b-requires-in-loop-b : goal.next_change-b-requires-in-loop-b
-next_change-b-requires-in-loop-b c = let p = c.requires in (p.0, p.1.down, omega (arith, c.loop-b-test.true))
-
 pub loop-b-preserved : goal.loop-b-preserved
 loop-b-preserved c =
     let k = c.ranked-held in
@@ -57,14 +54,8 @@ pub returns : goal.returns
 returns c =
     subst (λ n. Held c.args.ranking (row (goal.at.returns c).Start) n c.loop-b.held) (le_antisymm c.loop-b.invariant.0 (omega (arith, c.loop-b-test.false))) c.loop-b.invariant.2
 
-pub next_change-b-requires : goal.next_change-b-requires
-next_change-b-requires c = (c.requires.0, c.requires.1.down, omega arith)
-
 pub overflow_add-b : goal.overflow_add-b
 overflow_add-b c = fits-small (c.loop-b.b + 1) (omega (arith, below (goal.at.overflow_add-b c).In-loop-b))
 
 pub loop-b-smaller : goal.loop-b-smaller
 loop-b-smaller c = omega (arith, c.next_change-b-in-loop-b.ensures.0, c.loop-b-test.true)
-
-pub overflow_add-result : goal.overflow_add-result
-overflow_add-result c = record { fits = omega (arith, c.requires.1.down, c.requires.2) }

@@ -1,6 +1,6 @@
 -- `hypothesis::turns::rank_turn` meets its contract. The loop's invariant: the placements of the columns below `a` are ranked. Assumes nothing.
 use mathlib.Core.Path.{ap, ◌∙◌}
-use Prim.Native.Nat.{ℕ, ◌+◌, ◌*◌, ◌/◌, ◌%◌, ◌≤◌, ◌<◌}
+use Prim.Native.Nat.{ℕ, ◌*◌, ◌/◌, ◌%◌, ◌≤◌, ◌<◌}
 use native.Mathlib.Nat.{le_antisymm, mul-le-mul}
 use native.Mathlib.Omega.{arith}
 use Rattle.ranking.specs.declared.Hypothesis.{Hypothesis}
@@ -8,7 +8,6 @@ use Rattle.ranking.specs.declared.Ranking.{Ranking}
 use Rattle.ranking.specs.Ranking.{ranked_to}
 use Rattle.ranking.proofs.RankedTo.{ranked_none, ranked-total, next_column}
 use Rattle.hypothesis.specs.Turns.{moved_to}
-use Rattle.hypothesis.proofs.Moves.{fits-small}
 use Rattle.hypothesis.proofs.turns.rank_turn.Goals as goal
 use Rattle.hypothesis.proofs.turns.rank_turn.Goals.{In-loop-a, Start}
 

@@ -80,9 +80,6 @@ overflow_mul-first c = record { fits = omega (arith, small (goal.at.overflow_mul
 pub overflow_mul-first-in-loop-k : goal.overflow_mul-first-in-loop-k
 overflow_mul-first-in-loop-k c = record { fits = omega (arith, small (goal.at.overflow_mul-first-in-loop-k c).In-loop-k) }
 
-pub overflow_cast-first : goal.overflow_cast-first
-overflow_cast-first c = record { fits = omega (arith, c.requires.3) }
-
 pub overflow_add-first : goal.overflow_add-first
 overflow_add-first c = record { fits = omega (arith, small (goal.at.overflow_add-first c).In-loop-k, c.requires.3) }
 
