@@ -1,5 +1,5 @@
 -- Document 01, "The questions asked": the checks of Match before the search, 1 to 14 in order, with document 02's 22 after 8 and 23 after 12.
-use Rattle.std.specs.Prelude.{ℕ, ◌*◌, Bool, true, ◌&&◌, List, map, leb, ltb, eqb, length, Float, Result, Ok, Err}
+use Rattle.std.specs.Prelude.{ℕ, ◌*◌, Bool, true, ◌&&◌, map, leb, ltb, eqb, length, Float, Result, Ok, Err}
 use Rattle.std.proofs.Math.Option.{Option, none, some}
 use Rattle.std.specs.Float.Ieee.{le}
 use Rattle.std.specs.Float.Ieee.Scale.{finite}
@@ -13,7 +13,7 @@ use Rattle.board.specs.Questions.{asked_of_board}
 use Rattle.score_matrix.specs.declared.BoardMatchConfig.{BoardMatchConfig}
 use Rattle.score_matrix.specs.Table.{is_table}
 use Rattle.shot_record.specs.Fields.{grid_size}
-use Rattle.shot_record.specs.Shots.{Sample, Cell, Shot, shot, parse}
+use Rattle.shot_record.specs.Shots.{Sample, Cell, Shot}
 use Rattle.shot_record.specs.Answers.{of_pattern, config_of, spec_of}
 use Rattle.points.specs.Points.{all_apart}
 use Rattle.hypothesis.specs.Placements.{cell, cell_point}

@@ -10,7 +10,6 @@ ghost use Rattle.shot_record.specs.Answers.{of_pattern};
 ghost use Rattle.shot_record.specs.Index.{Index};
 ghost use Rattle.hypothesis.specs.Search.{enumerate};
 ghost use Rattle.hypothesis.specs.declared.Inputs.{Inputs};
-ghost use Rattle.hypothesis.specs.Inputs.{Loaded};
 ghost use Rattle.board_match.specs.Questions.{asked_before15, after_record, asked_with};
 ghost use Rattle.board_match.specs.Match.{match_answer, match_list, Gives};
 ghost use Rattle.board_match.specs.Scores.{scored_answer, scored_list, scores_left, GivesScored};
@@ -120,7 +119,8 @@ fn match_scored(
     place_found(loaded, found, markers)
 }
 
-// Reads table, codes and index of a record, and checks questions 21, 1 to 14, 22 and 23. (a) The arrays are the caller's: no heap. At entry `table` is the built-in one, and `codes` is cleared.
+// Reads table, codes and index of a record, and checks questions 21, 1 to 14, 22 and 23. At entry `table` is the built-in one, and `codes` is cleared.
+// (a) The three arrays are the caller's: there is no heap, and a struct of them by value would be a copy on the stack.
 fn load<'a>(
     table: &'a mut [f32; 511],
     codes: &'a mut [u64; 512],

@@ -1,6 +1,6 @@
 -- `board_match::match_board_with_scores` meets its contract. Assumes nothing.
 use mathlib.Core.Path.{◌≡◌, sym, subst}
-use Rattle.std.specs.Prelude.{List, ℕ, Float, Result, Err, length}
+use Rattle.std.specs.Prelude.{List, ℕ, Float, Result, Err}
 use Rattle.std.proofs.lemmas.Result.{err_from_is_err_and}
 use Rattle.refusal.specs.declared.Refusal.{Refusal}
 use Rattle.shot_record.proofs.Reading.{Small}
