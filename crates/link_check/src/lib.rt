@@ -72,8 +72,8 @@ fn check(
     requires { (n ≡ link_count links.now) × (n ≤ 4096) × (36 * n ≤ length violations.old) }
     ensures { Put violations.old violations.new 0 result (words_of_violations (violations_on board mode links.now)) }
 {
-    let mut by_marker = [0; 8192];
-    let mut by_corner = [0; 8192];
+    let mut by_marker: [u16; 8192] = [0; 8192];
+    let mut by_corner: [u16; 8192] = [0; 8192];
     chains::fill_chain(links, n, By::Marker, &mut by_marker);
     chains::fill_chain(links, n, By::MarkerAndCorner, &mut by_corner);
     let chained = ChainedLinks {
