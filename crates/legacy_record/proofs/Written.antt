@@ -149,11 +149,6 @@ module _ (read : Record) (board : Board) (codes : List ℕ) (r : Restatable read
           pub third_place : i₃ ≡ codes_at bytes + 8 * n
           third_place = omega (arith, p₃.end, second-place, ap length codes_are, new.codes-size bytes b w few, same-count_of-codes)
 
-          pub third_long : length l₃ ≡ length l₂
-          third_long =
-              put_length p₃ (omega (arith, second-place, second-long, first-long, room, reach))
-              (omega (arith, third_place, second-long, first-long, room, reach))
-
           tail_is : take (length bytes - i₃) (drop i₃ bytes) ≡ drop (codes_at bytes + 8 * reversed_count s) bytes
           tail_is =
               take_all (length bytes - i₃) (drop i₃ bytes) (omega (arith, length-drop i₃ bytes))

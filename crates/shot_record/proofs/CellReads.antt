@@ -49,9 +49,6 @@ module _ (bytes : List ℕ) (w : Whole bytes) (k : ℕ) (inside : k < cell_count
   abbrev size : ℕ
   size = grid_size (bits_of bytes) (border_of bytes)
 
-  pub starts_inside : cell_at bytes k ≤ length bytes
-  starts_inside = omega (arith, starts_rise bytes k (cell_count bytes) (omega arith), w.end)
-
   pub grid_lies : (sampled bytes k ≡ 0 → ⊥) → grid_from (sample_place bytes k) + size ≤ length bytes
   unfolding cell_at
   grid_lies marked =

@@ -56,12 +56,6 @@ module _ (c : After-put_codes-next) where
       written.third_place c.args.record.now c.args.board c.args.codes.now c.requires.0 c.reversed_on-n.result c.reversed_on-n.ensures c.requires.1
       (map_put (first second)) c.put-next-2.ensures c.put_codes-next.ensures
 
-  long_3 : length c.put_codes-next.new.sheet ≡ length c.args.sheet.now
-  long_3 =
-      written.third_long c.args.record.now c.args.board c.args.codes.now c.requires.0 c.reversed_on-n.result c.reversed_on-n.ensures c.requires.1
-      (map_put (first second)) c.put-next-2.ensures c.put_codes-next.ensures
-      ∙ long_2 second
-
   inside : c.put_codes-next.result ≤ length c.args.record.now.bytes.now
   inside =
       omega (arith, three, written.reach c.args.record.now c.args.board c.args.codes.now c.requires.0 c.reversed_on-n.result c.reversed_on-n.ensures)
