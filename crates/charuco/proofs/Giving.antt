@@ -1,9 +1,7 @@
 -- The values of an error, and equal results. Assumes nothing.
 use mathlib.Core.Path.{◌≡◌, refl, subst}
-use mathlib.Core.Bool.{Bool, true, false, cond}
 use mathlib.Core.List.{List, [], ◌∷◌}
-use Prim.Native.Nat.{ℕ, ◌≤◌}
-use lib.Dec.{eqb, lit≤}
+use Prim.Native.Nat.{ℕ}
 use lib.ListN.{take, get_or}
 use Rattle.refusal.specs.declared.Refusal.{Refusal}
 use Rattle.refusal.specs.declared.Refusal.TheVariants as refusal
@@ -40,14 +38,6 @@ values-are refusal.ScoreListTooShort = refl
 values-are refusal.EvenLegacyBoard = refl
 
 -- END generated values-are
-
--- at most two
-pub few : (n : ℕ) → value_count n ≤ 2
-few n = go (eqb n 7) (eqb n 16) where
-  go : (a b : Bool) → cond a 2 (cond b 1 0) ≤ 2
-  go true b = lit≤ tt
-  go false true = lit≤ tt
-  go false false = lit≤ tt
 
 -- equal results have equal numbers and words
 pub telling : {a b : Answer} {r : ℕ} {lent exit : List ℕ} → a ≡ b → Tells a r lent exit → Tells b r lent exit
