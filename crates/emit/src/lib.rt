@@ -34,7 +34,12 @@ fn emit_expected(
         return at;
     };
     let inputs = loaded.inputs;
-    let grid = index::grid(loaded.bytes, inputs.grid_size, loaded.index, c.cell as usize);
+    let grid = index::grid(
+        loaded.bytes,
+        inputs.grid_size,
+        loaded.index,
+        c.cell as usize,
+    );
     words::emit_marker(c, grid, inputs, loaded.table, markers, at)
 }
 

@@ -21,8 +21,7 @@ use shot_record::index;
 
 // What each bit of a code adds to the scores of a cell with weight above 0.
 fn likelihoods(adds: &mut [f32; 128], loaded: &LoadedShot<'_>, k: usize, weight: f32)
-    requires { (k < cell_total (shot loaded.now.bytes.now)) × (weight ≡ weight_of (shot loaded.now.bytes.now) k)
- }
+    requires { (k < cell_total (shot loaded.now.bytes.now)) × (weight ≡ weight_of (shot loaded.now.bytes.now) k) }
     ensures holds { lt nought weight ≡ true → HoldsLikelihoods (table_of (shot loaded.now.bytes.now))
         (samples_of (shot loaded.now.bytes.now) k) (loaded.now.inputs.board.bits * loaded.now.inputs.board.bits) adds.new }
     ensures rest { KeptFrom nan (2 * (loaded.now.inputs.board.bits * loaded.now.inputs.board.bits)) adds.old adds.new }
@@ -34,7 +33,14 @@ fn likelihoods(adds: &mut [f32; 128], loaded: &LoadedShot<'_>, k: usize, weight:
     let board = inputs.board;
     let grid = index::grid(loaded.bytes, inputs.grid_size, loaded.index, k);
     let threshold = index::threshold(loaded.index, k);
-    cell::bit_likelihoods(adds, loaded.table, grid, threshold, board.bits, board.border_bits);
+    cell::bit_likelihoods(
+        adds,
+        loaded.table,
+        grid,
+        threshold,
+        board.bits,
+        board.border_bits,
+    );
 }
 
 // Adds a cell if its weight is above 0.
@@ -59,6 +65,8 @@ fn add_counted(
     counting::with_counted(contributing, cell)
 }
 
+// `ScoreArray::fill` has the same loop. What is prepared for a turn and for a cell differs, so one loop would need a trait of two more functions with
+// state: no plainer.
 // The sums of a turn over all cells in order, and the counts of contributing cells. A turn without moves has no placement.
 pub fn fill(sums: &mut [f32; 1024], loaded: &LoadedShot<'_>, t: Turn) -> Contributing
     requires { t ≡ turn_of (shot loaded.now.bytes.now) t.turn }

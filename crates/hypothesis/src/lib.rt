@@ -12,9 +12,8 @@ pub mod search;
 mod sums;
 mod turns;
 
-pub use loaded::LoadedShot;
-
 use board::Board;
+pub use loaded::LoadedShot;
 use ranking::Hypothesis;
 use score_matrix::BoardMatchConfig;
 

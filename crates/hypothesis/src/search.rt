@@ -28,7 +28,11 @@ impl TurnSums for LoadedShot<'_> {
 }
 
 // The best placement, its runner-up and the margin between them; none if no turn and translation puts every cell on the board.
-pub(super) fn enumerate<S: TurnSums>(source: &S, inputs: Inputs, index: &[u32; 768]) -> Option<Selection>
+pub(super) fn enumerate<S: TurnSums>(
+    source: &S,
+    inputs: Inputs,
+    index: &[u32; 768],
+) -> Option<Selection>
     requires { (s : Shot) × SearchInput s inputs index.now × S.scores_of source.now s }
     ensures { (s : Shot) → SearchInput s inputs index.now → S.scores_of source.now s → result ≡ enumerate s }
 {

@@ -117,6 +117,7 @@ fn rank_column(
     let down = t.down;
     let mut held = ranking;
     let mut b = next_change(held, sums, contributing, down, a, 0);
+    // No `for`: `next_change` passes over rows.
     while b < down {
         held = ranking::ranked(held, moved_to(sums, contributing, t, a, b));
         b = next_change(held, sums, contributing, down, a, b + 1);

@@ -53,7 +53,14 @@ fn cell_adds(adds: &mut [f32; 128], loaded: &LoadedShot<'_>, k: usize)
         Some(_) => {
             let grid = index::grid(loaded.bytes, inputs.grid_size, loaded.index, k);
             let threshold = index::threshold(loaded.index, k);
-            cell::bit_likelihoods(adds, loaded.table, grid, threshold, board.bits, board.border_bits);
+            cell::bit_likelihoods(
+                adds,
+                loaded.table,
+                grid,
+                threshold,
+                board.bits,
+                board.border_bits,
+            );
         }
     }
 }

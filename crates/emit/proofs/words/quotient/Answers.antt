@@ -9,9 +9,6 @@ use Rattle.emit.proofs.words.quotient.Goals as goal
 small : (bits : ℕ) → bits < 256 → bits * bits ≤ 255 * 255
 small bits h = mul-le-mul {n₂ = 255} {m₂ = 255} (omega arith) (omega arith)
 
-pub overflow_mul-result : goal.overflow_mul-result
-overflow_mul-result c = record { fits = omega (arith, small c.args.bits c.ranges.bits.fits) }
-
 pub int_to_float-result : goal.int_to_float-result
 unfolding in_float
 int_to_float-result c =

@@ -1,1 +1,0 @@
--- `hypothesis::sums::next_move` meets its contract. Assumes nothing.

@@ -1,1 +1,0 @@
--- `hypothesis::turns::count_at` meets its contract. Assumes nothing.
