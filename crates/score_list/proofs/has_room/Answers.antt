@@ -1,5 +1,5 @@
 -- `score_list::has_room` meets its contract. Assumes nothing.
-use mathlib.Core.Path.{◌≡◌, ap}
+use mathlib.Core.Path.{ap}
 use Prim.Native.Nat.{ℕ, ◌*◌}
 use lib.Dec.{leb}
 use Rattle.score_list.proofs.has_room.Goals as goal
