@@ -17,9 +17,7 @@ pub use records::{
     charuco_cell, charuco_code, charuco_grid, charuco_read_header, charuco_table_entry,
 };
 pub use score_matrix::BoardMatchConfig;
-pub use shot_record::{
-    Header, ReadCell, ReadSample, cell, code, grid, read_header, table_entry,
-};
+pub use shot_record::{Header, ReadCell, ReadSample, cell, code, grid, read_header, table_entry};
 
 // Match.
 pub use board_match::{Match, match_board, match_board_with_scores};

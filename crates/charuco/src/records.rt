@@ -102,7 +102,13 @@ fn cell_words(cell: ReadCell) -> [u32; 5]
     let u = coordinate_word(cell.u);
     let v = coordinate_word(cell.v);
     match cell.sample {
-        Some(sample) => [2, u, v, floats::to_bits(sample.fraction), sample.threshold as u32],
+        Some(sample) => [
+            2,
+            u,
+            v,
+            floats::to_bits(sample.fraction),
+            sample.threshold as u32,
+        ],
         None => [1, u, v, 0, 0],
     }
 }

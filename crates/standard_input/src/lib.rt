@@ -31,7 +31,11 @@ fn after_read(done: usize, got: io::Result<usize>) -> io::Result<Option<usize>>
 }
 
 // One read, after the first `done` bytes: how many are read by now, `None` at the end of the input.
-pub fn read_part<R: Read>(reader: &mut R, bytes: &mut [u8], done: usize) -> io::Result<Option<usize>>
+pub fn read_part<R: Read>(
+    reader: &mut R,
+    bytes: &mut [u8],
+    done: usize,
+) -> io::Result<Option<usize>>
     requires { done < length bytes.old }
     ensures step { Goes (length bytes.old) done result }
     ensures before { take done bytes.new ≡ take done bytes.old }

@@ -43,6 +43,7 @@ pub fn short(bits: u32) -> i16 {
 // A number of an output array: the value with these 32 bits, and its bits.
 pub trait Number: Copy {
     fn of_bits(bits: u32) -> Self;
+
     fn bits(self) -> u32;
 }
 
