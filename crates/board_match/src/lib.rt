@@ -38,23 +38,23 @@ pub struct Match {
 
 // Questions 1 to 14, 22 and 23 of a record that passes question 21, for an output array of so many words.
 fn before_15(
-    record: &Record<'_>,
+    input: &Record<'_>,
     table: &[f32; 511],
     codes: &[u64; 512],
     index: &[u32; 768],
     words: usize,
 ) -> Result<Inputs, Refusal>
-    requires { Index record.now.bytes.now index.now × (whole_record record.now.bytes.now ≡ true)
-        × (table.now ≡ map of_pattern (shot record.now.bytes.now).table)
-        × (codes.now ≡ first_codes (shot record.now.bytes.now)) }
-    ensures { result ≡ asked_with (asked_before15 (shot record.now.bytes.now) words) (shot record.now.bytes.now) }
+    requires { Index input.now.bytes.now index.now × (whole_record input.now.bytes.now ≡ true)
+        × (table.now ≡ map of_pattern (shot input.now.bytes.now).table)
+        × (codes.now ≡ first_codes (shot input.now.bytes.now)) }
+    ensures { result ≡ asked_with (asked_before15 (shot input.now.bytes.now) words) (shot input.now.bytes.now) }
 {
-    let board = record.board(codes)?;
-    let config = record.config();
-    questions::from_9(record, config, table, index, words)?;
+    let board = input.board(codes)?;
+    let config = input.config();
+    questions::from_9(input, config, table, index, words)?;
     Ok(Inputs {
-        cells: record.fields.cell_count,
-        grid_size: record.fields.grid_size,
+        cells: input.fields.cell_count,
+        grid_size: input.fields.grid_size,
         board,
         config,
     })
@@ -120,7 +120,7 @@ fn match_scored(
 }
 
 // Reads table, codes and index of a record, and checks questions 21, 1 to 14, 22 and 23. At entry `table` is the built-in one, and `codes` is cleared.
-// (a) The three arrays are the caller's: there is no heap, and a struct of them by value would be a copy on the stack.
+// The three arrays are the caller's: there is no heap, and a struct of them by value would be a copy on the stack.
 fn load<'a>(
     table: &'a mut [f32; 511],
     codes: &'a mut [u64; 512],

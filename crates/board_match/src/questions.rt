@@ -14,7 +14,7 @@ use refusal::Refusal;
 use score_matrix::{BoardMatchConfig, table};
 use shot_record::{Record, index};
 
-// (d) Two tests as in the definition: `contains` would compare two f32 values by `partial_cmp`.
+// Two tests as in the definition: `contains` would compare two f32 values by `partial_cmp`.
 fn in_unit_interval(x: f32) -> bool
     ensures { result ≡ in_unit_interval x }
 {
@@ -32,11 +32,11 @@ fn settings(config: BoardMatchConfig) -> bool
 }
 
 // Question 10. Only the record's own table is checked: the built-in one passes.
-fn table_passes(record: &Record<'_>, entries: &[f32; 511]) -> bool
-    requires { entries.now ≡ map of_pattern (shot record.now.bytes.now).table }
-    ensures { result ≡ table_answer (shot record.now.bytes.now) }
+fn table_passes(input: &Record<'_>, entries: &[f32; 511]) -> bool
+    requires { entries.now ≡ map of_pattern (shot input.now.bytes.now).table }
+    ensures { result ≡ table_answer (shot input.now.bytes.now) }
 {
-    !record.sets_table() || table::is_table(entries)
+    !input.sets_table() || table::is_table(entries)
 }
 
 fn within(z: i16) -> bool
@@ -75,23 +75,23 @@ fn all_sampled(index: &[u32; 768], count: usize) -> bool
 
 // Questions 9 to 14, with 23 after 12.
 pub fn from_9(
-    record: &Record<'_>,
+    input: &Record<'_>,
     config: BoardMatchConfig,
     entries: &[f32; 511],
     index: &[u32; 768],
     words: usize,
 ) -> Result<(), Refusal>
-    requires { Index record.now.bytes.now index.now × (whole_record record.now.bytes.now ≡ true) × (config ≡ config_of (shot record.now.bytes.now))
-        × (entries.now ≡ map of_pattern (shot record.now.bytes.now).table) }
-    ensures { result ≡ told_answer (asked_from9 (shot record.now.bytes.now) words none) }
+    requires { Index input.now.bytes.now index.now × (whole_record input.now.bytes.now ≡ true) × (config ≡ config_of (shot input.now.bytes.now))
+        × (entries.now ≡ map of_pattern (shot input.now.bytes.now).table) }
+    ensures { result ≡ told_answer (asked_from9 (shot input.now.bytes.now) words none) }
 {
     if !settings(config) {
         return Err(Refusal::InvalidSettings);
     }
-    if !table_passes(record, entries) {
+    if !table_passes(input, entries) {
         return Err(Refusal::InvalidTable);
     }
-    let count = record.fields.cell_count;
+    let count = input.fields.cell_count;
     if count == 0 {
         return Err(Refusal::NoCells);
     }

@@ -25,7 +25,7 @@ fn score_after(scores: &[f32], first: usize, cell: Counted, at: Move) -> f32
     scores[first + 4 * id]
 }
 
-// Adds a cell to the sums of all placements of a turn.
+// Adds a cell to the sums of all placements of a turn. `sums::add_cell` computes the scores of eight moves at a time; here each is read.
 fn add_cell(
     sums: &mut [f32; 1024],
     cell: Counted,
@@ -45,7 +45,7 @@ fn add_cell(
     }
 }
 
-// Adds a cell if its weight is above 0.
+// Adds a cell if its weight is above 0: `fill::add_counted` over another `add_cell`, which as a closure would be no plainer.
 fn add_counted(
     sums: &mut [f32; 1024],
     contributing: Contributing,

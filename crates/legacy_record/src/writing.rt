@@ -69,15 +69,15 @@ fn put_codes(sheet: &mut [u8], at: usize, codes: &[u64; 512], bits: u8, n: usize
 }
 
 // Writes the new record: the map byte, the bytes up to the codes, the codes that change, and the rest.
-fn put_restated(board: Board, record: &Record<'_>, codes: &[u64; 512], sheet: &mut [u8])
-    requires { Restatable record.now.bytes.now board codes.now
-        × (length record.now.bytes.now ≤ length sheet.old) }
-    ensures { sheet.new ≡ in_front (restated_bytes record.now.bytes.now (shot record.now.bytes.now)) sheet.old }
+fn put_restated(board: Board, input: &Record<'_>, codes: &[u64; 512], sheet: &mut [u8])
+    requires { Restatable input.now.bytes.now board codes.now
+        × (length input.now.bytes.now ≤ length sheet.old) }
+    ensures { sheet.new ≡ in_front (restated_bytes input.now.bytes.now (shot input.now.bytes.now)) sheet.old }
 {
-    let bytes = record.bytes;
+    let bytes = input.bytes;
     let n = reversed_on(board);
-    let codes_at = record.fields.rows_at + 14;
-    let mut next = lent_list::put(sheet, 0, &[without_flag(record.fields.map)]);
+    let codes_at = input.fields.rows_at + 14;
+    let mut next = lent_list::put(sheet, 0, &[without_flag(input.fields.map)]);
     next = lent_list::put(sheet, next, &bytes[next..codes_at]);
     next = put_codes(sheet, next, codes, board.bits, n);
     lent_list::put(sheet, next, &bytes[next..]);
@@ -86,23 +86,23 @@ fn put_restated(board: Board, record: &Record<'_>, codes: &[u64; 512], sheet: &m
 // Questions 25 and 14, then the new record.
 pub fn restate_on(
     board: Board,
-    record: &Record<'_>,
+    input: &Record<'_>,
     codes: &[u64; 512],
     sheet: &mut [u8],
 ) -> Result<usize, Refusal>
-    requires { Restatable record.now.bytes.now board codes.now }
+    requires { Restatable input.now.bytes.now board codes.now }
     ensures answer { result
-        ≡ converted_by (asked_from25 board (length record.now.bytes.now) (length sheet.old)) (length record.now.bytes.now) }
-    ensures list { sheet.new ≡ at_exit (asked_from25 board (length record.now.bytes.now) (length sheet.old))
-        (restated_bytes record.now.bytes.now (shot record.now.bytes.now)) sheet.old }
+        ≡ converted_by (asked_from25 board (length input.now.bytes.now) (length sheet.old)) (length input.now.bytes.now) }
+    ensures list { sheet.new ≡ at_exit (asked_from25 board (length input.now.bytes.now) (length sheet.old))
+        (restated_bytes input.now.bytes.now (shot input.now.bytes.now)) sheet.old }
 {
     if !sides(board) {
         return Err(Refusal::EvenLegacyBoard);
     }
-    let size = record.bytes.len();
+    let size = input.bytes.len();
     if sheet.len() < size {
         return Err(Refusal::ListTooShort);
     }
-    put_restated(board, record, codes, sheet);
+    put_restated(board, input, codes, sheet);
     Ok(size)
 }

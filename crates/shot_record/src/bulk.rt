@@ -17,23 +17,23 @@ fn put_table(entries: &mut [f32; 511], bytes: &[u8], at: usize)
 }
 
 // Writes the record's own table, if it has one, over the built-in one, so that no array is copied.
-pub fn table(entries: &mut [f32; 511], record: &Record<'_>)
+pub fn table(entries: &mut [f32; 511], input: &Record<'_>)
     requires { entries.old ≡ built_in }
-    ensures { entries.new ≡ map of_pattern (shot record.now.bytes.now).table }
+    ensures { entries.new ≡ map of_pattern (shot input.now.bytes.now).table }
 {
-    if record.sets_table() {
-        put_table(entries, record.bytes, record.fields.table_at);
+    if input.sets_table() {
+        put_table(entries, input.bytes, input.fields.table_at);
     }
 }
 
 // The first 512 codes, enough for every marker that a board can have; 0 after the last. Writes to an array that the caller has cleared, so that no
 // array is copied.
-pub fn codes(codes: &mut [u64; 512], record: &Record<'_>)
+pub fn codes(codes: &mut [u64; 512], input: &Record<'_>)
     requires { codes.old ≡ replicate 512 0 }
-    ensures { codes.new ≡ first_codes (shot record.now.bytes.now) }
+    ensures { codes.new ≡ first_codes (shot input.now.bytes.now) }
 {
-    let count = record.fields.code_count.min(512);
+    let count = input.fields.code_count.min(512);
     for k in 0..count {
-        codes[k] = record.code(k);
+        codes[k] = input.code(k);
     }
 }

@@ -11,20 +11,20 @@ use super::cells::Cursor;
 use super::{Record, numbers};
 
 // The words of one cell of a well-formed record.
-fn words(record: &Record<'_>, c: Cursor) -> [u32; 3]
-    requires { AtCell record.now.bytes.now c × (whole_record record.now.bytes.now ≡ true) }
-    ensures { result ≡ words_of record.now.bytes.now c.cell }
+fn words(input: &Record<'_>, c: Cursor) -> [u32; 3]
+    requires { AtCell input.now.bytes.now c × (whole_record input.now.bytes.now ≡ true) }
+    ensures { result ≡ words_of input.now.bytes.now c.cell }
 {
-    let point = record.point(c);
-    if !record.is_sampled(c.cell) {
+    let point = input.point(c);
+    if !input.is_sampled(c.cell) {
         return [point, 0, 0];
     }
-    let place = record.sample_place(c);
+    let place = input.sample_place(c);
     let grid = (place + 5) as u32;
     [
         point,
-        numbers::four_at(record.bytes, place),
-        grid * 256 + numbers::byte_at(record.bytes, place + 4) as u32,
+        numbers::four_at(input.bytes, place),
+        grid * 256 + numbers::byte_at(input.bytes, place + 4) as u32,
     ]
 }
 
@@ -39,16 +39,16 @@ fn put(index: &mut [u32; 768], k: usize, words: &[u32; 3])
 }
 
 // Covers the first 256 cells of a record that passes question 21. Elements after their words do not change.
-pub fn fill(index: &mut [u32; 768], record: &Record<'_>)
-    requires { whole_record record.now.bytes.now ≡ true }
-    ensures filled { Index record.now.bytes.now index.new }
-    ensures kept { KeptFrom 0 (3 * cell_count record.now.bytes.now) index.old index.new }
+pub fn fill(index: &mut [u32; 768], input: &Record<'_>)
+    requires { whole_record input.now.bytes.now ≡ true }
+    ensures filled { Index input.now.bytes.now index.new }
+    ensures kept { KeptFrom 0 (3 * cell_count input.now.bytes.now) index.old index.new }
 {
-    let count = record.fields.cell_count.min(256);
-    let mut c = record.first();
+    let count = input.fields.cell_count.min(256);
+    let mut c = input.first();
     for k in 0..count {
-        put(index, k, &words(record, c));
-        c = record.next(c);
+        put(index, k, &words(input, c));
+        c = input.next(c);
     }
 }
 

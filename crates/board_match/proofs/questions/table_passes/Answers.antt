@@ -16,4 +16,4 @@ returns-then-not-sets_table c =
     let e = c.if-not-sets_table.true in
     ap not e
     ∙ sym (is_true (is_table built_in) built_in-passes)
-    ∙ ap (λ (l : List ℕ). is_table (map of_pattern l)) (sym (built_in-table _ _ c.args.record.now.located c.sets_table.result c.sets_table.ensures e))
+    ∙ ap (λ (l : List ℕ). is_table (map of_pattern l)) (sym (built_in-table _ _ c.args.input.now.located c.sets_table.result c.sets_table.ensures e))

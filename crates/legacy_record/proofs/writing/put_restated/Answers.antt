@@ -11,38 +11,38 @@ use Rattle.legacy_record.proofs.writing.put_restated.Goals.{After-put-next, Afte
 
 -- ---- the record, and the number of codes
 module _ (c : After-reversed_on-n) where
-  at : c.args.record.now.fields.rows_at + 14 ≡ codes_at c.args.record.now.bytes.now
-  at = written.codes_at_lem c.args.record.now c.args.board c.args.codes.now c.requires.0
+  at : c.args.input.now.fields.rows_at + 14 ≡ codes_at c.args.input.now.bytes.now
+  at = written.codes_at_lem c.args.input.now c.args.board c.args.codes.now c.requires.0
 
-  reach : codes_at c.args.record.now.bytes.now + 8 * c.reversed_on-n.result ≤ length c.args.record.now.bytes.now
-  reach = written.reach c.args.record.now c.args.board c.args.codes.now c.requires.0 c.reversed_on-n.result c.reversed_on-n.ensures
+  reach : codes_at c.args.input.now.bytes.now + 8 * c.reversed_on-n.result ≤ length c.args.input.now.bytes.now
+  reach = written.reach c.args.input.now c.args.board c.args.codes.now c.requires.0 c.reversed_on-n.result c.reversed_on-n.ensures
 
 -- ---- after the map byte
 module _ (c : After-put-next) where
-  map_put : Put c.args.sheet.now c.put-next.new.list 0 c.put-next.result (without_flag c.args.record.now.fields.map ∷ [])
+  map_put : Put c.args.sheet.now c.put-next.new.list 0 c.put-next.result (without_flag c.args.input.now.fields.map ∷ [])
   map_put = put_as (ap (λ (x : ℕ). x ∷ []) c.without_flag.ensures) c.put-next.ensures
 
   one : c.put-next.result ≡ 1
   one =
-      written.first-place c.args.record.now c.args.board c.args.codes.now c.requires.0 c.reversed_on-n.result c.reversed_on-n.ensures c.requires.1 map_put
+      written.first-place c.args.input.now c.args.board c.args.codes.now c.requires.0 c.reversed_on-n.result c.reversed_on-n.ensures c.requires.1 map_put
 
   long : length c.put-next.new.list ≡ length c.args.sheet.now
   long =
-      written.first-long c.args.record.now c.args.board c.args.codes.now c.requires.0 c.reversed_on-n.result c.reversed_on-n.ensures c.requires.1 map_put
+      written.first-long c.args.input.now c.args.board c.args.codes.now c.requires.0 c.reversed_on-n.result c.reversed_on-n.ensures c.requires.1 map_put
 
 -- ---- after the bytes up to the codes
 module _ (c : After-put-next-2) where
   abbrev first : After-put-next
   first = (goal.at.After-put-next-2 c).After-put-next
 
-  two : c.put-next-2.result ≡ codes_at c.args.record.now.bytes.now
+  two : c.put-next-2.result ≡ codes_at c.args.input.now.bytes.now
   two =
-      written.second-place c.args.record.now c.args.board c.args.codes.now c.requires.0 c.reversed_on-n.result c.reversed_on-n.ensures c.requires.1
+      written.second-place c.args.input.now c.args.board c.args.codes.now c.requires.0 c.reversed_on-n.result c.reversed_on-n.ensures c.requires.1
       (map_put first) c.put-next-2.ensures
 
   long_2 : length c.put-next-2.new.list ≡ length c.args.sheet.now
   long_2 =
-      written.second-long c.args.record.now c.args.board c.args.codes.now c.requires.0 c.reversed_on-n.result c.reversed_on-n.ensures c.requires.1
+      written.second-long c.args.input.now c.args.board c.args.codes.now c.requires.0 c.reversed_on-n.result c.reversed_on-n.ensures c.requires.1
       (map_put first) c.put-next-2.ensures
       ∙ long first
 
@@ -51,19 +51,19 @@ module _ (c : After-put_codes-next) where
   abbrev second : After-put-next-2
   second = (goal.at.After-put_codes-next c).After-put-next-2
 
-  three : c.put_codes-next.result ≡ codes_at c.args.record.now.bytes.now + 8 * c.reversed_on-n.result
+  three : c.put_codes-next.result ≡ codes_at c.args.input.now.bytes.now + 8 * c.reversed_on-n.result
   three =
-      written.third_place c.args.record.now c.args.board c.args.codes.now c.requires.0 c.reversed_on-n.result c.reversed_on-n.ensures c.requires.1
+      written.third_place c.args.input.now c.args.board c.args.codes.now c.requires.0 c.reversed_on-n.result c.reversed_on-n.ensures c.requires.1
       (map_put (first second)) c.put-next-2.ensures c.put_codes-next.ensures
 
-  inside : c.put_codes-next.result ≤ length c.args.record.now.bytes.now
+  inside : c.put_codes-next.result ≤ length c.args.input.now.bytes.now
   inside =
-      omega (arith, three, written.reach c.args.record.now c.args.board c.args.codes.now c.requires.0 c.reversed_on-n.result c.reversed_on-n.ensures)
+      omega (arith, three, written.reach c.args.input.now c.args.board c.args.codes.now c.requires.0 c.reversed_on-n.result c.reversed_on-n.ensures)
 
 pub overflow_add-codes_at : goal.overflow_add-codes_at
 overflow_add-codes_at c =
     let n = (goal.at.overflow_add-codes_at c).After-reversed_on-n in
-    omega (arith, at n, reach n, (passed c.args.record.now.bytes.now c.requires.0.whole).size)
+    omega (arith, at n, reach n, (passed c.args.input.now.bytes.now c.requires.0.whole).size)
 
 pub put-next-requires : goal.put-next-requires
 put-next-requires c =
@@ -77,7 +77,7 @@ slice_bounds-put-end-2 c =
 
 pub put_codes-next-requires : goal.put_codes-next-requires
 put_codes-next-requires c =
-    let r = c.args.record.now in
+    let r = c.args.input.now in
     let n = (goal.at.put_codes-next-requires c).After-reversed_on-n in
     let s = (goal.at.put_codes-next-requires c).After-put-next-2 in (
       written.count-few r c.args.board c.args.codes.now c.requires.0 c.reversed_on-n.result c.reversed_on-n.ensures,
@@ -94,5 +94,5 @@ slice_bounds-put-start-2 c = inside (goal.at.slice_bounds-put-start-2 c).After-p
 pub returns : goal.returns
 returns c =
     let s = second (goal.at.returns c).After-put_codes-next in
-    written.all_put c.args.record.now c.args.board c.args.codes.now c.requires.0 c.reversed_on-n.result c.reversed_on-n.ensures c.requires.1
+    written.all_put c.args.input.now c.args.board c.args.codes.now c.requires.0 c.reversed_on-n.result c.reversed_on-n.ensures c.requires.1
     (map_put (first s)) c.put-next-2.ensures c.put_codes-next.ensures c.put.ensures

@@ -15,15 +15,15 @@ use Rattle.legacy_record.proofs.writing.restate_on.Goals.{Start}
 -- what was promised, from the answers of the two questions
 module _ (c : Start) where
   abbrev last : Option Refusal
-  last = asked_from25 c.args.board (length c.args.record.now.bytes.now) (length c.args.sheet.now)
+  last = asked_from25 c.args.board (length c.args.input.now.bytes.now) (length c.args.sheet.now)
 
-  answered : (a b : Bool) (o : Option Refusal) → sides_answer c.args.board ≡ a → leb (length c.args.record.now.bytes.now) (length c.args.sheet.now) ≡ b
+  answered : (a b : Bool) (o : Option Refusal) → sides_answer c.args.board ≡ a → leb (length c.args.input.now.bytes.now) (length c.args.sheet.now) ≡ b
       → ask a refusal.EvenLegacyBoard (ask b refusal.ListTooShort none) ≡ o
-      → (converted_by o (length c.args.record.now.bytes.now) ≡ converted_by last (length c.args.record.now.bytes.now))
-      × (at_exit o (restated_bytes c.args.record.now.bytes.now (shot c.args.record.now.bytes.now)) c.args.sheet.now
-      ≡ at_exit last (restated_bytes c.args.record.now.bytes.now (shot c.args.record.now.bytes.now)) c.args.sheet.now)
+      → (converted_by o (length c.args.input.now.bytes.now) ≡ converted_by last (length c.args.input.now.bytes.now))
+      × (at_exit o (restated_bytes c.args.input.now.bytes.now (shot c.args.input.now.bytes.now)) c.args.sheet.now
+      ≡ at_exit last (restated_bytes c.args.input.now.bytes.now (shot c.args.input.now.bytes.now)) c.args.sheet.now)
   answered a b o e f g =
-      let bytes = c.args.record.now.bytes.now in
+      let bytes = c.args.input.now.bytes.now in
       let new = restated_bytes bytes (shot bytes) in
       told c.args.board (length bytes) new c.args.sheet.now o (asked c.args.board (length bytes) new c.args.sheet.now a b e f ∙ g)
 
@@ -34,12 +34,12 @@ returns-then-not-sides c =
 
 pub returns-then-sheet-size : goal.returns-then-sheet-size
 returns-then-sheet-size c =
-    let short = lt-leb (length c.args.record.now.bytes.now) (length c.args.sheet.now) c.if-sheet-size.true in
+    let short = lt-leb (length c.args.input.now.bytes.now) (length c.args.sheet.now) c.if-sheet-size.true in
     let t = answered (goal.at.returns-then-sheet-size c).Start true false (some refusal.ListTooShort) (sym c.sides.ensures ∙ c.if-not-sides.false) short refl in
     record { answer = t.0; list = t.1 }
 
 pub returns : goal.returns
 returns c =
-    let room = le-leb (length c.args.record.now.bytes.now) (length c.args.sheet.now) c.if-sheet-size.false in
+    let room = le-leb (length c.args.input.now.bytes.now) (length c.args.sheet.now) c.if-sheet-size.false in
     let t = answered (goal.at.returns c).Start true true none (sym c.sides.ensures ∙ c.if-not-sides.false) room refl in
     record { answer = t.0; list = c.put_restated.ensures ∙ t.1 }

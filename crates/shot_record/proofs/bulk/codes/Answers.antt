@@ -18,9 +18,9 @@ loop-k-init c =
 
 pub loop-k-preserved : goal.loop-k-preserved
 loop-k-preserved c =
-    let bytes = c.args.record.now.bytes.now in
+    let bytes = c.args.input.now.bytes.now in
     let l = c.loop-k in
-    let f = found_in c.args.record.now in
+    let f = found_in c.args.input.now in
     let code = c.code.ensures ∙ code_is bytes l.k (omega arith) in
     record {
       filled = one_more (code_of bytes) 0 l.codes 512 l.k c.code.result (omega arith) l.invariant.filled code;
@@ -29,9 +29,9 @@ loop-k-preserved c =
 
 pub returns : goal.returns
 returns c =
-    let bytes = c.args.record.now.bytes.now in
+    let bytes = c.args.input.now.bytes.now in
     let l = c.loop-k in
-    let f = found_in c.args.record.now in
+    let f = found_in c.args.input.now in
     let past : (i : ℕ) → c.min-count.result ≤ i → i < 512 → code_of bytes i ≡ 0
     = λ i b h. get_or-eq_default (shot bytes).codes 0 (omega (arith, code_count_is bytes)) in
     all_filled (code_of bytes) 0 l.codes 512 512

@@ -9,4 +9,4 @@ code_of bytes k = get_or (shot bytes).codes k 0
 
 abbrev pub invariant-loop-k : goal.invariant-loop-k
 invariant-loop-k l =
-    record { filled : Filled (code_of l.record.bytes.now) 0 l.codes 512 l.k; clear : (i : ℕ) → l.k ≤ i → i < 512 → get_or l.codes i 0 ≡ 0 }
+    record { filled : Filled (code_of l.input.bytes.now) 0 l.codes 512 l.k; clear : (i : ℕ) → l.k ≤ i → i < 512 → get_or l.codes i 0 ≡ 0 }

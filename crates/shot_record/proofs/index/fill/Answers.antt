@@ -62,8 +62,8 @@ module _ (bytes index words : List ℕ) (k : ℕ) (inside : k < 256) (size : len
             grid = other-words (3 * j + 2) (λ x y. absurd (omega arith)) ∙ old.grid;
           }
 
-walk : (c : In-loop-k) → AtCell c.args.record.now.bytes.now c.loop-k.c
-walk c = at-cell c.args.record.now c.loop-k.c c.loop-k.k c.loop-k.invariant.cursor (omega arith)
+walk : (c : In-loop-k) → AtCell c.args.input.now.bytes.now c.loop-k.c
+walk c = at-cell c.args.input.now c.loop-k.c c.loop-k.k c.loop-k.invariant.cursor (omega arith)
 
 pub words-requires : goal.words-requires
 words-requires c = (walk (goal.at.words-requires c).In-loop-k, c.requires)
@@ -73,10 +73,10 @@ next-c-requires c = walk (goal.at.next-c-requires c).In-loop-k
 
 pub loop-k-preserved : goal.loop-k-preserved
 loop-k-preserved c =
-    let bytes = c.args.record.now.bytes.now in
+    let bytes = c.args.input.now.bytes.now in
     let l = c.loop-k in
     let k = l.k in
-    let f = found_in c.args.record.now in
+    let f = found_in c.args.input.now in
     let low : k < 256 = omega arith in
     let size : length l.index ≡ 768 = sym (simp length-set at (ap length c.put.ensures)) ∙ c.put.array_long in
     let cell = ap (λ (d : Cursor). d.cell) l.invariant.cursor in
@@ -91,7 +91,7 @@ loop-k-preserved c =
 
 pub returns-clause-filled : goal.returns-clause-filled
 returns-clause-filled c = λ n h t.
-    let r = c.args.record.now in
+    let r = c.args.input.now in
     let f = found_in r in
     let words = c.loop-k.invariant.filled n (omega arith) in
     entry_of r.bytes.now c.loop-k.index n r.small words.point words.fraction words.grid

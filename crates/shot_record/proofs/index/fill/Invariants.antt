@@ -15,7 +15,7 @@ pub record Words (bytes index : List ℕ) (k : ℕ) : Type 0 where
 abbrev pub invariant-loop-k : goal.invariant-loop-k
 invariant-loop-k l =
     record {
-      cursor : l.c ≡ cursor_at l.record.bytes.now l.k;
-      filled : (j : ℕ) → j < l.k → Words l.record.bytes.now l.index j;
-      kept : KeptFrom 0 (3 * cell_count l.record.bytes.now) l.initial.index l.index;
+      cursor : l.c ≡ cursor_at l.input.bytes.now l.k;
+      filled : (j : ℕ) → j < l.k → Words l.input.bytes.now l.index j;
+      kept : KeptFrom 0 (3 * cell_count l.input.bytes.now) l.initial.index l.index;
     }

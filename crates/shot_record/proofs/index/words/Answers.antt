@@ -23,7 +23,7 @@ lies bytes k w inside e =
 -- its offset is inside the record
 near : (c : After-sample_place-place) → grid_from c.sample_place-place.result ≤ 65535
 near c =
-    let bytes = c.args.record.now.bytes.now in
+    let bytes = c.args.input.now.bytes.now in
     omega (arith, c.sample_place-place.ensures, lies bytes c.args.c.cell c.requires.1 c.requires.0.1 (sym c.if-not-is_sampled.false ∙ c.is_sampled.ensures))
 
 pub overflow_add-grid : goal.overflow_add-grid
@@ -46,7 +46,7 @@ overflow_add-result c = omega (arith, near (goal.at.overflow_add-result c).After
 
 pub returns : goal.returns
 returns c =
-    let bytes = c.args.record.now.bytes.now in
+    let bytes = c.args.input.now.bytes.now in
     let k = c.args.c.cell in
     with_sample bytes (sampled bytes k) c.sample_place-place.result (sample_place bytes k) (point_of bytes k) c.point-point.result
     c.four_at.result c.byte_at.result (flag_set (cell_map bytes) k c.is_sampled.ensures c.if-not-is_sampled.false) c.sample_place-place.ensures
