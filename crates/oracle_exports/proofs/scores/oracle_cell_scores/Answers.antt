@@ -1,5 +1,5 @@
 -- `oracle_exports::scores::oracle_cell_scores` meets its contract. Assumes nothing.
-use mathlib.Core.Path.{refl, sym, subst, ◌∙◌}
+use mathlib.Core.Path.{sym, subst, ◌∙◌}
 use Prim.Native.Nat.{◌*◌}
 use lib.Dec.{T}
 use lib.ListN.{length, get_or}
@@ -11,10 +11,8 @@ use Rattle.oracle_exports.proofs.scores.oracle_cell_scores.Goals as goal
 pub bit_likelihoods-requires : goal.bit_likelihoods-requires
 bit_likelihoods-requires c =
     let s = c.args in
-    let w = whole (length s.grid.now) s.bits s.border (sym c.is_whole.ensures ∙ c.if-is_whole.true) in record {
-      bits_bound = (w.0, refl);
-      grid_len = w.1;
-    }
+    let w = whole (length s.grid.now) s.bits s.border (sym c.is_whole.ensures ∙ c.if-is_whole.true) in
+    record { bits_bound = w.0; grid_len = w.1 }
 
 pub fill_scores-requires : goal.fill_scores-requires
 fill_scores-requires c =
