@@ -8,7 +8,8 @@ use lib.ListN.{length, take, drop, set, length-append, length-take, length-drop,
 use lib.Seq.{take-nil, drop-nil}
 use Rattle.lent_list.specs.Front.{in_front}
 use Rattle.lent_list.proofs.Front.{front_length}
-use Rattle.place_text.specs.Writing.{printed_at, Printed}
+use Rattle.place_text.specs.Writing.{printed_at, Printed, Wrote}
+use Rattle.place_text.specs.declared.writer.Page.{Page}
 
 -- an empty array stores nothing
 no_place : (i : ℕ) (vs : List ℕ) → printed_at i vs [] ≡ []
@@ -39,23 +40,12 @@ printed_length {us} {at} {m} {a} p =
     ap length p.stored ∙ length-append (take at a) (in_front us (drop at a))
     ∙ omega (arith, length-take at a, length-drop at a, front_length us (drop at a))
 
--- one after the other
-pub then : {us vs : List ℕ} {at m r : ℕ} {a b c : List ℕ} → Printed us at m a b → Printed vs m r b c → Printed (us ++ vs) at r a c
-then {us} {vs} {at} {m} {r} {a} p q =
-    record {
-      stored = q.stored ∙ ap (printed_at m vs) p.stored ∙ joined at m us vs a p.place;
-      place = omega (arith, p.place, q.place, printed_length p, length-append us vs);
-    }
-
-pub said : {us vs : List ℕ} {at r : ℕ} {a b : List ℕ} → us ≡ vs → Printed us at r a b → Printed vs at r a b
-said {at = at} {r = r} {a = a} {b = b} e p = subst (λ (d : List ℕ). Printed d at r a b) e p
-
-pub byte : {u v : ℕ} {at r : ℕ} {a b : List ℕ} → u ≡ v → Printed (u ∷ []) at r a b → Printed (v ∷ []) at r a b
-byte e p = said (ap (λ (d : ℕ). d ∷ []) e) p
-
 -- nothing is printed
 pub nothing : {at r : ℕ} {a : List ℕ} → r ≡ min at (length a) → Printed [] at r a a
 nothing {at} {r} {a} e = record { stored = sym (ap (λ (d : List ℕ). take at a ++ d) (no_bytes (drop at a)) ∙ take-append-drop at a); place = omega (arith, e) }
+
+pub said_text : {us vs : List ℕ} {at r : ℕ} {a b : List ℕ} → us ≡ vs → Printed us at r a b → Printed vs at r a b
+said_text {at = at} {r = r} {a = a} {b = b} e p = subst (λ (d : List ℕ). Printed d at r a b) e p
 
 -- what is printed from index 0 on
 pub whole_text : {vs : List ℕ} {r : ℕ} {a b : List ℕ} → Printed vs 0 r a b → b ≡ in_front vs a
@@ -63,3 +53,25 @@ whole_text p = p.stored
 
 pub whole_length : {vs : List ℕ} {r : ℕ} {a b : List ℕ} → Printed vs 0 r a b → r ≡ min (length vs) (length a)
 whole_length {vs} {r} {a} p = p.place ∙ ap (λ (n : ℕ). min n (length a)) (zero-add (length vs))
+
+-- on a page one after the other
+pub then : {us vs : List ℕ} {a b c : Page} → Wrote us a b → Wrote vs b c → Wrote (us ++ vs) a c
+then {us} {vs} {a} v w =
+    let p = v.printed in
+    let q = w.printed in record {
+      printed = record {
+          stored = q.stored ∙ ap (printed_at _ vs) p.stored ∙ joined a.at _ us vs a.text.now p.place;
+          place = omega (arith, p.place, q.place, printed_length p, length-append us vs);
+        };
+      same_array = w.same_array ∙ v.same_array;
+    }
+
+pub said : {us vs : List ℕ} {a b : Page} → us ≡ vs → Wrote us a b → Wrote vs a b
+said {a = a} {b = b} e p = subst (λ (d : List ℕ). Wrote d a b) e p
+
+pub byte : {u v : ℕ} {a b : Page} → u ≡ v → Wrote (u ∷ []) a b → Wrote (v ∷ []) a b
+byte e p = said (ap (λ (d : ℕ). d ∷ []) e) p
+
+-- its index is put within its array
+pub not_past : {a : Page} {r : ℕ} → r ≡ min a.at (length a.text.now) → Wrote [] a (record a { at = r })
+not_past e = record { printed = nothing e; same_array = refl }

@@ -7,29 +7,41 @@ ghost use Rattle.board_match.specs.Match.{match_list};
 ghost use Rattle.place_text.specs.Place.{place_text};
 ghost use Rattle.place_text.specs.Text.{match_lines, text_of};
 ghost use Rattle.lent_list.specs.Front.{in_front};
-ghost use Rattle.place_text.specs.Writing.{Printed};
+ghost use Rattle.place_text.specs.Writing.{Wrote};
 
-pub mod lines;
+mod lines;
 mod markers;
-pub mod words;
+mod words;
 pub mod writer;
 
 use board_match::Match;
 use refusal::Refusal;
+use writer::Page;
 
-fn put_match(text: &mut [u8], at: usize, found: Match, markers: &[u32]) -> usize
-    ensures { Printed (match_lines found markers.now) at result text.old text.new }
-{
-    let best = found.best;
-    let runner_up = found.runner_up;
-    let corners = found.corners;
-    let mut next = writer::put_all(text, at, b"placed\n");
-    next = lines::put_hypothesis(text, next, b"best", best);
-    next = lines::put_next(text, next, runner_up);
-    next = lines::put_float(text, next, b"margin", found.margin);
-    next = lines::put_number(text, next, b"placements", found.placements as u64);
-    next = lines::put_corners(text, next, corners);
-    markers::put_markers(text, next, markers, found.markers)
+impl<'a> Page<'a> {
+    fn put_match(&mut self, found: Match, markers: &[u32])
+        ensures { Wrote (match_lines found markers.now) self.old self.new }
+    {
+        let best = found.best;
+        let runner_up = found.runner_up;
+        let corners = found.corners;
+        self.put_all(b"placed\n");
+        self.put_hypothesis(b"best", best);
+        self.put_next(runner_up);
+        self.put_float(b"margin", found.margin);
+        self.put_number(b"placements", found.placements as u64);
+        self.put_corners(corners);
+        self.put_markers(markers, found.markers);
+    }
+
+    fn put_answer(&mut self, answer: Result<Match, Refusal>, markers: &[u32])
+        ensures { Wrote (text_of answer markers.now) self.old self.new }
+    {
+        match answer {
+            Ok(found) => self.put_match(found, markers),
+            Err(refusal) => self.put_refusal(refusal),
+        }
+    }
 }
 
 // Writes the text of `answer`, with the markers' words that Match wrote to `markers`, to the start of the output array, truncated to its length.
@@ -39,10 +51,9 @@ pub fn format(answer: Result<Match, Refusal>, markers: &[u32], text: &mut [u8]) 
     ensures count { result ≡ min (length (text_of answer markers.now)) (length text.old) }
     ensures list { text.new ≡ in_front (text_of answer markers.now) text.old }
 {
-    match answer {
-        Ok(found) => put_match(text, 0, found, markers),
-        Err(refusal) => lines::put_refusal(text, 0, refusal),
-    }
+    let mut page = Page { text, at: 0 };
+    page.put_answer(answer, markers);
+    page.at
 }
 
 // The text of the result for a record, for arrays of any length. It is never longer than 32 KiB.

@@ -2,72 +2,75 @@
 ghost use Rattle.std.specs.Prelude.{[], ◌∷◌};
 ghost use Rattle.place_text.specs.Numerals.{decimal};
 ghost use Rattle.place_text.specs.Text.{line, float_word, hypothesis_line, next_line, corners_line, refusal_line};
-ghost use Rattle.place_text.specs.Writing.{Printed};
+ghost use Rattle.place_text.specs.Writing.{Wrote};
 
-use super::{words, writer};
+use super::writer::Page;
 use grid_alignment::GridAlignment;
 use ranking::Hypothesis;
 use refusal::Refusal;
 
-pub fn put_hypothesis(text: &mut [u8], at: usize, first: &[u8], h: Hypothesis) -> usize
-    ensures { Printed (hypothesis_line first.now h) at result text.old text.new }
-{
-    let a = h.alignment;
-    let evidence = h.evidence;
-    let mut next = writer::put_all(text, at, first);
-    next = words::and_decimal(text, next, a.turn as u64);
-    next = words::and_signed(text, next, a.tx);
-    next = words::and_signed(text, next, a.ty);
-    next = words::and_evidence(text, next, evidence);
-    next = words::and_decimal(text, next, h.contributing_cells as u64);
-    writer::put(text, next, b'\n')
-}
-
-pub fn put_next(text: &mut [u8], at: usize, runner_up: Option<Hypothesis>) -> usize
-    ensures { Printed (next_line runner_up) at result text.old text.new }
-{
-    match runner_up {
-        Some(h) => put_hypothesis(text, at, b"next", h),
-        None => writer::put_all(text, at, b"next absent\n"),
+impl<'a> Page<'a> {
+    pub fn put_hypothesis(&mut self, first: &[u8], h: Hypothesis)
+        ensures { Wrote (hypothesis_line first.now h) self.old self.new }
+    {
+        let a = h.alignment;
+        let evidence = h.evidence;
+        self.put_all(first);
+        self.and_decimal(a.turn as u64);
+        self.and_signed(a.tx);
+        self.and_signed(a.ty);
+        self.and_evidence(evidence);
+        self.and_decimal(h.contributing_cells as u64);
+        self.put(b'\n');
     }
-}
 
-pub fn put_corners(text: &mut [u8], at: usize, a: GridAlignment) -> usize
-    ensures { Printed (corners_line a) at result text.old text.new }
-{
-    let mut next = writer::put_all(text, at, b"corners");
-    next = words::and_decimal(text, next, a.turn as u64);
-    next = words::and_signed(text, next, a.tx);
-    next = words::and_signed(text, next, a.ty);
-    writer::put(text, next, b'\n')
-}
-
-pub fn put_float(text: &mut [u8], at: usize, first: &[u8], x: f32) -> usize
-    ensures { Printed (line first.now (float_word x ∷ [])) at result text.old text.new }
-{
-    let mut next = writer::put_all(text, at, first);
-    next = words::and_hex8(text, next, floats::to_bits(x));
-    writer::put(text, next, b'\n')
-}
-
-pub fn put_number(text: &mut [u8], at: usize, first: &[u8], n: u64) -> usize
-    ensures { Printed (line first.now (decimal n ∷ [])) at result text.old text.new }
-{
-    let mut next = writer::put_all(text, at, first);
-    next = words::and_decimal(text, next, n);
-    writer::put(text, next, b'\n')
-}
-
-// Of all values of errors, only the margin of 16 is printed.
-pub fn put_refusal(text: &mut [u8], at: usize, refusal: Refusal) -> usize
-    ensures { Printed (refusal_line refusal) at result text.old text.new }
-{
-    let number = refusal.number();
-    if number != 16 {
-        return put_number(text, at, b"refused", number as u64);
+    pub fn put_next(&mut self, runner_up: Option<Hypothesis>)
+        ensures { Wrote (next_line runner_up) self.old self.new }
+    {
+        match runner_up {
+            Some(h) => self.put_hypothesis(b"next", h),
+            None => self.put_all(b"next absent\n"),
+        }
     }
-    let mut next = writer::put_all(text, at, b"refused");
-    next = words::and_decimal(text, next, number as u64);
-    next = words::and_hex8(text, next, refusal.value(0));
-    writer::put(text, next, b'\n')
+
+    pub fn put_corners(&mut self, a: GridAlignment)
+        ensures { Wrote (corners_line a) self.old self.new }
+    {
+        self.put_all(b"corners");
+        self.and_decimal(a.turn as u64);
+        self.and_signed(a.tx);
+        self.and_signed(a.ty);
+        self.put(b'\n');
+    }
+
+    pub fn put_float(&mut self, first: &[u8], x: f32)
+        ensures { Wrote (line first.now (float_word x ∷ [])) self.old self.new }
+    {
+        self.put_all(first);
+        self.and_hex8(floats::to_bits(x));
+        self.put(b'\n');
+    }
+
+    pub fn put_number(&mut self, first: &[u8], n: u64)
+        ensures { Wrote (line first.now (decimal n ∷ [])) self.old self.new }
+    {
+        self.put_all(first);
+        self.and_decimal(n);
+        self.put(b'\n');
+    }
+
+    // Of all values of errors, only the margin of 16 is printed.
+    pub fn put_refusal(&mut self, refusal: Refusal)
+        ensures { Wrote (refusal_line refusal) self.old self.new }
+    {
+        let number = refusal.number();
+        if number != 16 {
+            self.put_number(b"refused", number as u64);
+            return;
+        }
+        self.put_all(b"refused");
+        self.and_decimal(number as u64);
+        self.and_hex8(refusal.value(0));
+        self.put(b'\n');
+    }
 }

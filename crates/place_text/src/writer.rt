@@ -1,29 +1,15 @@
-// Writes bytes and numbers to an output array, one after the other. Bytes past its end are dropped, so it may have any length. Each function returns
-// the index after what it wrote.
+// A text to write to: bytes and numbers, one after the other. Bytes past its end are dropped, so it may have any length.
 // Not `write!`: `Printed`, which may not change, states each byte for arrays of any length, and std's writers to a slice have no `contents`, so that
 // `write!` states no byte there.
 ghost use Rattle.std.specs.Prelude.{◌≡◌, [], ◌∷◌, ◌<◌};
 ghost use Rattle.place_text.specs.Numerals.{digit as Digit, hex2, hex4, hex8, decimal, signed_decimal};
-ghost use Rattle.place_text.specs.Writing.{Printed};
+ghost use Rattle.place_text.specs.Writing.{Wrote};
 
-pub fn put(text: &mut [u8], at: usize, byte: u8) -> usize
-    ensures { Printed (byte ∷ []) at result text.old text.new }
-{
-    if at < text.len() {
-        text[at] = byte;
-        return at + 1;
-    }
-    text.len()
-}
-
-pub fn put_all(text: &mut [u8], at: usize, bytes: &[u8]) -> usize
-    ensures { Printed bytes.now at result text.old text.new }
-{
-    let mut next = at.min(text.len());
-    for byte in bytes {
-        next = put(text, next, *byte);
-    }
-    next
+// The output array, and the index after what is written.
+#[derive(Drop)]
+pub struct Page<'a> {
+    pub text: &'a mut [u8],
+    pub at: usize,
 }
 
 fn digit(d: u8) -> u8
@@ -36,44 +22,68 @@ fn digit(d: u8) -> u8
     b'A' - 10 + d
 }
 
-fn put_hex2(text: &mut [u8], at: usize, n: u8) -> usize
-    ensures { Printed (hex2 n) at result text.old text.new }
-{
-    let next = put(text, at, digit(n / 16));
-    put(text, next, digit(n % 16))
-}
-
-fn put_hex4(text: &mut [u8], at: usize, n: u16) -> usize
-    ensures { Printed (hex4 n) at result text.old text.new }
-{
-    let next = put_hex2(text, at, (n / 256) as u8);
-    put_hex2(text, next, (n % 256) as u8)
-}
-
-pub fn put_hex8(text: &mut [u8], at: usize, n: u32) -> usize
-    ensures { Printed (hex8 n) at result text.old text.new }
-{
-    let next = put_hex4(text, at, (n / 65536) as u16);
-    put_hex4(text, next, (n % 65536) as u16)
-}
-
-pub fn put_decimal(text: &mut [u8], at: usize, n: u64) -> usize
-    ensures { Printed (decimal n) at result text.old text.new }
-{
-    if n < 10 {
-        return put(text, at, digit(n as u8));
+impl<'a> Page<'a> {
+    pub fn put(&mut self, byte: u8)
+        ensures { Wrote (byte ∷ []) self.old self.new }
+    {
+        if self.at < self.text.len() {
+            self.text[self.at] = byte;
+            self.at += 1;
+        } else {
+            self.at = self.text.len();
+        }
     }
-    let next = put_decimal(text, at, n / 10);
-    put(text, next, digit((n % 10) as u8))
-}
 
-pub fn put_signed(text: &mut [u8], at: usize, z: i32) -> usize
-    ensures { Printed (signed_decimal z) at result text.old text.new }
-{
-    let size = u64::from(z.unsigned_abs());
-    if z < 0 {
-        let next = put(text, at, b'-');
-        return put_decimal(text, next, size);
+    pub fn put_all(&mut self, bytes: &[u8])
+        ensures { Wrote bytes.now self.old self.new }
+    {
+        self.at = self.at.min(self.text.len());
+        for byte in bytes {
+            self.put(*byte);
+        }
     }
-    put_decimal(text, at, size)
+
+    fn put_hex2(&mut self, n: u8)
+        ensures { Wrote (hex2 n) self.old self.new }
+    {
+        self.put(digit(n / 16));
+        self.put(digit(n % 16));
+    }
+
+    fn put_hex4(&mut self, n: u16)
+        ensures { Wrote (hex4 n) self.old self.new }
+    {
+        self.put_hex2((n / 256) as u8);
+        self.put_hex2((n % 256) as u8);
+    }
+
+    pub fn put_hex8(&mut self, n: u32)
+        ensures { Wrote (hex8 n) self.old self.new }
+    {
+        self.put_hex4((n / 65536) as u16);
+        self.put_hex4((n % 65536) as u16);
+    }
+
+    pub fn put_decimal(&mut self, n: u64)
+        ensures { Wrote (decimal n) self.old self.new }
+    {
+        if n < 10 {
+            self.put(digit(n as u8));
+            return;
+        }
+        self.put_decimal(n / 10);
+        self.put(digit((n % 10) as u8));
+    }
+
+    pub fn put_signed(&mut self, z: i32)
+        ensures { Wrote (signed_decimal z) self.old self.new }
+    {
+        let size = u64::from(z.unsigned_abs());
+        if z < 0 {
+            self.put(b'-');
+            self.put_decimal(size);
+            return;
+        }
+        self.put_decimal(size);
+    }
 }

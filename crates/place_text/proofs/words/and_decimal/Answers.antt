@@ -1,7 +1,0 @@
--- `place_text::words::and_decimal` meets its contract. Assumes nothing.
-use Rattle.place_text.proofs.Printing.{then}
-use Rattle.place_text.proofs.words.and_decimal.Goals as goal
-
-pub returns : goal.returns
-returns c =
-    then c.put-next.ensures c.put_decimal.ensures

@@ -1,5 +1,0 @@
--- The measure of `place_text::writer::put_decimal`: the number.
-use Rattle.place_text.proofs.writer.+put_decimal.Given as goal
-
-abbrev pub decreases-put_decimal : goal.decreases-put_decimal
-decreases-put_decimal l = l.n

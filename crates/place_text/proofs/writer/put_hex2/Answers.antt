@@ -1,9 +1,0 @@
--- `place_text::writer::put_hex2` meets its contract: the high digit, then the low one. Assumes nothing.
-use Rattle.place_text.specs.Numerals.{hex2}
-use Rattle.place_text.proofs.Printing.{then, byte}
-use Rattle.place_text.proofs.writer.put_hex2.Goals as goal
-
-pub returns : goal.returns
-unfolding hex2
-returns c =
-    then (byte c.digit.ensures c.put-next.ensures) (byte c.digit-2.ensures c.put.ensures)

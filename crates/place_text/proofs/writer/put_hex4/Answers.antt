@@ -1,9 +1,0 @@
--- `place_text::writer::put_hex4` meets its contract: the digits of the high half, then those of the low half. Assumes nothing.
-use Rattle.place_text.specs.Numerals.{hex4}
-use Rattle.place_text.proofs.Printing.{then}
-use Rattle.place_text.proofs.writer.put_hex4.Goals as goal
-
-pub returns : goal.returns
-unfolding hex4
-returns c =
-    then c.put_hex2-next.ensures c.put_hex2.ensures
