@@ -14,7 +14,7 @@ use Rattle.link_check.specs.Links.{link_marker, link_corner, names, repeated, fi
 use Rattle.board.specs.declared.Position.{Position}
 use Rattle.board.specs.declared.Surrounding.{Surrounding}
 
--- What the board expects of a marker: its four corners, or nothing of an unknown one or one on the rim, whose links are violations of a kind.
+-- What the board expects of a marker: its four corners; for an unknown one or one on the rim, the kind of violation of each of its links.
 abbrev pub of_corners : Option Surrounding → Result Surrounding LinkViolationKind
 of_corners (Some four) = Ok four
 of_corners None = Err MarkerHasNoFourCorners

@@ -1,4 +1,4 @@
-// The corners that the board expects for a marker, or the kind of violation of every link of it.
+// The corners that the board expects for a marker, or the kind of violation of each of its links.
 ghost use Rattle.std.specs.Prelude.{◌≡◌};
 ghost use Rattle.link_check.specs.Violations.{expectation, four_of};
 
