@@ -7,15 +7,16 @@ use Prim.Native.Nat.{ℕ, zero, suc, ◌+◌, ◌*◌, ◌≤◌}
 use native.Mathlib.Omega.{arith}
 use lib.ListN.{length, length-append}
 use borrow.Author.Tests.{eqb-true, eq-eqb}
+use Rattle.std.specs.Prelude.{Result, Ok, Err}
 use Rattle.lent_list.specs.Front.{up_to}
 use Rattle.lent_list.proofs.Front.{up_to-most}
 use Rattle.board.specs.Numbering.{as_one, count_passing}
 use Rattle.board.proofs.Counting.{count_at-most}
+use Rattle.board.specs.declared.Surrounding.{Surrounding}
+use Rattle.link_check.specs.declared.LinkViolationKind.{LinkViolationKind}
 use Rattle.link_check.specs.declared.LinkViolationKind.TheVariants.{DuplicateCorner}
 use Rattle.link_check.specs.declared.LinkCheckMode.{LinkCheckMode}
 use Rattle.link_check.specs.declared.LinkCheckMode.TheVariants as mode
-use Rattle.link_check.specs.declared.expected.MarkerExpectation.{MarkerExpectation}
-use Rattle.link_check.specs.declared.expected.MarkerExpectation.TheVariants.{Unknown, NoFourCorners, Expected}
 use Rattle.integers.specs.Tests.{any_below}
 use Rattle.link_check.specs.Links.{link_marker, link_corner, names, repeated, first, is_reported}
 use Rattle.link_check.specs.Violations.{Violation, four_of, has, unless, against, repeat_at, missing_entry, in_mode, of_link, without}
@@ -38,13 +39,12 @@ at_most_one : (b : Bool) (v : Violation) → length (unless b v) ≤ 1
 at_most_one true v = omega arith
 at_most_one false v = omega arith
 
-own-one : (e : MarkerExpectation) (m c : ℕ) → length (against e m c) ≤ 1
-own-one Unknown m c = omega arith
-own-one NoFourCorners m c = omega arith
-own-one (Expected s) m c = at_most_one (has (four_of s) c) _
+own-one : (e : Result Surrounding LinkViolationKind) (m c : ℕ) → length (against e m c) ≤ 1
+own-one (Err kind) m c = omega arith
+own-one (Ok s) m c = at_most_one (has (four_of s) c) _
 
 -- a link has at most one violation of its own
-pub own-few : (links : List ℕ) (expected : ℕ → MarkerExpectation) (n : ℕ) → length (up_to (own links expected) n) ≤ n
+pub own-few : (links : List ℕ) (expected : ℕ → Result Surrounding LinkViolationKind) (n : ℕ) → length (up_to (own links expected) n) ≤ n
 own-few links expected n =
     omega
     (arith, up_to-most (own links expected) 1 n (λ k h. own-one (expected (link_marker links k)) (link_marker links k) (link_corner links k)))
@@ -72,12 +72,11 @@ bits false true true b h g = rw (h refl) (omega arith)
 bits false true false b h g = omega arith
 bits false false a b h g = omega arith
 
-module _ (links : List ℕ) (n : ℕ) (mode : LinkCheckMode) (expected : ℕ → MarkerExpectation) where
+module _ (links : List ℕ) (n : ℕ) (mode : LinkCheckMode) (expected : ℕ → Result Surrounding LinkViolationKind) where
   -- the violations of a marker: one for each of its links, and one
-  of_marker_lem : (m : ℕ) (e : MarkerExpectation) → length (of_marker links n mode m e) ≤ count_passing (names links m) n + 1
-  of_marker_lem m Unknown = omega arith
-  of_marker_lem m NoFourCorners = omega arith
-  of_marker_lem m (Expected s) =
+  of_marker_lem : (m : ℕ) (e : Result Surrounding LinkViolationKind) → length (of_marker links n mode m e) ≤ count_passing (names links m) n + 1
+  of_marker_lem m (Err kind) = omega arith
+  of_marker_lem m (Ok s) =
       let four = four_of s in
       let missing = without (is_reported links n m) four in
       omega (

@@ -1,5 +1,5 @@
 -- Document 01, Links: the violations, in order, and the 12 words of each.
-use Rattle.std.specs.Prelude.{ℕ, Bool, false, ◌&&◌, ◌||◌, cond, eqb, length, get_or, Option, Some, None}
+use Rattle.std.specs.Prelude.{ℕ, Bool, false, ◌&&◌, ◌||◌, cond, eqb, length, get_or, Option, Some, None, Result, Ok, Err}
 use mathlib.Core.List.{List, [], ◌∷◌, ◌++◌, flat_map}
 use Rattle.std.proofs.Math.Option.{Option as Maybe, none, some}
 use Rattle.lent_list.specs.Front.{up_to}
@@ -10,22 +10,20 @@ use Rattle.link_check.specs.declared.LinkCheckMode.TheVariants as mode
 use Rattle.link_check.specs.declared.LinkViolationKind.{LinkViolationKind}
 use Rattle.link_check.specs.declared.LinkViolationKind.TheVariants.{UnknownMarker, MarkerHasNoFourCorners, CornerNotInNeighborhood, DuplicateCorner}
 use Rattle.link_check.specs.declared.LinkViolationKind.TheVariants.{MissingCorners}
-use Rattle.link_check.specs.declared.expected.MarkerExpectation.{MarkerExpectation}
-use Rattle.link_check.specs.declared.expected.MarkerExpectation.TheVariants.{Unknown, NoFourCorners, Expected}
 use Rattle.link_check.specs.Links.{link_marker, link_corner, names, repeated, first, is_reported}
 use Rattle.board.specs.declared.Position.{Position}
 use Rattle.board.specs.declared.Surrounding.{Surrounding}
 
--- What the board expects of a marker: nothing of an unknown one or one on the rim, else its four corners.
-abbrev pub of_corners : Option Surrounding → MarkerExpectation
-of_corners (Some four) = Expected four
-of_corners None = NoFourCorners
+-- What the board expects of a marker: its four corners; for an unknown one or one on the rim, the kind of violation of each of its links.
+abbrev pub of_corners : Option Surrounding → Result Surrounding LinkViolationKind
+of_corners (Some four) = Ok four
+of_corners None = Err MarkerHasNoFourCorners
 
-abbrev pub on_square : Option Position → Option Surrounding → MarkerExpectation
-on_square None four = Unknown
+abbrev pub on_square : Option Position → Option Surrounding → Result Surrounding LinkViolationKind
+on_square None four = Err UnknownMarker
 on_square (Some place) four = of_corners four
 
-unfoldable pub expectation : Board → ℕ → MarkerExpectation
+unfoldable pub expectation : Board → ℕ → Result Surrounding LinkViolationKind
 expectation b m = on_square (marker_square b m) (surrounding_corners b m)
 
 abbrev pub four_of : Surrounding → List ℕ
@@ -51,10 +49,9 @@ has (x ∷ xs) c = eqb x c || has xs c
 abbrev pub unless : {A : Type 0} → Bool → A → List A
 unless b x = cond b [] (x ∷ [])
 
-abbrev pub against : MarkerExpectation → ℕ → ℕ → List Violation
-against Unknown m c = of_link UnknownMarker m c [] ∷ []
-against NoFourCorners m c = of_link MarkerHasNoFourCorners m c [] ∷ []
-against (Expected s) m c = unless (has (four_of s) c) (of_link CornerNotInNeighborhood m c (four_of s))
+abbrev pub against : Result Surrounding LinkViolationKind → ℕ → ℕ → List Violation
+against (Err kind) m c = of_link kind m c [] ∷ []
+against (Ok s) m c = unless (has (four_of s) c) (of_link CornerNotInNeighborhood m c (four_of s))
 
 -- Then per expected marker: each repeated corner after its first, in link order,
 abbrev pub repeat_at : List ℕ → ℕ → List ℕ → ℕ → List Violation
@@ -75,7 +72,7 @@ in_mode mode.SubsetOk vs = []
 in_mode mode.MustMatchAll4 vs = vs
 
 -- link k's own violation, by what is expected of each marker
-abbrev pub own : List ℕ → (ℕ → MarkerExpectation) → ℕ → List Violation
+abbrev pub own : List ℕ → (ℕ → Result Surrounding LinkViolationKind) → ℕ → List Violation
 own links expected k = against (expected (link_marker links k)) (link_marker links k) (link_corner links k)
 
 -- The links, their number, and the mode.
@@ -86,16 +83,15 @@ module _ (links : List ℕ) (n : ℕ) (mode : LinkCheckMode) where
   abbrev pub of_four : ℕ → List ℕ → List Violation
   of_four m four = up_to (repeat_at links m four) n ++ missing_of m four
 
-  abbrev pub of_marker : ℕ → MarkerExpectation → List Violation
-  of_marker m Unknown = []
-  of_marker m NoFourCorners = []
-  of_marker m (Expected s) = of_four m (four_of s)
+  abbrev pub of_marker : ℕ → Result Surrounding LinkViolationKind → List Violation
+  of_marker m (Err kind) = []
+  of_marker m (Ok s) = of_four m (four_of s)
 
   -- the violations of link k's marker, if the link is its first
-  abbrev pub of_first : (ℕ → MarkerExpectation) → ℕ → List Violation
+  abbrev pub of_first : (ℕ → Result Surrounding LinkViolationKind) → ℕ → List Violation
   of_first expected k = cond (first links k) (of_marker (link_marker links k) (expected (link_marker links k))) []
 
-  abbrev pub violations : (ℕ → MarkerExpectation) → List Violation
+  abbrev pub violations : (ℕ → Result Surrounding LinkViolationKind) → List Violation
   violations expected = up_to (own links expected) n ++ up_to (of_first expected) n
 
 -- The words: marker, kind, reported corner or 0, the expected four or 0, the number of missing corners, and these, padded with 0.

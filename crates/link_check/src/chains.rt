@@ -51,8 +51,8 @@ fn links_to(links: &[u32], by: By, marker: u32, corner: u32, j: usize) -> bool
     }
 }
 
-// chain[b] is the first link with key b, chain[4096 + k] the first one after k with k's key, each `n` if there is none. Filled
-// from the last link to the first.
+// chain[b] is the first link with key b, chain[4096 + k] the first one after k with k's key, each `n` if there is none: an
+// Option would take twice the memory. Filled from the last link to the first.
 pub fn fill_chain(links: &[u32], n: usize, by: By, chain: &mut [u16; 8192])
     requires { n ≤ 4096 }
     ensures { Chained (key_of by links.now) n chain.new }

@@ -1,15 +1,9 @@
-// The corners that the board expects for a marker.
+// The corners that the board expects for a marker, or the kind of violation of each of its links.
 ghost use Rattle.std.specs.Prelude.{◌≡◌};
 ghost use Rattle.link_check.specs.Violations.{expectation, four_of};
 
+use super::LinkViolationKind;
 use board::{Board, Surrounding};
-
-#[derive(Clone, Copy)]
-pub enum MarkerExpectation {
-    Unknown,
-    NoFourCorners,
-    Expected(Surrounding),
-}
 
 #[derive(Clone, Copy)]
 pub struct MarkerCorners {
@@ -18,16 +12,15 @@ pub struct MarkerCorners {
 }
 
 #[tactic(auto, unfolding(crate::specs::Violations::expectation))]
-pub fn expectation(board: Board, marker: u32) -> MarkerExpectation
+pub fn expectation(board: Board, marker: u32) -> Result<Surrounding, LinkViolationKind>
     ensures { result ≡ expectation board marker }
 {
-    match board.marker_position(marker) {
-        None => MarkerExpectation::Unknown,
-        Some(_) => match board.marker_surrounding_charuco_corners(marker) {
-            Some(corners) => MarkerExpectation::Expected(corners),
-            None => MarkerExpectation::NoFourCorners,
-        },
-    }
+    board
+        .marker_position(marker)
+        .ok_or(LinkViolationKind::UnknownMarker)?;
+    board
+        .marker_surrounding_charuco_corners(marker)
+        .ok_or(LinkViolationKind::MarkerHasNoFourCorners)
 }
 
 // The four corners of the list `expected` in a violation.

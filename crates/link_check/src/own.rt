@@ -3,7 +3,6 @@ ghost use Rattle.std.specs.Prelude.{◌+◌, ◌≤◌, length};
 ghost use Rattle.lent_list.specs.Front.{Put};
 ghost use Rattle.link_check.specs.Violations.{expectation, of_link, against, violation_words, words_of_violations};
 
-use super::expected::MarkerExpectation;
 use super::words::Missing;
 use super::{LinkViolationKind, expected, words};
 use board::Board;
@@ -37,25 +36,9 @@ pub fn put_own(board: Board, marker: u32, corner: u32, violations: &mut [u32], a
     requires { at + 12 ≤ length violations.old }
     ensures { Put violations.old violations.new at result (words_of_violations (against (expectation board marker) marker corner)) }
 {
-    let expected = expected::expectation(board, marker);
-    match expected {
-        MarkerExpectation::Unknown => put_of_link(
-            LinkViolationKind::UnknownMarker,
-            marker,
-            corner,
-            NONE,
-            violations,
-            at,
-        ),
-        MarkerExpectation::NoFourCorners => put_of_link(
-            LinkViolationKind::MarkerHasNoFourCorners,
-            marker,
-            corner,
-            NONE,
-            violations,
-            at,
-        ),
-        MarkerExpectation::Expected(corners) => {
+    match expected::expectation(board, marker) {
+        Err(kind) => put_of_link(kind, marker, corner, NONE, violations, at),
+        Ok(corners) => {
             let four = expected::four(corners);
             if four.contains(&corner) {
                 return at;

@@ -4,7 +4,7 @@ ghost use Rattle.lent_list.specs.Front.{up_to, Put};
 ghost use Rattle.link_check.specs.Violations.{expectation, four_of, own as own_entry, of_four, of_first, words_of_violations};
 
 use super::chained_links::ChainedLinks;
-use super::expected::{MarkerCorners, MarkerExpectation};
+use super::expected::MarkerCorners;
 use super::{LinkCheckMode, chains, expected, missing, own, repeats};
 use board::Board;
 
@@ -69,17 +69,16 @@ fn put_of_first(
         return at;
     }
     let marker = chains::marker_of(links.words, k);
-    match expected::expectation(standard.board, marker) {
-        MarkerExpectation::Unknown => at,
-        MarkerExpectation::NoFourCorners => at,
-        MarkerExpectation::Expected(corners) => put_of_four(
-            links,
-            standard.mode,
-            MarkerCorners { marker, corners },
-            violations,
-            at,
-        ),
-    }
+    let Ok(corners) = expected::expectation(standard.board, marker) else {
+        return at;
+    };
+    put_of_four(
+        links,
+        standard.mode,
+        MarkerCorners { marker, corners },
+        violations,
+        at,
+    )
 }
 
 // The violations of each expected marker, in order of first appearance.

@@ -13,12 +13,12 @@ fn emptied(count: usize) -> Effect {
     }
 }
 
-fn shape(arguments: u8, words: u8) -> Shape {
-    Shape { arguments, words }
+fn shape(arguments: u8, words: u8) -> Option<Shape> {
+    Some(Shape { arguments, words })
 }
 
-// No row has 32 arguments: that number means an unknown kind.
-fn shape_of(kind: u64) -> Shape {
+// None for an unknown kind. Kinds are the numbers of the rows' file, for which an enum of 25 names would be no plainer.
+fn shape_of(kind: u64) -> Option<Shape> {
     match kind {
         0x5 => shape(0, 14),
         0x6 => shape(1, 2),
@@ -45,7 +45,7 @@ fn shape_of(kind: u64) -> Shape {
         0x10D => shape(14, 2),
         0x10E => shape(11, 2),
         0x111 => shape(3, 3),
-        _ => shape(32, 0),
+        _ => None,
     }
 }
 
@@ -105,11 +105,12 @@ fn told(bytes: &[u8], words: &[u64], used: Used, row: [u64; 32]) -> Answer {
 }
 
 fn asked(bytes: &[u8], words: &[u64], used: Used, row: [u64; 32], count: usize) -> Effect {
-    let shape = shape_of(row[0]);
-    if count != answers::row_length(shape) {
-        return Effect::Unread;
+    match shape_of(row[0]) {
+        Some(shape) if count == answers::row_length(shape) => {
+            Effect::Asked(answers::agrees(told(bytes, words, used, row), row, shape))
+        }
+        _ => Effect::Unread,
     }
-    Effect::Asked(answers::agrees(told(bytes, words, used, row), row, shape))
 }
 
 pub fn effect_of(

@@ -22,7 +22,7 @@ pub struct Shape {
     pub words: u8,
 }
 
-// The length of a row: kind, arguments, number, words, digest. No row has 35 words or more, so an unknown kind is not read.
+// The length of a row: kind, arguments, number, words, digest.
 pub fn row_length(shape: Shape) -> usize {
     shape.arguments as usize + shape.words as usize + 3
 }

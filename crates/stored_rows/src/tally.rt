@@ -41,8 +41,8 @@ pub struct Tally {
     agreed: u64,
     unread: u64,
     lines: u64,
-    // The first line that is not read or does not agree; 0 if there is none.
-    first: u64,
+    // The first line that is not read or does not agree.
+    first: Option<u64>,
 }
 
 impl Tally {
@@ -52,14 +52,12 @@ impl Tally {
             agreed: 0,
             unread: 0,
             lines: 0,
-            first: 0,
+            first: None,
         }
     }
 
     fn failed(mut self) -> Tally {
-        if self.first == 0 {
-            self.first = self.lines;
-        }
+        self.first = self.first.or(Some(self.lines));
         self
     }
 
@@ -95,8 +93,8 @@ fn print_count<W: Write>(output: &mut W, name: &[u8], count: u64) {
 }
 
 pub fn print_all<W: Write>(output: &mut W, tally: Tally) {
-    if tally.first != 0 {
-        print_count(output, b"the first that fails is line ", tally.first);
+    if let Some(first) = tally.first {
+        print_count(output, b"the first that fails is line ", first);
         let _ = standard_output::write_all(output, b"\n");
     }
     print_count(output, b"not read: ", tally.unread);

@@ -6,7 +6,9 @@ use native.Mathlib.Omega.{arith}
 use lib.ListN.{length, length-append}
 use Rattle.lent_list.specs.Front.{up_to}
 use Rattle.lent_list.proofs.Front.{put_as, put_more, put_length, flat_map_append}
-use Rattle.link_check.specs.declared.expected.MarkerExpectation.{MarkerExpectation}
+use Rattle.std.specs.Prelude.{Result}
+use Rattle.board.specs.declared.Surrounding.{Surrounding}
+use Rattle.link_check.specs.declared.LinkViolationKind.{LinkViolationKind}
 use Rattle.link_check.specs.Violations.{Violation, expectation, own, of_first, violations, violation_words, words_of_violations}
 use Rattle.link_check.proofs.Enough.{enough}
 use Rattle.link_check.proofs.Writing.{words-length}
@@ -14,7 +16,7 @@ use Rattle.link_check.proofs.check.Goals as goal
 use Rattle.link_check.proofs.check.Goals.{Start}
 
 module _ (s : Start) where
-  abbrev expected : ℕ → MarkerExpectation
+  abbrev expected : ℕ → Result Surrounding LinkViolationKind
   expected = expectation s.args.board
 
   abbrev owns : List Violation

@@ -9,7 +9,7 @@ use lib.ListN.{length}
 use borrow.Author.Tests.{lt-leb, le-leb, lt-ltb, le-ltb}
 use Rattle.integers.specs.Tests.{every}
 use Rattle.points.specs.Points.{all_apart, point_of}
-use Rattle.shot_record.specs.declared.input.Record.{Record}
+use Rattle.shot_record.specs.declared.record.Record.{Record}
 use Rattle.shot_record.specs.Fields.{cell_count}
 use Rattle.shot_record.specs.Shots.{Shot, shot, whole_record}
 use Rattle.shot_record.specs.Answers.{config_of}

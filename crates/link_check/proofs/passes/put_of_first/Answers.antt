@@ -6,7 +6,9 @@ use native.Mathlib.Omega.{arith}
 use lib.ListN.{length}
 use Rattle.lent_list.specs.Front.{Put}
 use Rattle.lent_list.proofs.Front.{nothing_put, put_as}
-use Rattle.link_check.specs.declared.expected.MarkerExpectation.{MarkerExpectation}
+use Rattle.std.specs.Prelude.{Result}
+use Rattle.board.specs.declared.Surrounding.{Surrounding}
+use Rattle.link_check.specs.declared.LinkViolationKind.{LinkViolationKind}
 use Rattle.link_check.specs.Violations.{Violation, expectation, of_marker, of_first, words_of_violations}
 use Rattle.link_check.proofs.passes.put_of_first.Goals as goal
 use Rattle.link_check.proofs.passes.put_of_first.Goals.{After-expectation, Start}
@@ -23,7 +25,7 @@ pub returns-then-not-is_first : goal.returns-then-not-is_first
 returns-then-not-is_first c = none (goal.at.returns-then-not-is_first c).Start (rw (sym c.is_first.ensures ∙ c.if-not-is_first.true))
 
 -- the violations if the link is the first of its marker
-entries_are : (c : After-expectation) (e : MarkerExpectation) → c.expectation.result ≡ e → let x = c.args in
+entries_are : (c : After-expectation) (e : Result Surrounding LinkViolationKind) → c.expectation.result ≡ e → let x = c.args in
     of_first x.links.words.now x.links.count x.standard.mode (expectation x.standard.board) x.k
     ≡ of_marker x.links.words.now x.links.count x.standard.mode c.marker_of-marker.result e
 entries_are c e told =
@@ -33,19 +35,15 @@ entries_are c e told =
     (ap₂ (of_marker x.links.words.now x.links.count x.standard.mode) (sym same)
     (ap (expectation x.standard.board) (sym same) ∙ sym c.expectation.ensures ∙ told))
 
-pub returns-in-Unknown : goal.returns-in-Unknown
-returns-in-Unknown c =
-    none (goal.at.returns-in-Unknown c).Start (entries_are (goal.at.returns-in-Unknown c).After-expectation _ c.in-Unknown.is)
-
-pub returns-in-NoFourCorners : goal.returns-in-NoFourCorners
-returns-in-NoFourCorners c =
-    none (goal.at.returns-in-NoFourCorners c).Start (entries_are (goal.at.returns-in-NoFourCorners c).After-expectation _ c.in-NoFourCorners.is)
+pub returns-in_default : goal.returns-in_default
+returns-in_default c =
+    none (goal.at.returns-in_default c).Start (entries_are (goal.at.returns-in_default c).After-expectation _ c.in_default.is)
 
 pub put_of_four-requires : goal.put_of_four-requires
 put_of_four-requires c =
-    let are = entries_are (goal.at.put_of_four-requires c).After-expectation _ c.in-Expected.is in
+    let are = entries_are (goal.at.put_of_four-requires c).After-expectation _ c.in-Ok.is in
     omega (arith, c.requires.room, ap (λ (vs : List Violation). length (words_of_violations vs)) are)
 
-pub returns-in-Expected : goal.returns-in-Expected
-returns-in-Expected c =
-    put_as (sym (ap words_of_violations (entries_are (goal.at.returns-in-Expected c).After-expectation _ c.in-Expected.is))) c.put_of_four.ensures
+pub returns : goal.returns
+returns c =
+    put_as (sym (ap words_of_violations (entries_are (goal.at.returns c).After-expectation _ c.in-Ok.is))) c.put_of_four.ensures

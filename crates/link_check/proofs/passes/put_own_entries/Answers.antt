@@ -8,7 +8,9 @@ use lib.ListN.{length}
 use Rattle.lent_list.specs.Front.{up_to}
 use Rattle.lent_list.proofs.Front.{put_as}
 use Rattle.lent_list.proofs.Loops.{none_to, to-length, to_more}
-use Rattle.link_check.specs.declared.expected.MarkerExpectation.{MarkerExpectation}
+use Rattle.std.specs.Prelude.{Result}
+use Rattle.board.specs.declared.Surrounding.{Surrounding}
+use Rattle.link_check.specs.declared.LinkViolationKind.{LinkViolationKind}
 use Rattle.link_check.specs.Violations.{Violation, expectation, against, own, violation_words, words_of_violations}
 use Rattle.link_check.proofs.Enough.{own-few}
 use Rattle.link_check.proofs.Writing.{words-length}
@@ -16,7 +18,7 @@ use Rattle.link_check.proofs.passes.put_own_entries.Goals as goal
 use Rattle.link_check.proofs.passes.put_own_entries.Goals.{Start}
 
 module _ (s : Start) where
-  abbrev expected : ℕ → MarkerExpectation
+  abbrev expected : ℕ → Result Surrounding LinkViolationKind
   expected = expectation s.args.board
 
   abbrev entry : ℕ → List Violation
