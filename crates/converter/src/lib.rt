@@ -7,7 +7,7 @@ ghost use Rattle.std.specs.Prelude.{◌≤◌, length};
 ghost use Rattle.place_text.specs.Text.{refusal_line};
 ghost use Rattle.place_text.specs.Writing.{Printed};
 
-use place_text::lines;
+use place_text::writer::Page;
 use refusal::Refusal;
 use standard_input::Input;
 
@@ -16,7 +16,9 @@ fn put_line(text: &mut [u8], refusal: Refusal) -> usize
     ensures line { Printed (refusal_line refusal) 0 result text.old text.new }
     ensures room { length (refusal_line refusal) ≤ 20 }
 {
-    lines::put_refusal(text, 0, refusal)
+    let mut page = Page { text, at: 0 };
+    page.put_refusal(refusal);
+    page.at
 }
 
 fn tell_refusal(rt: HostRuntime, refusal: Refusal) {

@@ -10,6 +10,8 @@ ghost use Rattle.log_text.specs.Rules.{Takes};
 mod entries;
 mod lines;
 
+use place_text::writer::Page;
+
 // The number of bytes that were read, the number of bytes of their lines, and the highest number of the entries up to them, if there is one.
 #[derive(Clone, Copy)]
 pub struct Fed {
@@ -26,23 +28,23 @@ pub fn feed(bytes: &[u8], highest: Option<u32>, text: &mut [u8]) -> Fed
         → (is_whole bytes.now ≡ false) × (length bytes.now < 65541) }
 {
     let mut markers: [u32; 4608] = [0; 4608];
+    let mut page = Page { text, at: 0 };
     let mut used = 0;
-    let mut written = 0;
     let mut seen = highest;
-    while 76 <= text.len() - written {
+    while 76 <= page.text.len() - page.at {
         let rest = &bytes[used..];
         let end = entries::whole_end(rest);
         if end == 0 {
             break;
         }
         let number = entries::number(rest);
-        written = lines::put_lines(text, written, seen, number, &rest[6..end], &mut markers);
+        lines::put_lines(&mut page, seen, number, &rest[6..end], &mut markers);
         seen = entries::raised(seen, number);
         used += end;
     }
     Fed {
         used,
-        written,
+        written: page.at,
         highest: seen,
     }
 }
@@ -56,5 +58,7 @@ pub fn finish(bytes: &[u8], text: &mut [u8]) -> usize
     if count == 0 {
         return 0;
     }
-    lines::put_cut(text, 0, count)
+    let mut page = Page { text, at: 0 };
+    lines::put_cut(&mut page, count);
+    page.at
 }

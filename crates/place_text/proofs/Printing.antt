@@ -60,9 +60,9 @@ then {us} {vs} {a} v w =
     let p = v.printed in
     let q = w.printed in record {
       printed = record {
-          stored = q.stored ∙ ap (printed_at _ vs) p.stored ∙ joined a.at _ us vs a.text.now p.place;
-          place = omega (arith, p.place, q.place, printed_length p, length-append us vs);
-        };
+        stored = q.stored ∙ ap (printed_at _ vs) p.stored ∙ joined a.at _ us vs a.text.now p.place;
+        place = omega (arith, p.place, q.place, printed_length p, length-append us vs);
+      };
       same_array = w.same_array ∙ v.same_array;
     }
 

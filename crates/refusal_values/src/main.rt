@@ -12,7 +12,7 @@ ghost use Rattle.place_text.specs.Writing.{Printed};
 ghost use Rattle.refusal_values.specs.Values.{number_in, value_in, minimum_in, words_line, values_line};
 
 use board_match::Match;
-use place_text::{words, writer};
+use place_text::writer::Page;
 use refusal::Refusal;
 use shot_record::Header;
 use standard_input::Input;
@@ -51,11 +51,13 @@ fn put_words(text: &mut [u8], number: u32, first: u32, second: u32, minimum: u32
     ensures line { Printed (words_line number first second minimum) 0 result text.old text.new }
     ensures room { length (words_line number first second minimum) ≤ 44 }
 {
-    let mut next = writer::put_decimal(text, 0, number as u64);
-    next = words::and_decimal(text, next, first as u64);
-    next = words::and_decimal(text, next, second as u64);
-    next = words::and_decimal(text, next, minimum as u64);
-    writer::put(text, next, b'\n')
+    let mut page = Page { text, at: 0 };
+    page.put_decimal(number as u64);
+    page.and_decimal(first as u64);
+    page.and_decimal(second as u64);
+    page.and_decimal(minimum as u64);
+    page.put(b'\n');
+    page.at
 }
 
 // The line for a record, complete if the text has 44 bytes. Match writes to `markers`.

@@ -1,10 +1,11 @@
 -- `log_text::finish` meets its contract: by whether there are bytes. Assumes nothing.
 use mathlib.Core.Path.{◌≡◌, refl}
 use mathlib.Core.List.{List, [], ◌∷◌}
-use Prim.Native.Nat.{ℕ}
+use Prim.Native.Nat.{ℕ, ◌≤◌}
 use native.Mathlib.Omega.{arith}
 use lib.ListN.{length}
-use Rattle.place_text.proofs.Printing.{said, nothing, printed_length}
+use borrow.Author.Rules.{rules}
+use Rattle.place_text.proofs.Printing.{said_text, nothing, printed_length}
 use Rattle.log_text.specs.Lines.{cut_line}
 use Rattle.log_text.specs.Log.{rest_text}
 use Rattle.log_text.proofs.finish.Goals as goal
@@ -20,14 +21,16 @@ cut-rest (b ∷ bs) not-0 = refl
 pub returns-then-count-eq0 : goal.returns-then-count-eq0
 returns-then-count-eq0 c =
     let bytes = c.args.bytes.now in record {
-      line = λ none. said (empty_rest bytes c.if-count-eq0.true) (nothing (omega arith));
+      line = λ none. said_text (empty_rest bytes c.if-count-eq0.true) (nothing (omega arith));
       room = omega arith;
     }
 
 pub returns : goal.returns
 returns c =
     let bytes = c.args.bytes.now in
-    let p = c.put_cut.ensures in record {
-      line = λ none. said (cut-rest bytes c.if-count-eq0.false) p;
-      room = omega (arith, p.place, printed_length p);
+    let p = c.put_cut.ensures.printed in
+    let page = c.put_cut.new.page in
+    let room : page.at ≤ length page.text.now = omega (arith, p.place, printed_length p) in record {
+      line = λ none. search (rules, said_text (cut-rest bytes c.if-count-eq0.false) p);
+      room = search (rules, room);
     }

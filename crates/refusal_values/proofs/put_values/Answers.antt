@@ -3,7 +3,7 @@ use mathlib.Core.Path.{◌≡◌, ap₂, subst, ◌∙◌}
 use mathlib.Core.List.{List}
 use Prim.Native.Nat.{ℕ, ◌≤◌}
 use lib.ListN.{length}
-use Rattle.place_text.proofs.Printing.{said}
+use Rattle.place_text.proofs.Printing.{said_text}
 use Rattle.refusal_values.specs.Values.{number_in, value_in, minimum_in, words_line}
 use Rattle.refusal_values.proofs.put_values.Goals as goal
 use Rattle.std.specs.Prelude.{Result}
@@ -24,6 +24,6 @@ returns c =
     let own = words c.match_board-answer.result c.read_header-header.result c.number_in-number.ensures c.value_in-first.ensures
     c.value_in-second.ensures c.minimum_in.ensures in
     let same = own ∙ ap₂ line_of c.match_board-answer.ensures.answer c.read_header-header.ensures in record {
-      line = said same c.put_words.ensures.line;
+      line = said_text same c.put_words.ensures.line;
       room = subst (λ (l : List ℕ). length l ≤ 44) same c.put_words.ensures.room;
     }

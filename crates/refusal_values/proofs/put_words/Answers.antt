@@ -3,6 +3,7 @@ use Prim.Native.Nat.{ℕ, ◌^◌, ◌≤◌, ◌<◌}
 use mathlib.Core.List.{[], ◌∷◌}
 use native.Mathlib.Omega.{arith}
 use lib.ListN.{length, length-append}
+use borrow.Author.Rules.{rules}
 use Rattle.place_text.specs.Numerals.{decimal}
 use Rattle.place_text.specs.Text.{and_words}
 use Rattle.place_text.proofs.Printing.{then}
@@ -31,9 +32,9 @@ room k x y z hk hx hy hz =
 pub returns : goal.returns
 unfolding words_line
 returns c =
+    let p = then c.put_decimal.ensures (then c.and_decimal.ensures (then c.and_decimal-2.ensures (then c.and_decimal-3.ensures c.put.ensures))) in
     record {
-      line = then c.put_decimal-next.ensures (then c.and_decimal-next.ensures (then c.and_decimal-next-2.ensures
-          (then c.and_decimal-next-3.ensures c.put.ensures)));
+      line = search (rules, p.printed);
       room = room c.args.number c.args.first c.args.second c.args.minimum c.ranges.number.fits c.ranges.first.fits
           c.ranges.second.fits c.ranges.minimum.fits;
     }

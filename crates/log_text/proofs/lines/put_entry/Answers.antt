@@ -15,6 +15,6 @@ returns c =
     let shot = c.args.shot.now in
     let words : length c.args.markers.now ≡ 4608 = search rules in
     let answer : c.match_board-answer.result ≡ shot_answer shot = c.match_board-answer.ensures.answer ∙ ap (matched_shot (parse shot)) words in record {
-      line = then c.put_all-next.ensures (then c.and_decimal-next.ensures (then c.put-next.ensures (said (ap answer_line answer) c.put_answer.ensures)));
+      line = then c.put_all.ensures (then c.and_decimal.ensures (then c.put.ensures (said (ap answer_line answer) c.put_answer.ensures)));
       room = entry-room c.args.n shot c.ranges.n.fits (λ i. (c.type_inv.shot i).fits);
     }

@@ -9,11 +9,11 @@ pub returns : goal.returns
 unfolding entry_lines
 returns c =
     let n = c.args.n in record {
-      lines = then c.put_order-next.ensures.line c.put_entry.ensures.line;
+      lines = then c.put_order.ensures.line c.put_entry.ensures.line;
       room = omega (
         arith,
         length-append (order_line c.args.highest n) (entry_line n (shot_answer c.args.shot.now)),
-        c.put_order-next.ensures.room,
+        c.put_order.ensures.room,
         c.put_entry.ensures.room,
       );
     }

@@ -3,7 +3,7 @@ use mathlib.Core.Path.{sym, ap, subst}
 use Prim.Native.Nat.{◌≤◌}
 use native.Mathlib.Omega.{arith}
 use lib.ListN.{length}
-use Rattle.place_text.proofs.Printing.{said, nothing}
+use Rattle.place_text.proofs.Printing.{said}
 use Rattle.log_text.specs.Lines.{order_line}
 use Rattle.log_text.proofs.lines.put_order.Goals as goal
 use Rattle.std.specs.Prelude.{Option, ℕ}
@@ -12,7 +12,7 @@ pub returns-in-None : goal.returns-in-None
 returns-in-None c =
     let n = c.args.n in
     let e = sym c.in-None.is in record {
-      line = said (ap (λ (h : Option ℕ). order_line h n) e) (nothing c.min.ensures);
+      line = said (ap (λ (h : Option ℕ). order_line h n) e) c.put_all.ensures;
       room = subst (λ (h : Option ℕ). length (order_line h n) ≤ 26) e (omega arith);
     }
 

@@ -7,7 +7,7 @@ use lib.Dec.{leb, ltb}
 use borrow.Author.Tests.{le-leb, lt-leb, lt-ltb, le-ltb}
 use Rattle.place_text.specs.Numerals.{decimal}
 use Rattle.place_text.specs.Text.{line}
-use Rattle.place_text.proofs.Printing.{then, said, nothing}
+use Rattle.place_text.proofs.Printing.{then, said}
 use Rattle.log_text.specs.Lines.{the_gap, the_backward, step_line}
 use Rattle.log_text.proofs.Lengths.{step_room}
 use Rattle.log_text.proofs.lines.put_step.Goals as goal
@@ -30,7 +30,7 @@ returns-then-first-n c =
     let h = c.args.h in
     let n = c.args.n in record {
       line = said (by_tests h n (lt-leb n h c.if-n-h.false) (lt-ltb (h + 1) n c.if-first-n.true))
-          (then c.put_all-next.ensures (then c.and_decimal-next.ensures (then c.and_decimal-next-then-first-n.ensures c.put.ensures)));
+          (then c.put_all-then-first-n.ensures (then c.and_decimal.ensures (then c.and_decimal-then-first-n.ensures c.put.ensures)));
       room = step_room h n c.ranges.h.fits c.ranges.n.fits;
     }
 
@@ -38,6 +38,6 @@ pub returns : goal.returns
 returns c =
     let h = c.args.h in
     let n = c.args.n in record {
-      line = said (by_tests h n (lt-leb n h c.if-n-h.false) (le-ltb (h + 1) n c.if-first-n.false)) (nothing c.min.ensures);
+      line = said (by_tests h n (lt-leb n h c.if-n-h.false) (le-ltb (h + 1) n c.if-first-n.false)) c.put_all-2.ensures;
       room = step_room h n c.ranges.h.fits c.ranges.n.fits;
     }
