@@ -1,5 +1,5 @@
 -- `place_text::writer::Page::and_signed_word` meets its contract: a word is printed as the integer with its bits. Assumes nothing.
-use Rattle.std.proofs.Common.{◌≡◌, refl, sym, ap, ◌∙◌, ℕ, suc, ◌-◌, ◌^◌, ◌<◌, ◌≤◌, List, ◌∷◌, Bool, true, false, cond, ltb, ℤ, pos, negsuc, arith, w32, to_z, of_z}
+use Rattle.std.proofs.Common.{◌≡◌, refl, sym, ap, ◌∙◌, ℕ, suc, ◌-◌, ◌^◌, ◌<◌, ◌≤◌, List, ◌∷◌, Bool, true, false, cond, ltb, ℤ, arith, w32, to_z, of_z}
 use Rattle.std.proofs.Math.Facts.{to_z_pos, to_z-neg}
 use mir.ValLaws.{to_z-of_z}
 use borrow.Author.Tests.{ltb-true, ltb-false}
