@@ -21,5 +21,5 @@ returns c =
       text = c.format.ensures.list ∙ ap (λ (t : List ℕ). in_front t text) same;
       list = list;
       room = room bytes lent (λ i. (c.type_inv.bytes i).fits)
-          (subst (λ (l : List ℕ). (k : ℕ) → get_or l k 0 < 2 ^ 32) list (λ k. (c.type_inv.markers k).fits));
+          (subst (λ (l : List ℕ). (k : ℕ) → get_or l k 0 < 2 ^ 32) list (λ k. (c.slice_known-3-1.given k).fits));
     }
