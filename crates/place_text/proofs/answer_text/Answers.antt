@@ -2,6 +2,7 @@
 use mathlib.Core.Path.{◌≡◌, ap, ap₂, subst, ◌∙◌}
 use mathlib.Core.List.{List}
 use Prim.Native.Nat.{ℕ, ◌^◌, ◌<◌, min}
+use borrow.Author.Rules.{rules}
 use lib.ListN.{length, get_or}
 use Rattle.place_text.specs.Text.{text_of}
 use Rattle.lent_list.specs.Front.{in_front}
@@ -21,5 +22,5 @@ returns c =
       text = c.format.ensures.list ∙ ap (λ (t : List ℕ). in_front t text) same;
       list = list;
       room = room bytes lent (λ i. (c.type_inv.bytes i).fits)
-          (subst (λ (l : List ℕ). (k : ℕ) → get_or l k 0 < 2 ^ 32) list (λ k. (c.slice_known-3-1.given k).fits));
+          (subst (λ (l : List ℕ). (k : ℕ) → get_or l k 0 < 2 ^ 32) list (λ k. search rules));
     }
