@@ -1,3 +1,4 @@
 pub mod Rearranging
+pub mod Sifting
 pub mod Comparing
 pub mod Front
