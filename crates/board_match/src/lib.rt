@@ -161,7 +161,7 @@ pub fn match_board(bytes: &[u8], markers: &mut [u32]) -> Result<Match, Refusal>
 }
 
 // The same match by another search (document 02, 2.6): it first fills `scores` with the score of each cell for each marker and turn, cells × markers ×
-// 4 elements, and then looks them up. Errors 15 to 17 leave the scores filled; on other errors no array changes.
+// 4 elements, and then looks them up. It has arrays of its own, as what `load` returns borrows them. Errors 15 to 17 leave the scores filled; on other errors no array changes.
 pub fn match_board_with_scores(
     bytes: &[u8],
     scores: &mut [f32],

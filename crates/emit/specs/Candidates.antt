@@ -17,7 +17,7 @@ use Rattle.hypothesis.specs.Evidence.{table_of, expected, code_of}
 use Rattle.emit.specs.declared.candidates.Candidate.{Candidate}
 use Rattle.emit.specs.Markers.{Marker, quotient}
 
--- The candidate of cell k: `Absent` for an unsampled cell, and where no marker is expected.
+-- The candidate of cell k.
 abbrev pub candidate : Shot → GridAlignment → ℕ → Sample → ℕ → Candidate
 candidate s p k x m =
     record {

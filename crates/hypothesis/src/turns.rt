@@ -29,7 +29,7 @@ fn count_at(contributing: Contributing, n: usize) -> usize
     contributing.odd
 }
 
-// The evidence of the placement moved by (a, b): `Absent` where no cell contributes.
+// The evidence of the placement moved by (a, b): none where no cell contributes.
 pub fn placement_sum(
     sums: &[f32; 1024],
     contributing: Contributing,
