@@ -8,8 +8,6 @@ use Rattle.grid_alignment.specs.declared.GridAlignment.{GridAlignment}
 use Rattle.ranking.specs.declared.Hypothesis.{Hypothesis}
 use Rattle.board_match.specs.declared.Match.{Match}
 use Rattle.board.specs.declared.CharucoBoardSpec.{CharucoBoardSpec}
-use Rattle.link_check.specs.declared.LinkCheckMode.{LinkCheckMode}
-use Rattle.link_check.specs.declared.LinkCheckMode.TheVariants as mode
 use Rattle.charuco.specs.Answers.{Answer, worked, refused, count_word}
 use Rattle.refusal.specs.declared.Refusal.{Refusal}
 
@@ -60,14 +58,9 @@ spec_from rows cols bits border legacy size marker =
       marker_size_rel = marker;
     }
 
--- the alignment of the corners, in which a turn above 3 becomes 4, which fails question 18,
+-- and the alignment of the corners, in which a turn above 3 becomes 4, which fails question 18
 abbrev pub turn_byte : ℕ → ℕ
 turn_byte turn = cond (ltb turn 4) turn 4
 
 abbrev pub alignment_of : ℕ → ℤ → ℤ → GridAlignment
 alignment_of turn tx ty = record { turn = turn_byte turn; tx = tx; ty = ty }
-
--- and the mode of the link check
-abbrev pub mode_of : ℕ → LinkCheckMode
-mode_of zero = mode.SubsetOk
-mode_of (suc n) = mode.MustMatchAll4

@@ -1,21 +1,11 @@
 // The link entry point.
 ghost use Rattle.std.specs.Prelude.{◌≡◌};
-ghost use Rattle.link_check.specs.Entry.{check_links, check_links_list};
+ghost use Rattle.link_check.specs.Entry.{check_links, check_links_list, mode_of};
 ghost use Rattle.charuco.specs.Answers.{Tells, count_told};
-ghost use Rattle.charuco.specs.Entries.{spec_from, mode_of};
+ghost use Rattle.charuco.specs.Entries.{spec_from};
 
 use super::{boards, values};
 use link_check::LinkCheckMode;
-
-// 0 is `SubsetOk`, every other number `MustMatchAll4`.
-fn mode_of(mode: u32) -> LinkCheckMode
-    ensures { result ≡ mode_of mode }
-{
-    if mode == 0 {
-        return LinkCheckMode::SubsetOk;
-    }
-    LinkCheckMode::MustMatchAll4
-}
 
 pub fn charuco_validate_marker_corner_links(
     rows: u32,
@@ -51,7 +41,7 @@ pub fn charuco_validate_marker_corner_links(
         spec,
         codes,
         links,
-        mode_of(mode),
+        LinkCheckMode::from(mode),
         violations,
     );
     values::counted(values, answer)

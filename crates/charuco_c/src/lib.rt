@@ -5,10 +5,10 @@
 ghost use Rattle.std.specs.Prelude.{◌≡◌};
 ghost use Rattle.marker_sampling.specs.Entry.{marker_cells, marker_cells_list};
 ghost use Rattle.charuco.specs.Answers.{Tells, count_told};
-ghost use Rattle.charuco.specs.Entries.{spec_from, alignment_of, mode_of, match_told};
+ghost use Rattle.charuco.specs.Entries.{spec_from, alignment_of, match_told};
 ghost use Rattle.legacy_record.specs.Restating.{restate_answer, restate_list};
 ghost use Rattle.corner_mapping.specs.Entry.{map_corners, map_corners_list};
-ghost use Rattle.link_check.specs.Entry.{check_links, check_links_list};
+ghost use Rattle.link_check.specs.Entry.{check_links, check_links_list, mode_of};
 ghost use Rattle.board_match.specs.Match.{match_answer, match_list};
 ghost use Rattle.board_match.specs.Scores.{scored_answer, scored_list, scores_left};
 ghost use Rattle.board_match.specs.Accuracy.{Accuracy};

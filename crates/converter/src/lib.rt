@@ -3,7 +3,7 @@
 
 #![tactic(auto)]
 
-ghost use Rattle.std.specs.Prelude.{◌≤◌, length};
+ghost use Rattle.std.specs.Prelude.{◌≤◌, IfOk, length};
 ghost use Rattle.place_text.specs.Text.{refusal_line};
 ghost use Rattle.place_text.specs.Writing.{Printed};
 
@@ -39,13 +39,14 @@ fn put_sheet(rt: HostRuntime, name: &[u8], sheet: &[u8]) {
     }
 }
 
-// `convert` writes the new record to the start of its second argument and returns the number of its bytes.
+pub trait Conversion {
+    // Writes the new record to the start of `sheet`, and returns the number of its bytes.
+    fn convert(bytes: &[u8], sheet: &mut [u8]) -> Result<usize, Refusal>
+        ensures { IfOk result (λ count. count ≤ length sheet.new) };
+}
+
 // A record has at most 65,535 bytes. One more byte is read, so that a longer input fails question 21.
-pub fn run<F>(rt: HostRuntime, name: &[u8], convert: F)
-where
-    F: FnOnce(&[u8], &mut [u8]) -> Result<usize, Refusal>,
-    requires { F.IsAlwaysCallable convert }
-{
+pub fn run<C: Conversion>(rt: HostRuntime, name: &[u8]) {
     let mut bytes: [u8; 65536] = [0; 65536];
     let read = match standard_input::read_all(&mut rt.stdin(), &mut bytes) {
         Ok(Input::Ended(count) | Input::Full(count)) => count,
@@ -55,8 +56,8 @@ where
         }
     };
     let mut sheet: [u8; 65536] = [0; 65536];
-    match convert(&bytes[..read], &mut sheet) {
-        Ok(count) => put_sheet(rt, name, &sheet[..count.min(65536)]),
+    match C::convert(&bytes[..read], &mut sheet) {
+        Ok(count) => put_sheet(rt, name, &sheet[..count]),
         Err(refusal) => tell_refusal(rt, refusal),
     }
 }

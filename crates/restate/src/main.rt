@@ -3,6 +3,19 @@
 
 #![tactic(auto)]
 
+ghost use Rattle.std.specs.Prelude.{◌≤◌, IfOk, length};
+
+use converter::Conversion;
+use refusal::Refusal;
+
+struct Restate;
+
+impl Conversion for Restate {
+    fn convert(bytes: &[u8], sheet: &mut [u8]) -> Result<usize, Refusal> {
+        legacy_record::restate(bytes, sheet)
+    }
+}
+
 fn main(rt: HostRuntime) {
-    converter::run(rt, b"restate", legacy_record::restate);
+    converter::run::<Restate>(rt, b"restate");
 }

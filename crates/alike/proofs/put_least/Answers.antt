@@ -22,8 +22,7 @@ loop-k-preserved c =
     let before = c.loop-k.least in
     let held = c.loop-k.invariant in
     let k = c.loop-k.k in
-    let y = c.least_turn.result in
-    (
+    let y = c.least_turn.result in (
       length-set before k y ∙ held.0,
       below_more (λ j. get_or (set before k y) j 0 ≡ least_turn x.bits (get_or x.codes.now j 0)) k
           (λ j h. get_or-set_other before k j y 0 (λ e. absurd (omega (arith, h, e))) ∙ held.1 j h)

@@ -10,7 +10,7 @@ returns c =
     let x = c.args in
     let b = c.validate_marker_corner_links-answer.ensures in
     let es = c.spec-spec.ensures in
-    let em = c.mode_of.ensures in record {
+    let em = c.from.ensures in record {
       answer = telling (ap count_told (b.answer ∙ (λ i. check_links (es i) x.codes.now (em i) x.links.now x.violations.now))) c.counted.ensures;
       list = b.list ∙ (λ i. check_links_list (es i) x.codes.now (em i) x.links.now x.violations.now);
     }

@@ -30,8 +30,7 @@ loop-k-preserved c =
     let before = c.loop-k.sources in
     let held = c.loop-k.invariant in
     let k = c.loop-k.k in
-    let x = c.source.result in
-    (
+    let x = c.source.result in (
       length-set before k x ∙ held.0,
       below_more (λ j. get_or (set before k x) j 0 ≡ quarter_source bits j) k
           (λ j h. get_or-set_other before k j x 0 (λ e. absurd (omega (arith, h, e))) ∙ held.1 j h)
