@@ -13,27 +13,22 @@ use Rattle.log_text.specs.Lines.{entry_lines}
 use Rattle.log_text.specs.Log.{entry_number, record_length, entry_end, is_whole, whole_end, first_record, raised, log_text}
 use Rattle.log_text.specs.Rules.{Takes}
 use Rattle.log_text.proofs.Laws.{entry_taken}
-use Rattle.std.specs.Prelude.{Option}
+use Rattle.std.specs.Prelude.{Option, Some, None}
 
 -- ---- what the end of the first entry tells
-pub some_end : (bytes : List ℕ) (e : ℕ) → e ≡ whole_end bytes → (e ≡ 0 → ⊥) → (is_whole bytes ≡ true) × (e ≡ entry_end bytes)
-some_end bytes e is not-0 = go (is_whole bytes) refl is
+pub some_end : (bytes : List ℕ) (e : ℕ) → Some e ≡ whole_end bytes → (is_whole bytes ≡ true) × (e ≡ entry_end bytes)
+some_end bytes e is = go (is_whole bytes) refl is
   where
-    go : (w : Bool) → is_whole bytes ≡ w → e ≡ cond w (entry_end bytes) 0 → (is_whole bytes ≡ true) × (e ≡ entry_end bytes)
-    go true h i = (h, i)
-    go false h i = absurd (not-0 i)
+    go : (w : Bool) → is_whole bytes ≡ w → Some e ≡ cond w (Some (entry_end bytes)) None → (is_whole bytes ≡ true) × (e ≡ entry_end bytes)
+    go true h i = (h, cc)
+    go false h i = cc
 
-pub no_end : (bytes : List ℕ) (e : ℕ) → e ≡ whole_end bytes → e ≡ 0 → is_whole bytes ≡ false
-no_end bytes e is none = go (is_whole bytes) refl is
+pub no_end : (bytes : List ℕ) → None ≡ whole_end bytes → is_whole bytes ≡ false
+no_end bytes is = go (is_whole bytes) refl is
   where
-    go : (w : Bool) → is_whole bytes ≡ w → e ≡ cond w (entry_end bytes) 0 → is_whole bytes ≡ false
-    go true h i = absurd (omega (arith, i, none))
+    go : (w : Bool) → is_whole bytes ≡ w → None ≡ cond w (Some (entry_end bytes)) None → is_whole bytes ≡ false
+    go true h i = cc
     go false h i = h
-
-pub end_within : (bytes : List ℕ) (e : ℕ) → e ≡ whole_end bytes → (e ≡ 0 → ⊥) → (6 ≤ e) × (e ≤ length bytes)
-end_within bytes e is not-0 =
-    let w = some_end bytes e is not-0 in
-    (omega (arith, w.1), omega (arith, leb-true (entry_end bytes) (length bytes) w.0, w.1))
 
 -- ---- lines that fit are printed whole
 module _ {us : List ℕ} {at r : ℕ} {a b : List ℕ} (p : Printed us at r a b) (fits : at + length us ≤ length a) where
@@ -85,12 +80,12 @@ module _ {bytes text₀ : List ℕ} {first : (Option ℕ)} {text : List ℕ} {us
       }
 
   -- in the words of the program: the rest as a slice p, the end e, the number n, the record as a slice of p
-  pub next_fed : (p : List ℕ) → p ≡ rest → (e : ℕ) → e ≡ whole_end p → (e ≡ 0 → ⊥) → (n : ℕ) → n ≡ entry_number p → {after : List ℕ} {w : ℕ}
+  pub next_fed : (p : List ℕ) → p ≡ rest → (e : ℕ) → Some e ≡ whole_end p → (n : ℕ) → n ≡ entry_number p → {after : List ℕ} {w : ℕ}
       → Printed (entry_lines seen n (take (e - 6) (drop 6 p))) written w text after → length (entry_lines seen n (take (e - 6) (drop 6 p))) ≤ 76
       → 76 ≤ length text - written → (s : Option ℕ) → s ≡ raised seen n
       → Feeding bytes text₀ first after (used + e) w s
-  next_fed p is e ends not-0 n is-n {after} {w} printed most room s is-s =
-      let whole = some_end p e ends not-0 in
+  next_fed p is e ends n is-n {after} {w} printed most room s is-s =
+      let whole = some_end p e ends in
       let at-end : e ≡ entry_end rest = whole.1 ∙ ap entry_end is in
       let numbered : n ≡ entry_number rest = is-n ∙ ap entry_number is in
       let cut : e - 6 ≡ record_length rest = omega (arith, at-end) in

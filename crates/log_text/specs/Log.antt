@@ -18,9 +18,9 @@ entry_end bytes = 6 + record_length bytes
 abbrev pub is_whole : List ℕ → Bool
 is_whole bytes = leb (entry_end bytes) (length bytes)
 
--- where it ends, 0 if it is not whole
-abbrev pub whole_end : List ℕ → ℕ
-whole_end bytes = cond (is_whole bytes) (entry_end bytes) 0
+-- where it ends, if it is whole
+abbrev pub whole_end : List ℕ → Option ℕ
+whole_end bytes = cond (is_whole bytes) (Some (entry_end bytes)) None
 
 abbrev pub first_record : List ℕ → List ℕ
 first_record bytes = take (record_length bytes) (drop 6 bytes)

@@ -10,15 +10,12 @@ pub fn number(bytes: &[u8]) -> u32
     numbers::four_at(bytes, 0)
 }
 
-// Where the entry ends, 0 if it is not whole: no entry has fewer than 6 bytes.
-pub fn whole_end(bytes: &[u8]) -> usize
+// Where the entry ends, if it is whole.
+pub fn whole_end(bytes: &[u8]) -> Option<usize>
     ensures { result ≡ whole_end bytes.now }
 {
     let end = 6 + numbers::count_at(bytes, 4);
-    if end <= bytes.len() {
-        return end;
-    }
-    0
+    if end <= bytes.len() { Some(end) } else { None }
 }
 
 pub fn raised(highest: Option<u32>, n: u32) -> Option<u32>

@@ -33,10 +33,9 @@ pub fn feed(bytes: &[u8], highest: Option<u32>, text: &mut [u8]) -> Fed
     let mut seen = highest;
     while 76 <= page.text.len() - page.at {
         let rest = &bytes[used..];
-        let end = entries::whole_end(rest);
-        if end == 0 {
+        let Some(end) = entries::whole_end(rest) else {
             break;
-        }
+        };
         let number = entries::number(rest);
         lines::put_lines(&mut page, seen, number, &rest[6..end], &mut markers);
         seen = entries::raised(seen, number);
