@@ -51,11 +51,7 @@ pub record Feeding (bytes text₀ : List ℕ) (first : Option ℕ) (text : List 
   pub started : used ≡ 0 → written ≡ 0
   pub lines : Takes first bytes seen (drop used bytes) (take written text)
 
-pub nothing_fed : (bytes text : List ℕ) (first : Option ℕ) → Feeding bytes text first text 0 0 first
-nothing_fed bytes text first =
-    record { within = omega arith; size = refl; room = omega arith; started = λ e. refl; lines = λ more. refl }
-
-module _ {bytes text₀ : List ℕ} {first : (Option ℕ)} {text : List ℕ} {used written : ℕ} {seen : (Option ℕ)} (f : Feeding bytes text₀ first text used written seen) where
+module _ {bytes text₀ : List ℕ} {first : Option ℕ} {text : List ℕ} {used written : ℕ} {seen : Option ℕ} (f : Feeding bytes text₀ first text used written seen) where
   abbrev rest : List ℕ
   rest = drop used bytes
 

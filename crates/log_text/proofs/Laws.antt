@@ -231,7 +231,7 @@ greatest_before (e ∷ es) = go (highest_after (Some e.number) es) (greatest-fro
 pub took_nothing : (h : Option ℕ) (held : List ℕ) → Took h held h held
 took_nothing h held = record { lines = []; takes = λ more. refl }
 
-pub took_more : {h k : (Option ℕ)} {a b : List ℕ} → Took h a k b → (m : Option ℕ) (c lines : List ℕ) → Takes k b m c lines → Took h a m c
+pub took_more : {h k : Option ℕ} {a b : List ℕ} → Took h a k b → (m : Option ℕ) (c lines : List ℕ) → Takes k b m c lines → Took h a m c
 took_more t m c lines s =
     record {
       lines = t.lines ++ lines;

@@ -27,7 +27,7 @@ pub record Printing (h : Option ℕ) (bytes₀ : List ℕ) (count : ℕ) (bytes 
 pub none_printed : (h : Option ℕ) (bytes : List ℕ) (count : ℕ) → count ≤ length bytes → Printing h bytes count bytes count h
 none_printed h bytes count l = record { size = refl; within = l; took = took_nothing h (take count bytes) }
 
-module _ {h : (Option ℕ)} {bytes₀ : List ℕ} {count : ℕ} {bytes : List ℕ} {left : ℕ} {seen : (Option ℕ)} (p : Printing h bytes₀ count bytes left seen) where
+module _ {h : Option ℕ} {bytes₀ : List ℕ} {count : ℕ} {bytes : List ℕ} {left : ℕ} {seen : Option ℕ} (p : Printing h bytes₀ count bytes left seen) where
   pub more_printed : (used : ℕ) (next : Option ℕ) (lines : List ℕ) {r : ℕ} {after : List ℕ} → used ≤ length (take left bytes)
       → Takes seen (take left bytes) next (drop used (take left bytes)) lines → Put bytes after 0 r (take (left - used) (drop used bytes))
       → Printing h bytes₀ count after (left - used) next
