@@ -211,17 +211,17 @@ enum {
  * the frames of the compiled functions; examples/small_stack.c measures them. What memcpy and memset take beyond a return address is not included,
  * nor is a dynamic linker that resolves these at their first call.
  */
-#define CHARUCO_STACK_READ_HEADER 432
-#define CHARUCO_STACK_TABLE_ENTRY 2272
-#define CHARUCO_STACK_CODE 208
-#define CHARUCO_STACK_CELL 240
-#define CHARUCO_STACK_GRID 512
-#define CHARUCO_STACK_BUILD_MARKER_CELLS 30824
-#define CHARUCO_STACK_MATCH_BOARD 23016
-#define CHARUCO_STACK_MATCH_BOARD_WITH_SCORES 22920
-#define CHARUCO_STACK_MAP_CHARUCO_CORNERS 6728
-#define CHARUCO_STACK_VALIDATE_MARKER_CORNER_LINKS 37416
-#define CHARUCO_STACK_RESTATE 8840
+#define CHARUCO_STACK_READ_HEADER 408
+#define CHARUCO_STACK_TABLE_ENTRY 2344
+#define CHARUCO_STACK_CODE 280
+#define CHARUCO_STACK_CELL 280
+#define CHARUCO_STACK_GRID 424
+#define CHARUCO_STACK_BUILD_MARKER_CELLS 14440
+#define CHARUCO_STACK_MATCH_BOARD 23192
+#define CHARUCO_STACK_MATCH_BOARD_WITH_SCORES 23272
+#define CHARUCO_STACK_MAP_CHARUCO_CORNERS 6696
+#define CHARUCO_STACK_VALIDATE_MARKER_CORNER_LINKS 37400
+#define CHARUCO_STACK_RESTATE 8952
 
 /*
  * Reading a shot record. Check 21 alone: no field is validated, and a record with 0 rows or two cells at one position is read like any other. An
