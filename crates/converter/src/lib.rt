@@ -3,7 +3,8 @@
 
 #![tactic(auto)]
 
-ghost use Rattle.std.specs.Prelude.{◌≤◌, IfOk, length};
+ghost use Rattle.std.specs.Prelude.{◌≡◌, ◌≤◌, ℕ, IfOk, List, Result, length};
+ghost use Rattle.refusal.specs.declared.Refusal.{Refusal};
 ghost use Rattle.place_text.specs.Text.{refusal_line};
 ghost use Rattle.place_text.specs.Writing.{Printed};
 
@@ -40,9 +41,16 @@ fn put_sheet(rt: HostRuntime, name: &[u8], sheet: &[u8]) {
 }
 
 pub trait Conversion {
+    // The result and the output array at exit, from the record and the array at entry.
+    ghost answer: { List ℕ → List ℕ → Result ℕ Refusal };
+
+    ghost list: { List ℕ → List ℕ → List ℕ };
+
     // Writes the new record to the start of `sheet`, and returns the number of its bytes.
     fn convert(bytes: &[u8], sheet: &mut [u8]) -> Result<usize, Refusal>
-        ensures { IfOk result (λ count. count ≤ length sheet.new) };
+        ensures answer { result ≡ answer bytes.now sheet.old }
+        ensures list { sheet.new ≡ list bytes.now sheet.old }
+        ensures room { IfOk result (λ count. count ≤ length sheet.new) };
 }
 
 // A record has at most 65,535 bytes. One more byte is read, so that a longer input fails question 21.

@@ -3,7 +3,7 @@
 
 #![tactic(auto)]
 
-ghost use Rattle.std.specs.Prelude.{◌≤◌, IfOk, length};
+ghost use Rattle.legacy_record.specs.Restating.{restate_answer, restate_list};
 
 use converter::Conversion;
 use refusal::Refusal;
@@ -11,6 +11,10 @@ use refusal::Refusal;
 struct Restate;
 
 impl Conversion for Restate {
+    ghost answer = { restate_answer };
+
+    ghost list = { restate_list };
+
     fn convert(bytes: &[u8], sheet: &mut [u8]) -> Result<usize, Refusal> {
         legacy_record::restate(bytes, sheet)
     }

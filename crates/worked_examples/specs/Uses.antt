@@ -1,6 +1,7 @@
 -- Laws that no other proof cites, at concrete values: a consequence of each, as a statement about the definitions. A field has the name of the law
 -- that it follows from.
-use Rattle.std.specs.Prelude.{◌≡◌, ℕ, suc, ◌+◌, ◌-◌, ◌*◌, ◌≤◌, ◌<◌, Bool, true, false, not, List, [], ◌∷◌, ◌++◌, T, eqb, length, take, drop, get_or, ℤ, pos, negsuc, ◌-ℤ◌, Float, Some, None, Ok}
+use Rattle.std.specs.Prelude.{◌≡◌, ℕ, suc, ◌+◌, ◌-◌, ◌*◌, ◌≤◌, ◌<◌, Bool, true, false, not, T, eqb, ℤ, pos, negsuc, ◌-ℤ◌, Float, Some, None, Ok}
+use Rattle.std.specs.Prelude.{List, [], ◌∷◌, ◌++◌, length, take, drop, get_or}
 use Rattle.std.proofs.Math.Option.{Option, none, some}
 use Rattle.std.proofs.Math.ListN.{get_elem?}
 use Rattle.std.specs.Float.Ieee.{is_nan}

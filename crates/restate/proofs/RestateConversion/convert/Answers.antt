@@ -1,5 +1,5 @@
 -- `Restate::convert` meets its contract: a record that is written has room. Assumes nothing.
-use mathlib.Core.Path.{◌≡◌, sym, ap, ◌∙◌}
+use mathlib.Core.Path.{◌≡◌, sym, ap}
 use mathlib.Core.List.{List}
 use Prim.Native.Nat.{ℕ, ◌≤◌}
 use native.Mathlib.Omega.{arith}
@@ -14,5 +14,5 @@ has_room : (bytes lent sheet : List ℕ) (r : Result ℕ Refusal) → r ≡ rest
 has_room bytes lent sheet (Ok count) is list = omega (arith, (written_fits bytes lent count (sym is)).1, ap length list, same-room bytes lent)
 has_room bytes lent sheet (Err r) is list = tt
 
-pub returns : goal.returns
-returns c = has_room c.args.bytes.now c.args.sheet.now _ _ c.restate.ensures.answer c.restate.ensures.list
+pub returns-clause-room : goal.returns-clause-room
+returns-clause-room c = has_room c.args.bytes.now c.args.sheet.now _ _ c.restate.ensures.answer c.restate.ensures.list
