@@ -1,12 +1,49 @@
--- Loops that write words to an output array, one part at a time. Assumes nothing.
-use mathlib.Core.Path.{◌≡◌, sym, ap, ◌∙◌}
+-- Loops that write words to an output array, one word or one part at a time. Assumes nothing.
+use mathlib.Core.Path.{◌≡◌, refl, sym, ap, ap₂, ◌∙◌}
 use mathlib.Core.List.{List, ◌++◌, flat_map}
 use Prim.Native.Nat.{ℕ, suc, ◌+◌, ◌-◌, ◌≤◌, ◌<◌}
 use native.Mathlib.Numerals.{add-one}
 use native.Mathlib.Omega.{arith}
-use lib.ListN.{length, length-append}
+use lib.ListN.{length, take, drop, get_or, set, length-append}
+use lib.Seq.{paste, paste-zero, paste-suc, length-paste, take_all}
 use Rattle.lent_list.specs.Front.{up_to, Put}
 use Rattle.lent_list.proofs.Front.{nothing_put, put_as, put_more, put_length, flat_map_append, flat_map_up_to, up_to_longer}
+
+-- ---- the first i words are written
+pub record Begun {A : Type 0} (before : List A) (at : ℕ) (words after : List A) (i : ℕ) : Type 0 where
+  pub few : i ≤ length words
+  pub list : after ≡ paste before at words i
+
+module _ {A : Type 0} where
+  pub begin : (before : List A) (at : ℕ) (words : List A) → Begun before at words before 0
+  begin before at words = record { few = omega arith; list = paste-zero before at words }
+
+  module _ {before : List A} {at : ℕ} {words after : List A} {i : ℕ} (b : Begun before at words after i) (room : at + length words ≤ length before) where
+    pub begun_length : length after ≡ length before
+    begun_length = ap length b.list ∙ length-paste before at words i (omega (arith, b.few)) b.few
+
+    pub begun_room : i < length words → at + i < length after
+    begun_room l = omega (arith, begun_length, l, room)
+
+    pub begun_more : (x d : A) → x ≡ get_or words i d → i < length words → Begun before at words (set after (at + i) x) (i + 1)
+    begun_more x d e l =
+        record {
+          few = omega (arith, l);
+          list =
+              ap₂ (λ (k : List A) (y : A). set k (at + i) y) b.list e
+              ∙ paste-suc before at words i d (omega (arith, l)) l
+              ∙ ap (paste before at words) (sym (add-one i));
+        }
+
+    pub all_begun : length words ≤ i → Put before after at (at + length words) words
+    all_begun h =
+        let e : i ≡ length words = omega (arith, h, b.few) in
+        record {
+          end = refl;
+          list =
+              b.list
+              ∙ ap₂ (λ (l : List A) (k : ℕ). take at before ++ l ++ drop (at + k) before) (take_all i words h) e;
+        }
 
 -- ---- the words of f 0 to f (k − 1) are written from index n on, and there is room for those of f up to `end`
 module _ {A B : Type 0} (g : A → List B) (f : ℕ → List A) (before : List B) (n end : ℕ) (room : n + length (flat_map g (up_to f end)) ≤ length before) where

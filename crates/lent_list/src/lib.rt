@@ -11,9 +11,11 @@ pub fn put<T: Copy>(list: &mut [T], at: usize, items: &[T]) -> usize
     requires { at + length items.now ≤ length list.old }
     ensures { Put list.old list.new at result items.now }
 {
-    let end = at + items.len();
-    list[at..end].copy_from_slice(items);
-    end
+    // Not `copy_from_slice`, for which the C library would need `memmove`.
+    for (k, item) in items.iter().enumerate() {
+        list[at + k] = *item;
+    }
+    at + items.len()
 }
 
 // Writes the items to list[0], list[1], …, truncated to the length of the list.
