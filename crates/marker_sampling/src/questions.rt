@@ -16,7 +16,8 @@ pub fn word(grid: &[i32], at: usize) -> i32
 pub fn within(limit: u16, z: i32) -> bool
     ensures { result ≡ is_within limit z }
 {
-    z.unsigned_abs() <= u32::from(limit)
+    let most = i32::from(limit);
+    (-most..=most).contains(&z)
 }
 
 // Has corner k a grid point?

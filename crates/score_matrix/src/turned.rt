@@ -25,8 +25,10 @@ pub fn source_bits(bits: u8, turn: u8) -> [u8; 64]
     let n = bits as u64;
     let count = (n * n) as usize;
     let mut sources: [u8; 64] = [0; 64];
+    let mut p = Place { x: 0, y: 0 };
     for k in 0..count {
-        sources[k] = source_bit(n, turn, cell::place(n, k as u64));
+        sources[k] = source_bit(n, turn, p);
+        p = cell::next_place(n, p);
     }
     sources
 }
