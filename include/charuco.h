@@ -1,7 +1,7 @@
 /*
  * Noctuleiron: finds how a ChArUco board lies in an image. The C functions of libcharuco.a.
  *
- * Compiled for x86-64 Linux, with no instruction beyond SSE2. The library needs memcpy, memmove and memset and nothing else:
+ * Compiled for x86-64 Linux, with no instruction beyond SSE2. The library needs memcpy and memset and nothing else:
  * gcc -std=c99 program.c libcharuco.a, the library after the program. examples/minimal.c is a whole program.
  *
  * Requirements on the caller
@@ -208,8 +208,8 @@ enum {
 
 /*
  * Stack: the most bytes that each function takes, whatever its arguments, with its return address and without the arguments on the stack. They are
- * the frames of the compiled functions; examples/small_stack.c measures them. What memcpy, memmove and memset take beyond a return address is not
- * included, nor is a dynamic linker that resolves these at their first call.
+ * the frames of the compiled functions; examples/small_stack.c measures them. What memcpy and memset take beyond a return address is not included,
+ * nor is a dynamic linker that resolves these at their first call.
  */
 #define CHARUCO_STACK_READ_HEADER 408
 #define CHARUCO_STACK_TABLE_ENTRY 2344
