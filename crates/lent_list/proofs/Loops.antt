@@ -5,7 +5,7 @@ use Prim.Native.Nat.{ℕ, suc, ◌+◌, ◌-◌, ◌≤◌, ◌<◌}
 use native.Mathlib.Numerals.{add-one}
 use native.Mathlib.Omega.{arith}
 use lib.ListN.{length, take, drop, get_or, set, length-append}
-use lib.Seq.{paste, paste-zero, paste-suc, length-paste, take_all}
+use lib.Seq.{paste, paste-zero, paste-suc, take_all}
 use Rattle.lent_list.specs.Front.{up_to, Put}
 use Rattle.lent_list.proofs.Front.{nothing_put, put_as, put_more, put_length, flat_map_append, flat_map_up_to, up_to_longer}
 
@@ -19,12 +19,6 @@ module _ {A : Type 0} where
   begin before at words = record { few = omega arith; list = paste-zero before at words }
 
   module _ {before : List A} {at : ℕ} {words after : List A} {i : ℕ} (b : Begun before at words after i) (room : at + length words ≤ length before) where
-    pub begun_length : length after ≡ length before
-    begun_length = ap length b.list ∙ length-paste before at words i (omega (arith, b.few)) b.few
-
-    pub begun_room : i < length words → at + i < length after
-    begun_room l = omega (arith, begun_length, l, room)
-
     pub begun_more : (x d : A) → x ≡ get_or words i d → i < length words → Begun before at words (set after (at + i) x) (i + 1)
     begun_more x d e l =
         record {

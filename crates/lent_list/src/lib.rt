@@ -1,5 +1,5 @@
 // Writes results to the start of an output array, later elements unchanged, and moves elements within an array.
-// The laws are in `proofs/Front.antt` and `proofs/Loops.antt`.
+// The laws are in `proofs/Front.antt`, `proofs/Loops.antt` and `proofs/Moves.antt`.
 
 #![tactic(auto)]
 
@@ -31,5 +31,7 @@ pub fn move_down<T: Copy>(list: &mut [T], from: usize, to: usize, n: usize)
     requires { (to ≤ from) × (from + n ≤ length list.old) }
     ensures { Put list.old list.new to (to + n) (take n (drop from list.old)) }
 {
-    list.copy_within(from..from + n, to);
+    for i in 0..n {
+        list[to + i] = list[from + i];
+    }
 }

@@ -1,16 +1,12 @@
--- Elements that a loop moves down within an array, one by one: those still to be moved have not been overwritten. `lent_list::move_down` moves all of
--- them by one call. Assumes nothing.
+-- Elements that are moved within an array: those still to be moved have not been overwritten. Assumes nothing.
 use mathlib.Core.Path.{◌≡◌, sym, ap, ap₂, ◌∙◌}
 use mathlib.Core.List.{List, ◌++◌}
 use Prim.Native.Nat.{ℕ, ◌+◌, ◌-◌, ◌≤◌, ◌<◌}
 use native.Mathlib.Omega.{arith}
-use lib.ListN.{length, take, drop, get_or, length-drop}
-use lib.Seq.{paste, length-take-le, length_paste_head, get_or-append-add, get_or-take, get_or-drop}
-
--- the first i words are written from index `at` on
-pub record Begun {A : Type 0} (before : List A) (at : ℕ) (words after : List A) (i : ℕ) : Type 0 where
-  pub few : i ≤ length words
-  pub list : after ≡ paste before at words i
+use lib.ListN.{length, take, drop, get_or, set, length-drop}
+use lib.Seq.{length-take-le, length_paste_head, get_or-append-add, get_or-take, get_or-drop}
+use Rattle.lent_list.specs.Front.{Put}
+use Rattle.lent_list.proofs.Loops.{Begun, begun_more, all_begun}
 
 module _ {A : Type 0} where
   part_length : (l : List A) (from n : ℕ) → from + n ≤ length l → length (take n (drop from l)) ≡ n
@@ -28,12 +24,24 @@ module _ {A : Type 0} where
 
   module _ (before : List A) (from to n : ℕ) (down : to ≤ from) (room : from + n ≤ length before) {after : List A} {i : ℕ}
       (b : Begun before to (take n (drop from before)) after i) where
+    fits : to + length (take n (drop from before)) ≤ length before
+    fits = omega (arith, part_length before from n room, down, room)
+
     -- the next element is not overwritten yet
-    pub still : i < n → (d : A) → get_or after (from + i) d ≡ get_or (take n (drop from before)) i d
+    still : i < n → (d : A) → get_or after (from + i) d ≡ get_or (take n (drop from before)) i d
     still l d =
         let e : to + i + (from - to) ≡ from + i = omega (arith, down) in
         ap (λ (k : ℕ). get_or after k d) (sym e)
-        ∙ past_begun b (omega (arith, part_length before from n room, down, room)) (from - to) d
+        ∙ past_begun b fits (from - to) d
         ∙ ap (λ (k : ℕ). get_or before k d) e
         ∙ sym (get_or-drop from before i d)
         ∙ sym (get_or-take n (drop from before) i d l)
+
+    pub down_more : (d : A) → i < n → Begun before to (take n (drop from before)) (set after (to + i) (get_or after (from + i) d)) (i + 1)
+    down_more d l = begun_more b fits (get_or after (from + i) d) d (still l d) (omega (arith, part_length before from n room, l))
+
+    pub down_all : n ≤ i → Put before after to (to + n) (take n (drop from before))
+    down_all l =
+        let size = part_length before from n room in
+        let p = all_begun b fits (omega (arith, size, l)) in
+        record { end = ap (λ (k : ℕ). to + k) (sym size); list = p.list ∙ ap (λ (k : ℕ). take to before ++ take n (drop from before) ++ drop (to + k) before) size }
