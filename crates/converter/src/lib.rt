@@ -8,8 +8,11 @@ ghost use Rattle.refusal.specs.declared.Refusal.{Refusal};
 ghost use Rattle.place_text.specs.Text.{refusal_line};
 ghost use Rattle.place_text.specs.Writing.{Printed};
 
+mod restating;
+
 use place_text::writer::Page;
 use refusal::Refusal;
+pub use restating::Restate;
 use standard_input::Input;
 
 // The line of a refusal, complete if the text has 20 bytes.

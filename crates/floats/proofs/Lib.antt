@@ -1,4 +1,5 @@
 pub mod Values
+pub mod Finite
 mod Grid
 pub mod Close
 pub mod Sums

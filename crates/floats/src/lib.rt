@@ -10,6 +10,7 @@ ghost use Rattle.std.specs.Float.Ieee.Scale.{finite};
 ghost use Rattle.floats.specs.Units.{clamp01};
 
 // Neither infinite nor NaN.
+#[tactic(auto, using(crate::proofs::Finite::same_finite))]
 pub fn is_finite(x: f32) -> bool
     ensures { result ≡ finite x }
 {

@@ -20,7 +20,7 @@ fn main(rt: HostRuntime) {
     };
     let mut markers: [u32; 4608] = [0; 4608];
     let mut text: [u8; 32768] = [0; 32768];
-    let length = place_text::place(&bytes[..read], &mut markers, &mut text);
+    let length = place_text::place(&bytes, read, &mut markers, &mut text);
     if standard_output::write_all(&mut rt.stdout(), &text[..length]).is_err() {
         let _ = standard_output::write_all(
             &mut rt.stderr(),

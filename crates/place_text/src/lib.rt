@@ -2,7 +2,7 @@
 
 #![tactic(auto)]
 
-ghost use Rattle.std.specs.Prelude.{◌≡◌, ◌≤◌, min, length};
+ghost use Rattle.std.specs.Prelude.{◌≡◌, ◌≤◌, min, length, take};
 ghost use Rattle.board_match.specs.Match.{match_list};
 ghost use Rattle.place_text.specs.Place.{place_text};
 ghost use Rattle.place_text.specs.Text.{match_lines, text_of};
@@ -67,12 +67,22 @@ fn answer_text(bytes: &[u8], markers: &mut [u32], text: &mut [u8]) -> usize
     format(answer, markers, text)
 }
 
-// The text is never truncated: `markers` has 18 words for each of 256 cells, and `text` room for as many lines. Returns the length of the text.
-pub fn place(bytes: &[u8], markers: &mut [u32; 4608], text: &mut [u8; 32768]) -> usize
-    ensures length { result ≡ length (place_text bytes.now markers.old) }
-    ensures text { text.new ≡ in_front (place_text bytes.now markers.old) text.old }
-    ensures list { markers.new ≡ match_list bytes.now markers.old }
+// The record is the first `read` bytes. The text is never truncated: `markers` has 18 words for each of 256 cells, and `text` room for as many lines.
+// Returns the length of the text.
+pub fn place(
+    bytes: &[u8; 65536],
+    read: usize,
+    markers: &mut [u32; 4608],
+    text: &mut [u8; 32768],
+) -> usize
+    ensures length { result ≡ length (place_text (take read bytes.now) markers.old) }
+    ensures text { text.new ≡ in_front (place_text (take read bytes.now) markers.old) text.old }
+    ensures list { markers.new ≡ match_list (take read bytes.now) markers.old }
     ensures room { result ≤ length text.new }
 {
-    answer_text(bytes, &mut markers[..], &mut text[..])
+    answer_text(
+        &bytes[..read.min(bytes.len())],
+        &mut markers[..],
+        &mut text[..],
+    )
 }

@@ -42,12 +42,12 @@ pub fn read(bytes: &[u8], kind: u64, k: usize) -> Answer {
     }
 }
 
-// Kind B.
-pub fn text(bytes: &[u8]) -> Answer {
+// Kind B, of the first `read` bytes.
+pub fn text(bytes: &[u8; 65536], read: usize) -> Answer {
     let mut words = BEFORE;
     let mut markers: [u32; 4608] = [0; 4608];
     let mut text: [u8; 32768] = [0; 32768];
-    let length = place_text::place(bytes, &mut markers, &mut text);
+    let length = place_text::place(bytes, read, &mut markers, &mut text);
     words[0] = numbers::low(length as u64);
     Answer {
         number: 0,

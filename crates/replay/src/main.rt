@@ -12,7 +12,7 @@ use stored_rows::tally::{Tally, Used};
 use stored_rows::{lines, tally};
 
 // `main` owns the arrays. A loop must terminate: the number of its turns is one that no run uses up.
-fn after_input(rt: HostRuntime, bytes: &mut [u8], words: &mut [u64]) -> Tally {
+fn after_input(rt: HostRuntime, bytes: &mut [u8; 65536], words: &mut [u64]) -> Tally {
     let mut tally = Tally::new();
     let mut used = Used { bytes: 0, words: 0 };
     for _ in 0..u64::MAX {

@@ -94,17 +94,17 @@ fn answer(bytes: &[u8], words: &[u64], row: [u64; 32]) -> Answer {
     }
 }
 
-// From the used bytes and words.
-fn told(bytes: &[u8], words: &[u64], used: Used, row: [u64; 32]) -> Answer {
+// From the used bytes and words. Kind B takes the bytes as an array, as `place` does.
+fn told(bytes: &[u8; 65536], words: &[u64], used: Used, row: [u64; 32]) -> Answer {
+    if row[0] == 0xB {
+        return entries::text(bytes, used.bytes);
+    }
     let bytes = &bytes[..used.bytes.min(bytes.len())];
     let words = &words[..used.words.min(words.len())];
-    if row[0] == 0xB {
-        return entries::text(bytes);
-    }
     answer(bytes, words, row)
 }
 
-fn asked(bytes: &[u8], words: &[u64], used: Used, row: [u64; 32], count: usize) -> Effect {
+fn asked(bytes: &[u8; 65536], words: &[u64], used: Used, row: [u64; 32], count: usize) -> Effect {
     match shape_of(row[0]) {
         Some(shape) if count == answers::row_length(shape) => {
             Effect::Asked(answers::agrees(told(bytes, words, used, row), row, shape))
@@ -114,7 +114,7 @@ fn asked(bytes: &[u8], words: &[u64], used: Used, row: [u64; 32], count: usize) 
 }
 
 pub fn effect_of(
-    bytes: &mut [u8],
+    bytes: &mut [u8; 65536],
     words: &mut [u64],
     used: Used,
     row: [u64; 32],
@@ -124,7 +124,7 @@ pub fn effect_of(
         return emptied(count);
     }
     if row[0] < 3 {
-        return lists::add_bytes(bytes, used.bytes, row, count);
+        return lists::add_bytes(&mut bytes[..], used.bytes, row, count);
     }
     if row[0] < 5 {
         return lists::add_words(words, used.words, row, count);
