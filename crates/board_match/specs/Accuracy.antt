@@ -6,6 +6,7 @@ use Rattle.std.specs.Float.Ieee.{lt, is_nan}
 use Rattle.refusal.specs.declared.Refusal.TheVariants as refusal
 use Rattle.grid_alignment.specs.declared.GridAlignment.{GridAlignment}
 use Rattle.shot_record.specs.Shots.{Shot, shot, whole_record}
+use Rattle.ranking.specs.declared.Evidence.TheVariants as evidence
 use Rattle.ranking.specs.declared.Hypothesis.{Hypothesis}
 use Rattle.hypothesis.specs.Placements.{placements}
 use Rattle.hypothesis.specs.Evidence.{contributing_cells, reported}
@@ -28,7 +29,7 @@ pub record PlacedAccurately (s : Shot) (m : Match) : Type 0 where
   pub best_reported : m.best.evidence ≡ reported s m.best.alignment
   pub best_count : m.best.contributing_cells ≡ contributing_cells s m.best.alignment
   pub number : Float
-  pub best_number : m.best.evidence ≡ Some number
+  pub best_number : m.best.evidence ≡ evidence.Number number
   -- the runner-up, where there is one
   pub runner_up_is : (g : Hypothesis) → m.runner_up ≡ Some g → RunsUp s m.best g
   -- the number of placements, by document 01's formula

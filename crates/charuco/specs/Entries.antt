@@ -5,6 +5,8 @@ use Rattle.std.specs.Float.Ieee.{to_bits}
 use Rattle.std.specs.Int.{w32}
 use Rattle.std.proofs.Common.{of_z}
 use Rattle.grid_alignment.specs.declared.GridAlignment.{GridAlignment}
+use Rattle.ranking.specs.declared.Evidence.{Evidence}
+use Rattle.ranking.specs.declared.Evidence.TheVariants as evidence
 use Rattle.ranking.specs.declared.Hypothesis.{Hypothesis}
 use Rattle.board_match.specs.declared.Match.{Match}
 use Rattle.board.specs.declared.CharucoBoardSpec.{CharucoBoardSpec}
@@ -17,9 +19,9 @@ use Rattle.refusal.specs.declared.Refusal.{Refusal}
 abbrev pub alignment_words : GridAlignment → List ℕ
 alignment_words a = a.turn ∷ of_z w32 a.tx ∷ of_z w32 a.ty ∷ []
 
-abbrev pub evidence_words : Option Float → List ℕ
-evidence_words (Some x) = 1 ∷ to_bits binary32 x ∷ []
-evidence_words None = 0 ∷ 0 ∷ []
+abbrev pub evidence_words : Evidence → List ℕ
+evidence_words (evidence.Number x) = 1 ∷ to_bits binary32 x ∷ []
+evidence_words evidence.Absent = 0 ∷ 0 ∷ []
 
 abbrev pub placement_words : Hypothesis → List ℕ
 placement_words h = alignment_words h.alignment ++ evidence_words h.evidence

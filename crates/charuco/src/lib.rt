@@ -22,7 +22,7 @@ pub use shot_record::{Header, ReadCell, ReadSample, cell, code, grid, read_heade
 // Match.
 pub use board_match::{Match, match_board, match_board_with_scores};
 pub use matches::{charuco_match_board, charuco_match_board_with_scores};
-pub use ranking::Hypothesis;
+pub use ranking::{Evidence, Hypothesis};
 
 // The cells entry point.
 pub use cells::charuco_build_marker_cells;

@@ -9,7 +9,7 @@ ghost use Rattle.charuco.specs.Entries.{alignment_words, evidence_words, placeme
 use super::values;
 use board_match::Match;
 use grid_alignment::GridAlignment;
-use ranking::Hypothesis;
+use ranking::{Evidence, Hypothesis};
 use refusal::Refusal;
 
 fn alignment_words(alignment: GridAlignment) -> [u32; 3]
@@ -22,12 +22,12 @@ fn alignment_words(alignment: GridAlignment) -> [u32; 3]
     ]
 }
 
-fn evidence_words(evidence: Option<f32>) -> [u32; 2]
+fn evidence_words(evidence: Evidence) -> [u32; 2]
     ensures { result ≡ evidence_words evidence }
 {
     match evidence {
-        Some(x) => [1, floats::to_bits(x)],
-        None => [0, 0],
+        Evidence::Number(x) => [1, floats::to_bits(x)],
+        Evidence::Absent => [0, 0],
     }
 }
 

@@ -14,6 +14,8 @@ use Rattle.lent_list.proofs.Front.{up_to-most, flat_map_length}
 use Rattle.grid_alignment.specs.declared.GridAlignment.{GridAlignment}
 use Rattle.score_matrix.specs.Scores.{evidence as evidence_of}
 use Rattle.shot_record.specs.Shots.{Sample, Shot}
+use Rattle.ranking.specs.declared.Evidence.{Evidence}
+use Rattle.ranking.specs.declared.Evidence.TheVariants as evidence
 use Rattle.hypothesis.specs.Placements.{cell_total, cell}
 use Rattle.hypothesis.specs.Evidence.{table_of, code_of, weight_with, samples_with, expected, reported}
 use Rattle.hypothesis.specs.Rules.{Contributes}
@@ -77,9 +79,9 @@ module _ (s : Shot) (p : GridAlignment) where
       go earlier zero e = earlier (omega (arith, length-append (up_to (emitted s p) n) (emitted s p n)))
       go earlier (suc j) e = (n, contributes n (omega (arith, l)) (omega (arith, e)))
 
-  pub emitted-number : 0 < length (markers s p) → (y : Float) × (reported s p ≡ Some y)
+  pub emitted-number : 0 < length (markers s p) → (y : Float) × (reported s p ≡ evidence.Number y)
   emitted-number h = go (reported s p) refl
     where
-      go : (x : Option Float) → reported s p ≡ x → (y : Float) × (reported s p ≡ Some y)
-      go None e = let k = some_cell (cell_total s) (omega arith) h in absurd ((none_rule s p).reported_only_if e k.0 k.1)
-      go (Some y) e = (y, e)
+      go : (x : Evidence) → reported s p ≡ x → (y : Float) × (reported s p ≡ evidence.Number y)
+      go evidence.Absent e = let k = some_cell (cell_total s) (omega arith) h in absurd ((none_rule s p).reported_only_if e k.0 k.1)
+      go (evidence.Number y) e = (y, e)

@@ -10,8 +10,9 @@ use Rattle.score_matrix.specs.Scores.{Samples, null_score}
 use Rattle.score_matrix.specs.Accuracy.{weighted, exact_weighted}
 use Rattle.lent_list.specs.Front.{up_to}
 use Rattle.shot_record.specs.Shots.{Shot}
+use Rattle.ranking.specs.declared.Evidence.{Evidence}
+use Rattle.ranking.specs.declared.Evidence.TheVariants as evidence
 use Rattle.hypothesis.specs.Evidence.{Contribution, table_of, code_of, reported_over, exact_over, capacity_sum}
-use Rattle.std.specs.Prelude.{Option, Some, None}
 
 pub record CodedCell : Type 0 where
   pub weight : Float
@@ -42,9 +43,9 @@ module _ (table : List Float) (most : Float) where
   abbrev may_add : Float → CodedCell → Float
   may_add x d = add binary32 x (mul binary32 d.weight most)
 
-  abbrev pub evidence_of : List CodedCell → Option Float
-  evidence_of [] = None
-  evidence_of (d ∷ ds) = Some (foldl adds nought (d ∷ ds))
+  abbrev pub evidence_of : List CodedCell → Evidence
+  evidence_of [] = evidence.Absent
+  evidence_of (d ∷ ds) = evidence.Number (foldl adds nought (d ∷ ds))
 
   abbrev pub exact_of : List CodedCell → Maybe ℤ
   exact_of [] = none
@@ -59,7 +60,7 @@ module _ (s : Shot) (r : ℕ) where
 
   pub by_cells : (cs : List Contribution) → reported_over s r cs ≡ evidence_of (table_of s) most (map (coded_cell s r) cs)
   by_cells [] = refl
-  by_cells (c ∷ cs) = ap Some (folded (adds (table_of s) most) (coded_cell s r) nought (c ∷ cs))
+  by_cells (c ∷ cs) = ap evidence.Number (folded (adds (table_of s) most) (coded_cell s r) nought (c ∷ cs))
 
   pub exact_by_cells : (cs : List Contribution) → exact_over s r cs ≡ exact_of (table_of s) most (map (coded_cell s r) cs)
   exact_by_cells [] = refl

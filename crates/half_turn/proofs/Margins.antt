@@ -16,6 +16,8 @@ use Rattle.floats.specs.Units.{Finite, nought}
 use Rattle.floats.proofs.Compare.{not_lt→le, finite_not_nan}
 use Rattle.floats.proofs.Order.{not_lt_trans}
 use Rattle.floats.proofs.Folds.{Item}
+use Rattle.ranking.specs.declared.Evidence.{Evidence}
+use Rattle.ranking.specs.declared.Evidence.TheVariants as evidence
 use Rattle.ranking.specs.Greatest.{lies_below}
 use Rattle.ranking.specs.Margin.{epsilon, at_least, share, lead, margin}
 use Rattle.ranking.proofs.Margins.{Small}
@@ -47,7 +49,7 @@ no_gap cap = go (lt cap epsilon) refl
     go false e real = by_kind cap e real
 
 -- ---- margins of evidence that ties
-abbrev pub TiedEvidence : Option Float → Option Float → Type 0
+abbrev pub TiedEvidence : Evidence → Evidence → Type 0
 TiedEvidence x y = (lies_below x y ≡ false) × (lies_below y x ≡ false)
 
 abbrev pub TiedNext : Option Hypothesis → Option Hypothesis → Type 0
@@ -57,19 +59,19 @@ TiedNext None (Some h) = ⊥
 TiedNext (Some g) None = ⊥
 
 -- x ties with the evidence of a runner-up
-abbrev pub TiedWith : Option Float → Option Hypothesis → Type 0
+abbrev pub TiedWith : Evidence → Option Hypothesis → Type 0
 TiedWith x None = ⊥
 TiedWith x (Some g) = TiedEvidence x g.evidence
 
 module _ (x : Float) (i : Item binary32 (2 ^ 166) x) (p : Positive x) (cap cap' : Float) where
-  same-share : (y y' : Option Float) → TiedEvidence y y' → Small y → Small y' → Number (share x cap y) → Number (share x cap' y')
-      → (cap ≡ cap') ⊎ TiedEvidence (Some x) y → share x cap y ≡ share x cap' y'
-  same-share None None t j k real real' h = refl
-  same-share None (Some y') t j k real real' h = absurd (false≢true (sym t.0))
-  same-share (Some y) None t j k real real' h = absurd (false≢true (sym t.1))
-  same-share (Some y) (Some y') t j k real real' (inl e) =
+  same-share : (y y' : Evidence) → TiedEvidence y y' → Small y → Small y' → Number (share x cap y) → Number (share x cap' y')
+      → (cap ≡ cap') ⊎ TiedEvidence (evidence.Number x) y → share x cap y ≡ share x cap' y'
+  same-share evidence.Absent evidence.Absent t j k real real' h = refl
+  same-share evidence.Absent (evidence.Number y') t j k real real' h = absurd (false≢true (sym t.0))
+  same-share (evidence.Number y) evidence.Absent t j k real real' h = absurd (false≢true (sym t.1))
+  same-share (evidence.Number y) (evidence.Number y') t j k real real' (inl e) =
       ap₂ (λ (d c : Float). div binary32 d (at_least epsilon c)) (same_difference x y y' j.holds k.holds j.is_finite k.is_finite p t.0 t.1) e
-  same-share (Some y) (Some y') t j k real real' (inr z) =
+  same-share (evidence.Number y) (evidence.Number y') t j k real real' (inr z) =
       let same = same_difference x y y' j.holds k.holds j.is_finite k.is_finite p t.0 t.1 in
       let none : sub binary32 x y ≡ nought =
       ap (sub binary32 x) (sym (tied_positive x y i.holds j.holds i.is_finite j.is_finite p z.0 z.1)) ∙ sub_self x p in
@@ -78,7 +80,7 @@ module _ (x : Float) (i : Item binary32 (2 ^ 166) x) (p : Positive x) (cap cap' 
       gap_is : (c d : Float) → d ≡ nought → Number (div binary32 d (at_least epsilon c)) → div binary32 d (at_least epsilon c) ≡ nought
       gap_is c d e real = rw e (no_gap c (rw e at real))
 
-  same-lead : (o o' : Option Hypothesis) → TiedNext o o' → Number (lead x cap o) → Number (lead x cap' o') → (cap ≡ cap') ⊎ TiedWith (Some x) o
+  same-lead : (o o' : Option Hypothesis) → TiedNext o o' → Number (lead x cap o) → Number (lead x cap' o') → (cap ≡ cap') ⊎ TiedWith (evidence.Number x) o
       → lead x cap o ≡ lead x cap' o'
   same-lead None None n real real' h = refl
   same-lead None (Some g') n real real' h = absurd n
@@ -102,17 +104,17 @@ le_nought x x₀ = go (lt nought x) refl
     go false q = is_true (le x nought) (not_lt→le nought x (finite_not_nan nought tt) (finite_not_nan x x₀) (subst (λ (b : Bool). T (not b)) (sym q) tt))
 
 module _ (cap cap' : Float) (o o' : Option Hypothesis) (next : TiedNext o o') where
-  pub tied_margins : (x x' : Option Float) → Small x → Small x' → TiedEvidence x x' → Number (margin x cap o) → Number (margin x' cap' o')
+  pub tied_margins : (x x' : Evidence) → Small x → Small x' → TiedEvidence x x' → Number (margin x cap o) → Number (margin x' cap' o')
       → (cap ≡ cap') ⊎ TiedWith x o → margin x cap o ≡ margin x' cap' o'
-  tied_margins None None i j t real real' h = refl
-  tied_margins None (Some x') i j t real real' h = absurd (false≢true (sym t.0))
-  tied_margins (Some x) None i j t real real' h = absurd (false≢true (sym t.1))
-  tied_margins (Some x) (Some x') i j t real real' h = go (lt nought x) (lt nought x') refl refl
+  tied_margins evidence.Absent evidence.Absent i j t real real' h = refl
+  tied_margins evidence.Absent (evidence.Number x') i j t real real' h = absurd (false≢true (sym t.0))
+  tied_margins (evidence.Number x) evidence.Absent i j t real real' h = absurd (false≢true (sym t.1))
+  tied_margins (evidence.Number x) (evidence.Number x') i j t real real' h = go (lt nought x) (lt nought x') refl refl
     where
-      at : (y : Float) → Finite y → (c : Float) (n : Option Hypothesis) (b : Bool) → lt nought y ≡ b → margin (Some y) c n ≡ cond (not b) nought (lead y c n)
+      at : (y : Float) → Finite y → (c : Float) (n : Option Hypothesis) (b : Bool) → lt nought y ≡ b → margin (evidence.Number y) c n ≡ cond (not b) nought (lead y c n)
       at y y₀ c n b e = ap (λ (t : Bool). cond t nought (lead y c n)) (le_nought y y₀ ∙ ap not e)
 
-      go : (a b : Bool) → lt nought x ≡ a → lt nought x' ≡ b → margin (Some x) cap o ≡ margin (Some x') cap' o'
+      go : (a b : Bool) → lt nought x ≡ a → lt nought x' ≡ b → margin (evidence.Number x) cap o ≡ margin (evidence.Number x') cap' o'
       go false false p q = at x i.is_finite cap o false p ∙ sym (at x' j.is_finite cap' o' false q)
       go true false p q = absurd (false≢true (sym (not_lt_trans nought x' x tt j.is_finite i.is_finite q t.1) ∙ p))
       go false true p q = absurd (false≢true (sym (not_lt_trans nought x x' tt i.is_finite j.is_finite p t.0) ∙ q))

@@ -9,6 +9,7 @@ use lib.Dec.{lit<}
 use lib.ListN.{get_elem?}
 use Rattle.grid_alignment.specs.declared.GridAlignment.{GridAlignment}
 use Rattle.shot_record.specs.Shots.{Shot}
+use Rattle.ranking.specs.declared.Evidence.{Evidence}
 use Rattle.ranking.specs.declared.Hypothesis.{Hypothesis}
 use Rattle.ranking.specs.Greatest.{lies_below, rest}
 use Rattle.ranking.specs.Margin.{margin}
@@ -30,7 +31,7 @@ use Rattle.half_turn.specs.Ties.{paired_hypothesis, paired_choice, Untied, BestU
 use Rattle.half_turn.proofs.Pairs.{pair_rule, paired_twice}
 use Rattle.half_turn.proofs.Margins.{TiedNext, TiedWith, tied_margins}
 use Rattle.half_turn.proofs.Ranks.{IsBest, IsNext, no_best, best_is, best_or_rest, no_next, none_next, rest-most, next_is}
-use Rattle.std.specs.Prelude.{Option, Some, None, Float}
+use Rattle.std.specs.Prelude.{Option, Some, None}
 
 -- ---- two shots whose placements pair
 pub record Pairing (s t : Shot) (f : GridAlignment → GridAlignment) : Type 0 where
@@ -139,7 +140,7 @@ module _ (s : Shot) (m : TurnedByHalf s) (c : Checked s) (first : 0 < cell_total
       let q = paired s h'.alignment in
       let evidence : reported s q ≡ h'.evidence = back.same h'.alignment at ∙ evidence_is (restated s) h' e' in
       let one : q ≡ h.alignment =
-      alone q (back.there h'.alignment at) (ap (λ (y : Option Float). lies_below y h.evidence) evidence ∙ low)
+      alone q (back.there h'.alignment at) (ap (λ (y : Evidence). lies_below y h.evidence) evidence ∙ low)
       (ap (lies_below h.evidence) evidence ∙ high) in
       sym e' ∙ ap (hypothesis (restated s)) (sym (new_back h'.alignment at) ∙ ap (paired s) one) ∙ pair_is h.alignment ∙ ap (paired_hypothesis s) e
 

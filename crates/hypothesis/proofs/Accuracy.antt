@@ -13,24 +13,25 @@ use Rattle.integers.proofs.Distances.{Near, near→within, lt_z→Lt, Lt→ltZ}
 use Rattle.floats.proofs.Folds.{Item}
 use Rattle.grid_alignment.specs.declared.GridAlignment.{GridAlignment}
 use Rattle.shot_record.specs.Shots.{Shot}
+use Rattle.ranking.specs.declared.Evidence.{Evidence}
+use Rattle.ranking.specs.declared.Evidence.TheVariants as evidence
 use Rattle.ranking.specs.Rules.{FiniteEvidence}
 use Rattle.ranking.proofs.Margins.{Small}
 use Rattle.hypothesis.specs.Evidence.{Contribution, contributions, reported_sum, exact_sum, reported_over, reported, exact_over, exact}
 use Rattle.hypothesis.specs.Accuracy.{Checked, AccuracyRule, bound, wide}
 use Rattle.hypothesis.proofs.Partial.{reported_item, reported-near}
-use Rattle.std.specs.Prelude.{Option, Some, None}
 
 -- ---- from the list of contributing cells
 module _ (s : Shot) (r : ℕ) where
-  none_if : (cs : List Contribution) → exact_over s r cs ≡ none → reported_over s r cs ≡ None
+  none_if : (cs : List Contribution) → exact_over s r cs ≡ none → reported_over s r cs ≡ evidence.Absent
   none_if [] e = refl
   none_if (c ∷ cs) e = absurd (some-ne-none _ e)
 
-  none_only_if : (cs : List Contribution) → reported_over s r cs ≡ None → exact_over s r cs ≡ none
+  none_only_if : (cs : List Contribution) → reported_over s r cs ≡ evidence.Absent → exact_over s r cs ≡ none
   none_only_if [] e = refl
   none_only_if (c ∷ cs) e = absurd (let o : ◌≡◌ {A = ℕ} 0 1 = cc in omega arith)
 
-  has-number : (cs : List Contribution) (z : ℤ) → exact_over s r cs ≡ some z → (x : Float) × (reported_over s r cs ≡ Some x)
+  has-number : (cs : List Contribution) (z : ℤ) → exact_over s r cs ≡ some z → (x : Float) × (reported_over s r cs ≡ evidence.Number x)
   has-number [] z e = absurd (none-ne-some z e)
   has-number (c ∷ cs) z e = (_, refl)
 
@@ -39,7 +40,7 @@ module _ (s : Shot) (r : ℕ) where
   small (c ∷ cs) i = i
 
   both : (cs : List Contribution) (d : ℕ) → Near (wide (reported_sum s r cs)) (exact_sum s r cs) d → (x : Float) (z : ℤ)
-      → reported_over s r cs ≡ Some x → exact_over s r cs ≡ some z → Near (wide x) z d
+      → reported_over s r cs ≡ evidence.Number x → exact_over s r cs ≡ some z → Near (wide x) z d
   both [] d h x z e f = absurd (let o : ◌≡◌ {A = ℕ} 0 1 = cc in omega arith)
   both (c ∷ cs) d h x z e f =
       let p : reported_sum s r (c ∷ cs) ≡ x = cc in
@@ -47,9 +48,9 @@ module _ (s : Shot) (r : ℕ) where
       subst (λ (u : ℤ). Near (wide x) u d) q (subst (λ (u : Float). Near (wide u) (exact_sum s r (c ∷ cs)) d) p h)
 
 -- ---- small and finite evidence
-small_finite : (x : Option Float) → Small x → FiniteEvidence x
-small_finite None h = tt
-small_finite (Some x) h = h.is_finite
+small_finite : (x : Evidence) → Small x → FiniteEvidence x
+small_finite evidence.Absent h = tt
+small_finite (evidence.Number x) h = h.is_finite
 
 module _ (s : Shot) (c : Checked s) (p : GridAlignment) where
   pub reported-small : Small (reported s p)
@@ -67,11 +68,11 @@ leads d x y e z h k l = lt_z_yes (Lt→ltZ z e (omega (arith, sub_is_parts x y, 
 
 -- ---- the rule
 module _ (s : Shot) (c : Checked s) where
-  near : (p : GridAlignment) (x : Float) (z : ℤ) → reported s p ≡ Some x → exact s p ≡ some z → Near (wide x) z (bound s)
+  near : (p : GridAlignment) (x : Float) (z : ℤ) → reported s p ≡ evidence.Number x → exact s p ≡ some z → Near (wide x) z (bound s)
   unfolding reported exact
   near p = both s p.turn (contributions s p) (bound s) (reported-near s c p)
 
-  number_of : (p : GridAlignment) (z : ℤ) → exact s p ≡ some z → (x : Float) × (reported s p ≡ Some x)
+  number_of : (p : GridAlignment) (z : ℤ) → exact s p ≡ some z → (x : Float) × (reported s p ≡ evidence.Number x)
   unfolding reported exact
   number_of p = has-number s p.turn (contributions s p)
 

@@ -22,6 +22,7 @@ use Rattle.board.proofs.Counting.{count_at-most}
 use Rattle.score_matrix.specs.Scores.{Samples}
 use Rattle.lent_list.specs.Front.{up_to}
 use Rattle.shot_record.specs.Shots.{Shot}
+use Rattle.ranking.specs.declared.Evidence.TheVariants as evidence
 use Rattle.hypothesis.specs.Placements.{cell_total, cell_point}
 use Rattle.hypothesis.specs.Evidence.{board_in, weight_of, samples_of, expected, Contribution, contributed_with, contributed, contributions_to, contributions}
 use Rattle.hypothesis.specs.Evidence.{reported_over, reported, exact_over, exact}
@@ -117,7 +118,7 @@ none_rule s p =
         go [] f = refl
         go (c ∷ cs) f = absurd (f c (Memᴰ.head refl))
 
-    reported_none : (cs : List Contribution) → reported_over s p.turn cs ≡ None → (c : Contribution) × Memᴰ c cs → ⊥
+    reported_none : (cs : List Contribution) → reported_over s p.turn cs ≡ evidence.Absent → (c : Contribution) × Memᴰ c cs → ⊥
     reported_none [] e c = Memᴰ.not-nil c.1
     reported_none (d ∷ cs) e c = let z : ◌≡◌ {A = ℕ} 0 1 = cc in omega arith
 
@@ -136,10 +137,10 @@ count_rule s p =
       none_only_if = none_only_if (contributions s p);
     }
   where
-    none_if : (cs : List Contribution) → length cs ≡ 0 → reported_over s p.turn cs ≡ None
+    none_if : (cs : List Contribution) → length cs ≡ 0 → reported_over s p.turn cs ≡ evidence.Absent
     none_if [] e = refl
     none_if (c ∷ cs) e = absurd (omega (arith, e))
 
-    none_only_if : (cs : List Contribution) → reported_over s p.turn cs ≡ None → length cs ≡ 0
+    none_only_if : (cs : List Contribution) → reported_over s p.turn cs ≡ evidence.Absent → length cs ≡ 0
     none_only_if [] e = refl
     none_only_if (c ∷ cs) e = absurd (let z : ◌≡◌ {A = ℕ} 0 1 = cc in omega arith)

@@ -8,6 +8,7 @@ use Rattle.floats.specs.Units.{nought}
 use Rattle.floats.proofs.Signs.{nonnegative_not_nan}
 use Rattle.grid_alignment.specs.declared.GridAlignment.{GridAlignment}
 use Rattle.shot_record.specs.Shots.{Shot}
+use Rattle.ranking.specs.declared.Evidence.{Evidence}
 use Rattle.ranking.specs.declared.Hypothesis.{Hypothesis}
 use Rattle.ranking.specs.Greatest.{lies_below, rest}
 use Rattle.ranking.specs.Margin.{margin}
@@ -20,7 +21,7 @@ use Rattle.hypothesis.specs.Accuracy.{Checked}
 use Rattle.hypothesis.proofs.Partial.{capacity_item}
 use Rattle.hypothesis.proofs.Accuracy.{reported-small}
 use Rattle.hypothesis.proofs.Turned.{all_finite}
-use Rattle.std.specs.Prelude.{Option, Some, None, Float}
+use Rattle.std.specs.Prelude.{Option, Some, None}
 
 -- ---- a placement with its reported evidence
 abbrev Reported : Shot → Hypothesis → Type 0
@@ -35,7 +36,7 @@ module _ (s : Shot) (c : Checked s) where
   small : (h : Hypothesis) → Reported s h → Small h.evidence
   small h e = subst Small (sym e) (reported-small s c h.alignment)
 
-  small_next : (b : Option Float) (next : Option Hypothesis) → Of (Reported s) next → Of (λ h. lies_below b h.evidence ≡ false) next → SmallNext b next
+  small_next : (b : Evidence) (next : Option Hypothesis) → Of (Reported s) next → Of (λ h. lies_below b h.evidence ≡ false) next → SmallNext b next
   small_next b None h k = tt
   small_next b (Some g) h k = (small g h, k)
 

@@ -11,13 +11,13 @@ use lib.Ieee.{Float, nan}
 use borrow.Author.Tests.{lt-ltb}
 use Rattle.lent_list.specs.Front.{up_to}
 use Rattle.shot_record.specs.Shots.{Shot}
+use Rattle.ranking.specs.declared.Evidence.TheVariants as evidence
 use Rattle.hypothesis.specs.declared.framing.Turn.{Turn}
 use Rattle.hypothesis.specs.declared.turns.Contributing.{Contributing}
 use Rattle.hypothesis.specs.Placements.{cell_total, moves_across, moves_down, shifted}
 use Rattle.hypothesis.specs.Evidence.{Contribution, contributions, reported_sum, reported_over, reported}
 use Rattle.hypothesis.specs.Turns.{count_at, turn_of, Summed}
 use Rattle.hypothesis.specs.Filling.{SumsTo, none_contributing, Cleared}
-use Rattle.std.specs.Prelude.{Some, None}
 
 -- ---- no cell yet
 neither : (t : Bool) → ◌≡◌ {A = ℕ} (cond t 0 0) 0
@@ -39,7 +39,7 @@ no_cells s r sums clear =
 
 -- ---- all cells
 evidence_is : (s : Shot) (r : ℕ) (cs : List Contribution) (x : Float) (n : ℕ) → x ≡ reported_sum s r cs → n ≡ length cs
-    → cond (ltb 0 n) (Some x) None ≡ reported_over s r cs
+    → cond (ltb 0 n) (evidence.Number x) evidence.Absent ≡ reported_over s r cs
 evidence_is s r [] x n e f = rw f
 evidence_is s r (c ∷ cs) x n e f = rw (f, e, lt-ltb 0 (length (c ∷ cs)) (omega arith))
 

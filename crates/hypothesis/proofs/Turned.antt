@@ -10,6 +10,7 @@ use lib.Ieee.{Float}
 use Rattle.grid_alignment.specs.declared.GridAlignment.{GridAlignment}
 use Rattle.shot_record.specs.Shots.{Shot, list}
 use Rattle.shot_record.proofs.Lists.{last_listed}
+use Rattle.ranking.specs.declared.Evidence.{Evidence}
 use Rattle.ranking.specs.declared.Ranking.{Ranking}
 use Rattle.ranking.specs.Margin.{margin}
 use Rattle.ranking.specs.Ranking.{ranking_of, ranked, ranked_to}
@@ -63,7 +64,7 @@ module _ (s : Shot) (c : Checked s) where
         let b = j % moves_down s r in
         let l₁ : a < moves_across s r = (div-lt_iff_lt-mul d₀).1 l in
         let l₂ : b < moves_down s r = mod-lt j d₀ in
-        ap₂ (λ (e : Option Float) (n : ℕ). record { alignment = placement_at s r j; evidence = e; contributing_cells = n })
+        ap₂ (λ (e : Evidence) (n : ℕ). record { alignment = placement_at s r j; evidence = e; contributing_cells = n })
         (h.evidence_is a b l₁ l₂) (h.count_is a b l₁ l₂)
 
     pub turn-ranked : (k : Ranking) → k ≡ ranking_of (map (hypothesis s) (with_turns_below s r))

@@ -1,5 +1,5 @@
 -- Document 01, Search: the accuracy rule, a bound of the rounding error, for every placement of a shot. Exact values are integer multiples of 2⁻²⁹⁸.
-use Rattle.std.specs.Prelude.{ℕ, ◌+◌, ◌*◌, ◌^◌, ◌≤◌, ◌<◌, ◌≡◌, false, get_or, ℤ, pos, ◌-ℤ◌, ◌*ℤ◌, ◌<ℤ◌, T, Float, Some, None}
+use Rattle.std.specs.Prelude.{ℕ, ◌+◌, ◌*◌, ◌^◌, ◌≤◌, ◌<◌, ◌≡◌, false, get_or, ℤ, pos, ◌-ℤ◌, ◌*ℤ◌, ◌<ℤ◌, T, Float, Some}
 use Rattle.std.proofs.Math.Option.{none, some}
 use Rattle.std.proofs.Math.ListN.{get_elem?}
 use Rattle.integers.specs.Distance.{Within}
@@ -8,6 +8,7 @@ use Rattle.grid_alignment.specs.declared.GridAlignment.{GridAlignment}
 use Rattle.score_matrix.specs.Table.{is_table}
 use Rattle.shot_record.specs.Shots.{Sample, Shot}
 use Rattle.shot_record.specs.Answers.{of_pattern}
+use Rattle.ranking.specs.declared.Evidence.TheVariants as evidence
 use Rattle.ranking.specs.declared.Hypothesis.{Hypothesis}
 use Rattle.ranking.specs.Greatest.{lies_below}
 use Rattle.hypothesis.specs.Placements.{cell_total, cell, placements}
@@ -28,17 +29,17 @@ Placement s p = (k : ℕ) × (get_elem? (placements s) k ≡ some p)
 
 -- the best's lead over another placement with a number, computed without rounding, is more than twice the bound
 abbrev pub Leads : Shot → Float → GridAlignment → Type 0
-Leads s x q = (y : Float) → reported s q ≡ Some y → pos (2 * bound s) <ℤ (wide x -ℤ wide y)
+Leads s x q = (y : Float) → reported s q ≡ evidence.Number y → pos (2 * bound s) <ℤ (wide x -ℤ wide y)
 
 -- For every placement: the reported evidence is none exactly when the exact one is, is finite, and is within the bound of it. If the best leads every
 -- other placement that has a number, every other placement has less exact evidence than the best, or none.
 pub record AccurateEvidence (s : Shot) : Type 0 where
-  pub none_if : (p : GridAlignment) → Placement s p → exact s p ≡ none → reported s p ≡ None
-  pub none_only_if : (p : GridAlignment) → Placement s p → reported s p ≡ None → exact s p ≡ none
-  pub is_finite : (p : GridAlignment) → Placement s p → (x : Float) → reported s p ≡ Some x → Finite x
-  pub near : (p : GridAlignment) → Placement s p → (x : Float) (z : ℤ) → reported s p ≡ Some x → exact s p ≡ some z → Within (wide x) z (bound s)
+  pub none_if : (p : GridAlignment) → Placement s p → exact s p ≡ none → reported s p ≡ evidence.Absent
+  pub none_only_if : (p : GridAlignment) → Placement s p → reported s p ≡ evidence.Absent → exact s p ≡ none
+  pub is_finite : (p : GridAlignment) → Placement s p → (x : Float) → reported s p ≡ evidence.Number x → Finite x
+  pub near : (p : GridAlignment) → Placement s p → (x : Float) (z : ℤ) → reported s p ≡ evidence.Number x → exact s p ≡ some z → Within (wide x) z (bound s)
   pub true_lead :
-      (b : Hypothesis) (x : Float) (e : ℤ) → best s ≡ Some b → reported s b.alignment ≡ Some x → exact s b.alignment ≡ some e
+      (b : Hypothesis) (x : Float) (e : ℤ) → best s ≡ Some b → reported s b.alignment ≡ evidence.Number x → exact s b.alignment ≡ some e
       → ((q : GridAlignment) → Placement s q → (q ≡ b.alignment → ⊥) → Leads s x q)
       → (q : GridAlignment) → Placement s q → (q ≡ b.alignment → ⊥) → (z : ℤ) → exact s q ≡ some z → z <ℤ e
 

@@ -18,6 +18,8 @@ use Rattle.score_matrix.specs.Accuracy.{weighted, exact_weighted}
 use Rattle.lent_list.specs.Front.{up_to}
 use Rattle.shot_record.specs.Shots.{Sample, Shot}
 use Rattle.shot_record.specs.Answers.{of_pattern, config_of, spec_of, grid_with, border_with, threshold_with}
+use Rattle.ranking.specs.declared.Evidence.{Evidence}
+use Rattle.ranking.specs.declared.Evidence.TheVariants as evidence
 use Rattle.hypothesis.specs.Placements.{cell_total, cell, cell_point}
 
 -- the board, the likelihood table, and the code of a marker after r quarter turns
@@ -91,11 +93,11 @@ abbrev pub capacity_sum : Shot → List Contribution → Float
 capacity_sum s cs = foldl (λ (x : Float) (c : Contribution). add binary32 x (capacity_term s c)) nought cs
 
 -- A placement's reported evidence: the weighted log-likelihood ratio as f32 sum, or `Absent` (upstream's −∞) where no cell contributes.
-abbrev pub reported_over : Shot → ℕ → List Contribution → Option Float
-reported_over s r [] = None
-reported_over s r (c ∷ cs) = Some (reported_sum s r (c ∷ cs))
+abbrev pub reported_over : Shot → ℕ → List Contribution → Evidence
+reported_over s r [] = evidence.Absent
+reported_over s r (c ∷ cs) = evidence.Number (reported_sum s r (c ∷ cs))
 
-unfoldable pub reported : Shot → GridAlignment → Option Float
+unfoldable pub reported : Shot → GridAlignment → Evidence
 reported s p = reported_over s p.turn (contributions s p)
 
 -- Its exact evidence: the same sum without rounding, as an integer multiple of 2⁻²⁹⁸, or none where no cell contributes.

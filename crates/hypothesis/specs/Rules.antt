@@ -1,5 +1,5 @@
 -- Laws of the placements, of their evidence and of the counts of their contributing cells.
-use Rattle.std.specs.Prelude.{ℕ, ◌+◌, ◌-◌, ◌*◌, ◌≤◌, ◌<◌, ◌≡◌, ◌⊎◌, Bool, true, false, ◌&&◌, cond, leb, ltb, length, ℤ, pos, negsuc, ◌<ℤ◌, Some, None}
+use Rattle.std.specs.Prelude.{ℕ, ◌+◌, ◌-◌, ◌*◌, ◌≤◌, ◌<◌, ◌≡◌, ◌⊎◌, Bool, true, false, ◌&&◌, cond, leb, ltb, length, ℤ, pos, negsuc, ◌<ℤ◌, Some}
 use Rattle.std.proofs.Math.Option.{none, some}
 use Rattle.std.proofs.Math.ListN.{get_elem?}
 use Rattle.std.specs.Float.Ieee.{lt}
@@ -11,6 +11,7 @@ use Rattle.board.specs.declared.Board.{Board}
 use Rattle.board.specs.Numbering.{count_passing}
 use Rattle.board.specs.Layout.{parity_of, holds_marker}
 use Rattle.shot_record.specs.Shots.{Shot}
+use Rattle.ranking.specs.declared.Evidence.TheVariants as evidence
 use Rattle.hypothesis.specs.Placements.{cell_total, cell_point, frame, placements}
 use Rattle.hypothesis.specs.Evidence.{board_in, weight_of, expected, contributing_cells, reported, exact}
 
@@ -58,8 +59,8 @@ pub record Contributes (s : Shot) (p : GridAlignment) (k : ℕ) : Type 0 where
 
 -- evidence, reported and exact, is none exactly when no cell contributes
 pub record NoneExactly (s : Shot) (p : GridAlignment) : Type 0 where
-  pub reported_if : ((k : ℕ) → Contributes s p k → ⊥) → reported s p ≡ None
-  pub reported_only_if : reported s p ≡ None → (k : ℕ) → Contributes s p k → ⊥
+  pub reported_if : ((k : ℕ) → Contributes s p k → ⊥) → reported s p ≡ evidence.Absent
+  pub reported_only_if : reported s p ≡ evidence.Absent → (k : ℕ) → Contributes s p k → ⊥
   pub exact_if : ((k : ℕ) → Contributes s p k → ⊥) → exact s p ≡ none
   pub exact_only_if : exact s p ≡ none → (k : ℕ) → Contributes s p k → ⊥
 
@@ -83,8 +84,8 @@ is_contributing s p k = lt nought (weight_of s k) && lands_on_marker s p k
 pub record CountsCells (s : Shot) (p : GridAlignment) : Type 0 where
   pub number : contributing_cells s p ≡ count_passing (is_contributing s p) (cell_total s)
   pub at_most : contributing_cells s p ≤ cell_total s
-  pub none_if : contributing_cells s p ≡ 0 → reported s p ≡ None
-  pub none_only_if : reported s p ≡ None → contributing_cells s p ≡ 0
+  pub none_if : contributing_cells s p ≡ 0 → reported s p ≡ evidence.Absent
+  pub none_only_if : reported s p ≡ evidence.Absent → contributing_cells s p ≡ 0
 
 abbrev pub CountRule : Type 0
 CountRule = (s : Shot) (p : GridAlignment) → CountsCells s p

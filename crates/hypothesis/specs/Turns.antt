@@ -4,6 +4,8 @@ use Rattle.std.specs.Float.{nan}
 use Rattle.grid_alignment.specs.declared.GridAlignment.{GridAlignment}
 use Rattle.board.specs.declared.Board.{Board}
 use Rattle.shot_record.specs.Shots.{Shot}
+use Rattle.ranking.specs.declared.Evidence.{Evidence}
+use Rattle.ranking.specs.declared.Evidence.TheVariants as evidence
 use Rattle.ranking.specs.declared.Hypothesis.{Hypothesis}
 use Rattle.ranking.specs.declared.Ranking.{Ranking}
 use Rattle.ranking.specs.Margin.{margin}
@@ -37,8 +39,8 @@ abbrev pub count_at : Contributing → ℕ → ℕ
 count_at contributing n = cond (eqb (n % 2) 0) contributing.even contributing.odd
 
 -- The evidence of the placement whose frame is moved by (a, b): with d moves down, its sum is at index a × d + b.
-abbrev pub evidence_at : List Float → Contributing → ℕ → ℕ → ℕ → Option Float
-evidence_at sums contributing d a b = cond (ltb 0 (count_at contributing (a + b))) (Some (get_or sums (a * d + b) nan)) None
+abbrev pub evidence_at : List Float → Contributing → ℕ → ℕ → ℕ → Evidence
+evidence_at sums contributing d a b = cond (ltb 0 (count_at contributing (a + b))) (evidence.Number (get_or sums (a * d + b) nan)) evidence.Absent
 
 -- the sums and the counts are those of all placements of turn r
 pub record Summed (s : Shot) (r : ℕ) (sums : List Float) (contributing : Contributing) : Type 0 where

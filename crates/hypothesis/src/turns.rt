@@ -10,7 +10,7 @@ ghost use Rattle.hypothesis.specs.Turns.{count_at, evidence_at, moved_to, SmallT
 use super::framing::Turn;
 use super::{Inputs, Selection, capacity};
 use grid_alignment::GridAlignment;
-use ranking::{Hypothesis, Ranking};
+use ranking::{Evidence, Hypothesis, Ranking};
 
 // Counts of contributing cells. Markers alternate by parity, so all placements with the same parity of a + b have the same count.
 #[derive(Clone, Copy)]
@@ -29,21 +29,21 @@ fn count_at(contributing: Contributing, n: usize) -> usize
     contributing.odd
 }
 
-// The evidence of the placement moved by (a, b): none where no cell contributes.
+// The evidence of the placement moved by (a, b): `Absent` where no cell contributes.
 pub fn placement_sum(
     sums: &[f32; 1024],
     contributing: Contributing,
     down: usize,
     a: usize,
     b: usize,
-) -> Option<f32>
+) -> Evidence
     requires { (a < 32) × (b < 32) × (down ≤ 32) }
     ensures { result ≡ evidence_at sums.now contributing down a b }
 {
     if 0 < count_at(contributing, a + b) {
-        Some(sums[a * down + b])
+        Evidence::Number(sums[a * down + b])
     } else {
-        None
+        Evidence::Absent
     }
 }
 

@@ -14,6 +14,8 @@ use Rattle.lent_list.proofs.Front.{up_to-most}
 use Rattle.refusal.specs.declared.Refusal.{Refusal}
 use Rattle.refusal.specs.declared.Refusal.TheVariants as refusal
 use Rattle.refusal.specs.Numbers.{number_of, values_of}
+use Rattle.ranking.specs.declared.Evidence.{Evidence}
+use Rattle.ranking.specs.declared.Evidence.TheVariants as evidence
 use Rattle.ranking.specs.declared.Hypothesis.{Hypothesis}
 use Rattle.grid_alignment.specs.declared.GridAlignment.{GridAlignment}
 use Rattle.board_match.specs.declared.Match.{Match}
@@ -26,7 +28,7 @@ use Rattle.place_text.specs.Text.{line, and_words, float_word, the_placed, the_b
 use Rattle.place_text.specs.Text.{hypothesis_line, next_line, corners_line, word_of, reading, marker_line, marker_lines, match_lines, refusal_line, answer_line, text_of}
 use Rattle.place_text.specs.Room.{Room}
 use Rattle.place_text.proofs.Numerals.{decimal-short, decimal-long}
-use Rattle.std.specs.Prelude.{Option, Result, Some, None, Ok, Err, Float}
+use Rattle.std.specs.Prelude.{Option, Result, Some, None, Ok, Err}
 
 pub decimal-room : (k n : ℕ) → n < 10 ^ suc k → length (decimal n) ≤ suc k
 decimal-room zero n h = rw (decimal-short n h) (omega arith)
@@ -57,9 +59,9 @@ signed_word-room n h = go (ltb n 2147483648)
     go true = omega (arith, decimal-room 9 n (omega arith))
     go false = omega (arith, decimal-room 9 (4294967296 - n) (omega arith))
 
-evidence-room : (e : Option Float) → length (evidence_word e) ≤ 8
-evidence-room (Some x) = omega (arith, hex8-room (to_bits binary32 x))
-evidence-room None = omega arith
+evidence-room : (e : Evidence) → length (evidence_word e) ≤ 8
+evidence-room (evidence.Number x) = omega (arith, hex8-room (to_bits binary32 x))
+evidence-room evidence.Absent = omega arith
 
 hypothesis-room : (cells : ℕ) (first : List ℕ) (h : Hypothesis) → cells ≤ 256 → SmallHypothesis cells h → length (hypothesis_line first h) ≤ length first + 28
 hypothesis-room cells first h few s =

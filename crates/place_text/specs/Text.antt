@@ -6,6 +6,8 @@ use Rattle.lent_list.specs.Front.{up_to}
 use Rattle.refusal.specs.declared.Refusal.{Refusal}
 use Rattle.refusal.specs.Numbers.{number_of, values_of}
 use Rattle.grid_alignment.specs.declared.GridAlignment.{GridAlignment}
+use Rattle.ranking.specs.declared.Evidence.{Evidence}
+use Rattle.ranking.specs.declared.Evidence.TheVariants as evidence
 use Rattle.ranking.specs.declared.Hypothesis.{Hypothesis}
 use Rattle.board_match.specs.declared.Match.{Match}
 use Rattle.place_text.specs.Numerals.{hex8, decimal, signed_decimal, signed_word}
@@ -62,9 +64,9 @@ abbrev pub float_word : Float → List ℕ
 float_word x = hex8 (to_bits binary32 x)
 
 -- the evidence's bit pattern or `none`
-abbrev pub evidence_word : Option Float → List ℕ
-evidence_word (Some x) = float_word x
-evidence_word None = the_none
+abbrev pub evidence_word : Evidence → List ℕ
+evidence_word (evidence.Number x) = float_word x
+evidence_word evidence.Absent = the_none
 
 -- best and next: turn, tx, ty, evidence, and the number of contributing cells (document 02, 2.5)
 abbrev pub hypothesis_line : List ℕ → Hypothesis → List ℕ

@@ -5,6 +5,7 @@ ghost use Rattle.place_text.specs.Text.{evidence_word};
 ghost use Rattle.place_text.specs.Writing.{Wrote};
 
 use super::writer::Page;
+use ranking::Evidence;
 
 impl<'a> Page<'a> {
     pub fn and_decimal(&mut self, n: u64)
@@ -35,12 +36,12 @@ impl<'a> Page<'a> {
         self.put_hex8(low);
     }
 
-    pub fn and_evidence(&mut self, evidence: Option<f32>)
+    pub fn and_evidence(&mut self, evidence: Evidence)
         ensures { Wrote (32 ∷ evidence_word evidence) self.old self.new }
     {
         match evidence {
-            Some(x) => self.and_hex8(floats::to_bits(x)),
-            None => self.put_all(b" none"),
+            Evidence::Number(x) => self.and_hex8(floats::to_bits(x)),
+            Evidence::Absent => self.put_all(b" none"),
         }
     }
 }

@@ -5,13 +5,14 @@ use Prim.Native.Nat.{ℕ, ◌+◌}
 use native.Mathlib.Omega.{arith}
 use mathlib.Core.Bool.{Bool, true, false, ◌&&◌}
 use borrow.Author.Tests.{not-true}
+use Rattle.ranking.specs.declared.Evidence.{Evidence}
 use Rattle.ranking.specs.declared.Hypothesis.{Hypothesis}
 use Rattle.ranking.specs.declared.Ranking.{Ranking}
 use Rattle.ranking.specs.Greatest.{lies_below}
 use Rattle.ranking.specs.Ranking.{ranking, better, ranked, ranked_to, Held, keeps_place, changes_nothing}
 use Rattle.ranking.proofs.Order.{clash}
 use Rattle.ranking.proofs.RankedTo.{ranked_next}
-use Rattle.std.specs.Prelude.{Option, Some, None, Float}
+use Rattle.std.specs.Prelude.{Option, Some, None}
 
 both : (s t : Bool) → s && t ≡ true → (s ≡ true) × (t ≡ true)
 both false t e = absurd (clash false refl e)
@@ -38,7 +39,7 @@ module _ (k : Ranking) (f : ℕ → Hypothesis) where
     held-ranked x h' a e = rw (e, a) (ap (ranking _ _) (omega arith) ∙ ap (λ (y : Ranking). ranked y (f n)) g ∙ ranked_next k f n)
 
     -- one more that changes nothing
-    pub held-unchanged : (e : Option Float) → e ≡ (f n).evidence → changes_nothing h.best h.runner_up e ≡ true → Held k f (n + 1) h
+    pub held-unchanged : (e : Evidence) → e ≡ (f n).evidence → changes_nothing h.best h.runner_up e ≡ true → Held k f (n + 1) h
     held-unchanged e a t =
         let p = h.best in
         let q = h.runner_up in

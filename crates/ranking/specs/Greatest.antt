@@ -1,13 +1,15 @@
 -- Document 01, Search: the order of evidence, the first greatest of a list of placements, and the list without it.
-use Rattle.std.specs.Prelude.{Bool, true, false, cond, List, [], ◌∷◌, Option, Some, None, Float}
+use Rattle.std.specs.Prelude.{Bool, true, false, cond, List, [], ◌∷◌, Option, Some, None}
 use Rattle.std.specs.Float.Ieee.{lt}
+use Rattle.ranking.specs.declared.Evidence.{Evidence}
+use Rattle.ranking.specs.declared.Evidence.TheVariants as evidence
 use Rattle.ranking.specs.declared.Hypothesis.{Hypothesis}
 
 -- `Absent` is below every number.
-abbrev pub lies_below : Option Float → Option Float → Bool
-lies_below x None = false
-lies_below None (Some y) = true
-lies_below (Some x) (Some y) = lt x y
+abbrev pub lies_below : Evidence → Evidence → Bool
+lies_below x evidence.Absent = false
+lies_below evidence.Absent (evidence.Number y) = true
+lies_below (evidence.Number x) (evidence.Number y) = lt x y
 
 -- `first_greatest`: the first placement of maximum evidence (argmax). The head, unless that of the others is above it.
 abbrev pub over : Hypothesis → Option Hypothesis → Option Hypothesis

@@ -1,5 +1,6 @@
 -- Document 01, Search: best and runner-up of the placements seen, updated by further placements.
-use Rattle.std.specs.Prelude.{◌≡◌, ℕ, zero, suc, ◌+◌, Bool, false, not, ◌&&◌, cond, List, length, Option, Some, None, Float}
+use Rattle.std.specs.Prelude.{◌≡◌, ℕ, zero, suc, ◌+◌, Bool, false, not, ◌&&◌, cond, List, length, Option, Some, None}
+use Rattle.ranking.specs.declared.Evidence.{Evidence}
 use Rattle.ranking.specs.declared.Hypothesis.{Hypothesis}
 use Rattle.ranking.specs.declared.Ranking.{Ranking}
 use Rattle.ranking.specs.Greatest.{lies_below, first_greatest, rest}
@@ -34,10 +35,10 @@ abbrev pub Held : Ranking → (ℕ → Hypothesis) → ℕ → Ranking → Type 
 Held k f n h = ranking h.best h.runner_up (k.total + n) ≡ ranked_to k f n
 
 -- Is it a placement not below this evidence, which one with this evidence does not replace?
-abbrev pub keeps_place : Option Hypothesis → Option Float → Bool
+abbrev pub keeps_place : Option Hypothesis → Evidence → Bool
 keeps_place None e = false
 keeps_place (Some h) e = not (lies_below h.evidence e)
 
 -- The same of best and runner-up: a placement with this evidence then changes only the count.
-abbrev pub changes_nothing : Option Hypothesis → Option Hypothesis → Option Float → Bool
+abbrev pub changes_nothing : Option Hypothesis → Option Hypothesis → Evidence → Bool
 changes_nothing best runner_up e = keeps_place runner_up e && keeps_place best e

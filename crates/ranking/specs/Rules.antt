@@ -1,15 +1,17 @@
 -- The laws of the first greatest and of the rest, proved in `proofs/`.
-use Rattle.std.specs.Prelude.{ℕ, suc, ◌<◌, ◌≡◌, true, false, List, ◌++◌, take, drop, Option, Some, None, Float}
+use Rattle.std.specs.Prelude.{ℕ, suc, ◌<◌, ◌≡◌, true, false, List, ◌++◌, take, drop, Some}
 use Rattle.std.proofs.Math.Option.{some}
 use Rattle.std.proofs.Math.ListN.{get_elem?}
 use Rattle.floats.specs.Units.{Finite}
+use Rattle.ranking.specs.declared.Evidence.{Evidence}
+use Rattle.ranking.specs.declared.Evidence.TheVariants as evidence
 use Rattle.ranking.specs.declared.Hypothesis.{Hypothesis}
 use Rattle.ranking.specs.Greatest.{lies_below, first_greatest, rest}
 
 -- evidence is none or a finite number
-abbrev pub FiniteEvidence : Option Float → Type 0
-FiniteEvidence None = Unit {0}
-FiniteEvidence (Some x) = Finite x
+abbrev pub FiniteEvidence : Evidence → Type 0
+FiniteEvidence evidence.Absent = Unit {0}
+FiniteEvidence (evidence.Number x) = Finite x
 
 abbrev pub AllFinite : List Hypothesis → Type 0
 AllFinite hs = (k : ℕ) (h : Hypothesis) → get_elem? hs k ≡ some h → FiniteEvidence h.evidence

@@ -9,12 +9,18 @@ ghost use Rattle.ranking.specs.Ranking.{ranking_of, better as better_of, ranked 
 
 use grid_alignment::GridAlignment;
 
-// A placement (candidate grid alignment) with its evidence, none where upstream's is −∞, and its number of contributing cells, which does not affect
-// the ranking.
+// The evidence of a placement. `Absent` (upstream's −∞) is below every number.
+#[derive(Clone, Copy)]
+pub enum Evidence {
+    Number(f32),
+    Absent,
+}
+
+// A placement (candidate grid alignment) with its evidence and its number of contributing cells, which does not affect the ranking.
 #[derive(Clone, Copy)]
 pub struct Hypothesis {
     pub alignment: GridAlignment,
-    pub evidence: Option<f32>,
+    pub evidence: Evidence,
     pub contributing_cells: usize,
 }
 
@@ -36,14 +42,14 @@ pub fn no_ranking() -> Ranking
     }
 }
 
-// No evidence is below every number.
-pub fn below(a: Option<f32>, b: Option<f32>) -> bool
+// `Absent` is below every number.
+pub fn below(a: Evidence, b: Evidence) -> bool
     ensures { result ≡ lies_below a b }
 {
     match (a, b) {
-        (_, None) => false,
-        (None, Some(_)) => true,
-        (Some(x), Some(y)) => x < y,
+        (_, Evidence::Absent) => false,
+        (Evidence::Absent, Evidence::Number(_)) => true,
+        (Evidence::Number(x), Evidence::Number(y)) => x < y,
     }
 }
 
@@ -78,7 +84,7 @@ pub fn ranked(ranking: Ranking, h: Hypothesis) -> Ranking
 }
 
 // Is `held` a placement not below this evidence? Then one with this evidence does not replace it.
-fn keeps_place(held: Option<Hypothesis>, evidence: Option<f32>) -> bool
+fn keeps_place(held: Option<Hypothesis>, evidence: Evidence) -> bool
     ensures { result ≡ keeps_place held evidence }
 {
     match held {
@@ -92,7 +98,7 @@ fn keeps_place(held: Option<Hypothesis>, evidence: Option<f32>) -> bool
 pub fn changes_nothing(
     best: Option<Hypothesis>,
     runner_up: Option<Hypothesis>,
-    evidence: Option<f32>,
+    evidence: Evidence,
 ) -> bool
     ensures { result ≡ changes_nothing best runner_up evidence }
 {
@@ -103,10 +109,10 @@ pub fn changes_nothing(
 const EPSILON: f32 = 1.1920929e-7;
 
 // The gap to the runner-up, normalised by the best's capacity.
-pub fn margin(best: Option<f32>, best_capacity: f32, runner_up: Option<Hypothesis>) -> f32
+pub fn margin(best: Evidence, best_capacity: f32, runner_up: Option<Hypothesis>) -> f32
     ensures { result ≡ margin_of best best_capacity runner_up }
 {
-    let Some(x) = best else {
+    let Evidence::Number(x) = best else {
         return 0.0;
     };
     if x <= 0.0 {
@@ -115,7 +121,7 @@ pub fn margin(best: Option<f32>, best_capacity: f32, runner_up: Option<Hypothesi
     let Some(second) = runner_up else {
         return 1.0;
     };
-    let Some(y) = second.evidence else {
+    let Evidence::Number(y) = second.evidence else {
         return 1.0;
     };
     // Not `best_capacity.max(EPSILON)`: the two differ if the capacity is NaN, and the definition (`at_least`) may not change.

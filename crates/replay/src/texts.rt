@@ -1,7 +1,7 @@
 // Kind F: the text of a result that no record need have. The words are the 19 of a match, then those of its markers.
 use board_match::Match;
 use grid_alignment::GridAlignment;
-use ranking::Hypothesis;
+use ranking::{Evidence, Hypothesis};
 use stored_rows::answers::{Answer, BEFORE};
 use stored_rows::{answers, lists, numbers};
 
@@ -13,11 +13,11 @@ fn alignment(turn: u64, tx: u64, ty: u64) -> GridAlignment {
     }
 }
 
-fn evidence(is_number: u64, bits: u64) -> Option<f32> {
+fn evidence(is_number: u64, bits: u64) -> Evidence {
     if is_number == 0 {
-        return None;
+        return Evidence::Absent;
     }
-    Some(floats::from_bits(numbers::low(bits)))
+    Evidence::Number(floats::from_bits(numbers::low(bits)))
 }
 
 // The five words of a placement from index `at` on, and its number of contributing cells at `count_at`.

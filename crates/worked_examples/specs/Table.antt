@@ -16,6 +16,7 @@ use Rattle.score_matrix.specs.Weights.{weight}
 use Rattle.score_matrix.specs.Table.{patterns}
 use Rattle.shot_record.specs.Shots.{Sample, Cell, Shot, default_margin, default_threshold, default_px, default_least_weight}
 use Rattle.shot_record.specs.Writing.{bytes_of}
+use Rattle.ranking.specs.declared.Evidence.TheVariants as evidence
 use Rattle.ranking.specs.declared.Hypothesis.{Hypothesis}
 use Rattle.ranking.specs.Margin.{margin}
 use Rattle.hypothesis.specs.Placements.{placements}
@@ -69,7 +70,7 @@ over_threshold c threshold =
 
 -- a placement with its evidence, to which n cells contribute
 abbrev pub evident : GridAlignment → ℕ → Float → Hypothesis
-evident p n x = record { alignment = p; evidence = Some x; contributing_cells = n }
+evident p n x = record { alignment = p; evidence = evidence.Number x; contributing_cells = n }
 
 -- a shot s with P3's board and the cells (0, 0) and (u, 0), sampled or not
 abbrev pub two_cells : ℕ → Maybe Sample → Maybe Sample → List Cell
@@ -162,9 +163,9 @@ pub record Table : Type 0 where
       ∷ table_entry kind.MissingCorners none (2 ∷ 6 ∷ 5 ∷ []) ∷ [])
   -- margins: best 0 gives 0; best 2 with runner-up absent gives 1; best 2, runner-up −6, capacity 4 gives 2
   pub P9 :
-      ((capacity : Float) (next : Option Hypothesis) → margin (Some zero_float) capacity next ≡ zero_float)
-      × ((capacity : Float) → margin (Some two_float) capacity None ≡ one_float)
-      × ((p : GridAlignment) (n : ℕ) → margin (Some two_float) four (Some (evident p n minus_six)) ≡ two_float)
+      ((capacity : Float) (next : Option Hypothesis) → margin (evidence.Number zero_float) capacity next ≡ zero_float)
+      × ((capacity : Float) → margin (evidence.Number two_float) capacity None ≡ one_float)
+      × ((p : GridAlignment) (n : ℕ) → margin (evidence.Number two_float) four (Some (evident p n minus_six)) ≡ two_float)
   -- null score, side 4: bits C1317218
   pub P10 : to_bits binary32 (null_score 4) ≡ 0xC1317218
   -- P3's board: cells (0, 0), (2, 0) give 44 placements, by the list and by the formula; (0, 0), (4, 0) give 8; (0, 0), (5, 0) is refused 15, as

@@ -5,15 +5,15 @@ use native.Mathlib.Omega.{arith}
 use lib.IntN.{ℤ, pos, nat_abs, ◌-ℤ◌}
 use Rattle.integers.proofs.Parts.{abs_sub}
 use Rattle.integers.proofs.Words.{word, word-is}
+use Rattle.ranking.specs.declared.Evidence.{Evidence}
 use Rattle.ranking.specs.declared.Hypothesis.{Hypothesis}
 use Rattle.hypothesis.specs.Turns.{count_at, evidence_at}
 use Rattle.hypothesis.proofs.turns.moved_to.Goals as goal
-use Rattle.std.specs.Prelude.{Option, Float}
 
-abbrev with : ℕ → ℤ → ℤ → Option Float → ℕ → Hypothesis
+abbrev with : ℕ → ℤ → ℤ → Evidence → ℕ → Hypothesis
 with r x y e n = record { alignment = record { turn = r; tx = x; ty = y }; evidence = e; contributing_cells = n }
 
-same : (r : ℕ) (x y p q : ℤ) (e f : Option Float) (m n : ℕ) → x ≡ p → y ≡ q → e ≡ f → m ≡ n → with r x y e m ≡ with r p q f n
+same : (r : ℕ) (x y p q : ℤ) (e f : Evidence) (m n : ℕ) → x ≡ p → y ≡ q → e ≡ f → m ≡ n → with r x y e m ≡ with r p q f n
 same r x y p q e f m n a b c d = cc
 
 -- a translation is read back from its word, where the least coordinate is read from one

@@ -7,12 +7,12 @@ use native.Mathlib.Omega.{arith}
 use lib.ListN.{get_or}
 use lib.Ieee.{Float, nan}
 use borrow.Author.Tests.{lt-ltb, le-ltb}
+use Rattle.ranking.specs.declared.Evidence.TheVariants as evidence
 use Rattle.hypothesis.specs.declared.turns.Contributing.{Contributing}
 use Rattle.hypothesis.specs.Turns.{count_at, evidence_at}
 use Rattle.hypothesis.proofs.Moves.{fits-small}
 use Rattle.hypothesis.proofs.turns.placement_sum.Goals as goal
 use Rattle.hypothesis.proofs.turns.placement_sum.Goals.{Start}
-use Rattle.std.specs.Prelude.{Some, None}
 
 inside : (c : Start) → c.args.a * c.args.down + c.args.b < 1024
 inside c =
@@ -32,10 +32,10 @@ pub bounds-sums-a : goal.bounds-sums-a
 bounds-sums-a c = inside (goal.at.bounds-sums-a c).Start
 
 module _ (sums : List Float) (contributing : Contributing) (d a b : ℕ) where
-  told : 0 < count_at contributing (a + b) → Some (get_or sums (a * d + b) nan) ≡ evidence_at sums contributing d a b
+  told : 0 < count_at contributing (a + b) → evidence.Number (get_or sums (a * d + b) nan) ≡ evidence_at sums contributing d a b
   told h = rw (lt-ltb 0 (count_at contributing (a + b)) h)
 
-  not_told : count_at contributing (a + b) ≤ 0 → None ≡ evidence_at sums contributing d a b
+  not_told : count_at contributing (a + b) ≤ 0 → evidence.Absent ≡ evidence_at sums contributing d a b
   not_told h = rw (le-ltb 0 (count_at contributing (a + b)) h)
 
 pub returns-then-count_at-gt0 : goal.returns-then-count_at-gt0
