@@ -15,4 +15,4 @@ has_room bytes lent sheet (Ok count) is list = omega (arith, (written_fits bytes
 has_room bytes lent sheet (Err r) is list = tt
 
 pub returns-clause-room : goal.returns-clause-room
-returns-clause-room c = has_room c.args.bytes.now c.args.sheet.now _ _ c.restate.ensures.answer c.restate.ensures.list
+returns-clause-room c = has_room _ c.args.sheet.now _ _ c.restate.ensures.answer c.restate.ensures.list
