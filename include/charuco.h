@@ -218,10 +218,10 @@ enum {
 #define CHARUCO_STACK_GRID 424
 #define CHARUCO_STACK_BUILD_MARKER_CELLS 14440
 #define CHARUCO_STACK_MATCH_BOARD 23192
-#define CHARUCO_STACK_MATCH_BOARD_WITH_SCORES 23272
+#define CHARUCO_STACK_MATCH_BOARD_WITH_SCORES 23288
 #define CHARUCO_STACK_MAP_CHARUCO_CORNERS 6696
 #define CHARUCO_STACK_VALIDATE_MARKER_CORNER_LINKS 37400
-#define CHARUCO_STACK_RESTATE 8952
+#define CHARUCO_STACK_RESTATE 8968
 
 /*
  * Reading a shot record. Check 21 alone: no field is validated, and a record with 0 rows or two cells at one position is read like any other. An
