@@ -28,7 +28,7 @@ module _ {A : Type 0} where
     fits = omega (arith, part_length before from n room, down, room)
 
     -- the next element is not overwritten yet
-    still : i < n → (d : A) → get_or after (from + i) d ≡ get_or (take n (drop from before)) i d
+    pub still : i < n → (d : A) → get_or after (from + i) d ≡ get_or (take n (drop from before)) i d
     still l d =
         let e : to + i + (from - to) ≡ from + i = omega (arith, down) in
         ap (λ (k : ℕ). get_or after k d) (sym e)

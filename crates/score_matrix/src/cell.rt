@@ -19,6 +19,17 @@ fn grid_index(bits: u64, border: u64, p: Place) -> usize
     ((border + p.y) * (bits + 2 * border) + (border + p.x)) as usize
 }
 
+// The place of bit `k` (row-major).
+pub fn place(bits: u64, k: u64) -> Place
+    requires { 0 < bits }
+    ensures { result ≡ bit_place bits k }
+{
+    Place {
+        x: k % bits,
+        y: k / bits,
+    }
+}
+
 // The place of the next bit (row-major). A division for each bit would take twice the time of reading a code.
 pub fn next_place(bits: u64, p: Place) -> Place
     requires { (bits ≤ 8) × (p.x < bits) × (p.y < bits) }
@@ -121,4 +132,30 @@ pub fn read_code(grid: &[u8], threshold: u8, bits: u8, border: u8) -> u64
         p = next_place(n, p);
     }
     code
+}
+
+#[cfg(test)]
+mod tests {
+    use super::*;
+    use std::test::Fail;
+
+    fn is_at(p: Place, x: u64, y: u64, bit: &'static str) -> Result<(), &'static str> {
+        if p.x == x && p.y == y {
+            return Ok(());
+        }
+        Err(bit)
+    }
+
+    // The bits of a code are numbered row by row; the last two are past the last bit.
+    #[test]
+    fn place_of_bit() -> Result<(), Fail> {
+        is_at(place(4, 0), 0, 0, "bit 0 of side 4")?;
+        is_at(place(4, 3), 3, 0, "bit 3 of side 4")?;
+        is_at(place(4, 4), 0, 1, "bit 4 of side 4")?;
+        is_at(place(6, 35), 5, 5, "bit 35 of side 6")?;
+        is_at(place(8, 62), 6, 7, "bit 62 of side 8")?;
+        is_at(place(1, 9), 0, 9, "bit 9 of side 1")?;
+        is_at(place(3, 10), 1, 3, "bit 10 of side 3")?;
+        Ok(())
+    }
 }

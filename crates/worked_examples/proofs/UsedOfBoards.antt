@@ -13,7 +13,7 @@ use Rattle.integers.specs.Least.{least_to, greatest_to}
 use Rattle.integers.specs.Tests.{any_below}
 use Rattle.integers.proofs.Parts.{plus, minus, add_is}
 use Rattle.matcher.specs.declared.Place.{Place}
-use Rattle.matcher.specs.Codes.{bit, from_bits, index_of, source, turned}
+use Rattle.matcher.specs.Codes.{bit, from_bits, bit_place, index_of, source, turned}
 use Rattle.matcher.proofs.Turns.{four_turns}
 use Rattle.alike.proofs.Laws.{either_way, as_said}
 use Rattle.grid_alignment.specs.declared.Coord.{Coord}
@@ -27,6 +27,7 @@ use Rattle.board.specs.Questions.{asked_of_size, asked_of_board, board_of, new_b
 use Rattle.board.proofs.Laws.{markers, four_off_rim, off_rim_four, white_top_left, odd_rows}
 use Rattle.board.proofs.Places.{has-number}
 use Rattle.board.proofs.Asked.{reads_one}
+use Rattle.score_matrix.proofs.Places.{here}
 use Rattle.shot_record.specs.Shots.{Sample, Shot}
 use Rattle.hypothesis.specs.Placements.{cell_point, frame}
 use Rattle.hypothesis.specs.Rules.{Fits, OnBoard, Precedes, PlacementsInOrder, count_of}
@@ -127,6 +128,7 @@ of_boards =
         λ c q column row. let a = turns_agree 2 3 c q column row in (a.from, a.column, a.row, a.same_bit),
         below-first,
       );
+      here = λ bits k b l. let h = here bits k (bit_place bits k) b l refl in (h.side, h.small);
       top_left_lands = lands;
       markers =
           let m = markers odd_parity 4 5 in
