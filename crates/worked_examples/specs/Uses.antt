@@ -183,7 +183,7 @@ pub record OfBoards : Type 0 where
   pub turns_agree :
       ((c : ℕ) (q : Place) → q.x < 2 → q.y < 2 → (p : Place) × (p.x < 2) × (p.y < 2) × (bit (turned 2 3 c) (index_of 2 q) ≡ bit c (index_of 2 p)))
       × ((c : ℕ) → bit (turned 2 1 c) 0 ≡ bit c 2)
-  -- a code of side at most 8 that has a bit has a side, and at most 64 bits
+  -- a bit of a code of side at most 8: the side is above 0, the number below 64
   pub here : (bits k : ℕ) → bits ≤ 8 → k < bits * bits → (0 < bits) × (k < 64)
   -- P6's alignments after one turn
   pub top_left_lands : (p : Coord) → applied (align 1 (pos 5) (pos 8)) (corner 1 p) ≡ applied (align 1 (pos 5) (pos 7)) p
