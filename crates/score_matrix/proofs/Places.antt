@@ -1,6 +1,6 @@
 -- The indices of a code's bits in a cell's grid. Assumes nothing.
 use mathlib.Core.Path.{◌≡◌, ap, ap₂, sym, subst, ◌∙◌}
-use Prim.Native.Nat.{ℕ, zero, suc, ◌+◌, ◌*◌, ◌≤◌, ◌<◌}
+use Prim.Native.Nat.{ℕ, ◌+◌, ◌*◌, ◌≤◌, ◌<◌}
 use native.Mathlib.Nat.{mul-le-mul, mul-le-mul_right, div-add-mod', zero-mod, zero-div}
 use native.Mathlib.Omega.{arith}
 use lib.ListN.{get_or}
@@ -19,13 +19,10 @@ pub record Here (bits k : ℕ) (p : Place) : Type 0 where
   pub small : k < 64
   pub inside : Inside bits p
 
-some_side : (bits k : ℕ) → k < bits * bits → 0 < bits
-some_side zero k h = omega (arith, h)
-some_side (suc n) k h = omega arith
-
 pub here : (bits k : ℕ) (p : Place) → bits ≤ 8 → k < bits * bits → p ≡ bit_place bits k → Here bits k p
 here bits k p b h e =
-    record { side = some_side bits k h; small = omega (arith, area bits b); inside = subst (Inside bits) (sym e) (place_inside bits k h) }
+    let inside = subst (Inside bits) (sym e) (place_inside bits k h) in
+    record { side = omega (arith, inside.column); small = omega (arith, area bits b); inside = inside }
 
 -- a place of a code is in the grid
 pub index-inside : (bits border : ℕ) (p : Place) → Inside bits p → grid_index bits border p < side bits border * side bits border
